@@ -1,0 +1,19 @@
+-- A list written element by element at the start of a slice, or from a place on. Assumes nothing.
+use mathlib.Core.Path.{_≡_, refl, sym, ap, _∙_}
+use mathlib.Core.List.{List, [], _∷_, _++_}
+use Prim.Native.Nat.{ℕ, suc, _+_, _<_, _≤_}
+use native.Mathlib.Nat.{zero-add}
+use native.Mathlib.Numerals.{add-one}
+use lib.ListN.{length, getD, take, drop, set}
+use lib.Seq.{paste, paste-suc}
+
+-- a turn that stores element i of s at place at + i takes the copy of i elements to that of i + 1
+pub paste-next : (d : List ℕ) (at : ℕ) (s : List ℕ) (i : ℕ) → at + i < length d → i < length s → set (paste d at s i) (at + i) (getD s i 0) ≡ paste d at s (i + 1)
+paste-next d at s i h k = rw (add-one i) (paste-suc d at s i 0 h k)
+
+-- the same at the start of the slice
+pub front-next : (d s : List ℕ) (i : ℕ) → i < length d → i < length s → set (take i s ++ drop i d) i (getD s i 0) ≡ take (i + 1) s ++ drop (i + 1) d
+front-next d s i h k =
+    let e : 0 + i ≡ i = zero-add i in
+    let f : 0 + (i + 1) ≡ i + 1 = zero-add (i + 1) in
+    rw (e, f) at (paste-next d 0 s i (rw e h) k)

@@ -1,0 +1,175 @@
+-- Bits, the numbers that they spell, and digits. Assumes nothing.
+use mathlib.Core.Path.{_≡_, refl, sym, ap, ap₂, _∙_}
+use mathlib.Core.Bool.{Bool, true, false, _&&_}
+use mathlib.Core.Logic.{_⊎_, inl, inr, ⊎-elim}
+use mathlib.Core.List.{List, [], _∷_, _++_, append-assoc}
+use Prim.Native.Nat.{ℕ, zero, suc, _+_, _-_, _*_, _/_, _%_, _^_, _<_, _≤_}
+use native.Mathlib.Nat.{pow-suc, add-zero, zero-add, add-mul, mul-assoc, mul-comm, mod-lt, mod-eq-of-lt, zero-mul, mul-one, mul-zero, zero-lt-suc, mul-add-div-right, mul-add-mod-self-right, mod-one, zero-div}
+use native.Mathlib.Numerals.{add-one}
+use native.Mathlib.Omega.{arith}
+use borrow.Author.Tests.{ltb-true, ltb-false}
+use lib.Dec.{ltb}
+use lib.Pow.{pow-pos, pow-mono, split}
+use lib.Arith.{digits-lt, digits-div, digits-mod, mod-mul}
+use lib.ListN.{length, getD, take, drop, replicate, length-append, length-take, length-drop, List·getD-eq-default, drop-of-length-le}
+use lib.Seq.{drop-cons, getD-drop}
+use Rattle.bits.specs.Bits.{AllBits, number, digits, unpack, blank}
+
+pub lt-or-ge : (a b : ℕ) → (a < b) ⊎ (b ≤ a)
+lt-or-ge a b = go (ltb a b) refl
+  where
+    go : (t : Bool) → ltb a b ≡ t → (a < b) ⊎ (b ≤ a)
+    go true e = inl (ltb-true a b e)
+    go false e = inr (ltb-false a b e)
+
+pub pow-next : (j : ℕ) → 2 ^ (j + 1) ≡ 2 ^ j * 2
+pow-next j = rw (add-one j) (pow-suc 2 j)
+
+pub pow-low : (j : ℕ) → j < 8 → 2 ^ j ≤ 128
+pow-low j h = pow-mono {i = j} {j = 7} (omega arith)
+
+-- ---- which lists are bits
+pub bit-at : (x : List ℕ) → AllBits x → (i : ℕ) → getD x i 0 < 2
+bit-at [] a i = omega arith
+bit-at (b ∷ x) a zero = a .0
+bit-at (b ∷ x) a (suc i) = bit-at x (a .1) i
+
+pub bits-of-each : (x : List ℕ) → ((i : ℕ) → getD x i 0 < 2) → AllBits x
+bits-of-each [] h = tt
+bits-of-each (b ∷ x) h = (h 0, bits-of-each x (λ i. h (suc i)))
+
+pub bits-append : (x y : List ℕ) → AllBits x → AllBits y → AllBits (x ++ y)
+bits-append [] y a b = b
+bits-append (v ∷ x) y a b = (a .0, bits-append x y (a .1) b)
+
+pub bits-take : (n : ℕ) (x : List ℕ) → AllBits x → AllBits (take n x)
+bits-take zero x a = tt
+bits-take (suc n) [] a = tt
+bits-take (suc n) (b ∷ x) a = (a .0, bits-take n x (a .1))
+
+pub bits-drop : (n : ℕ) (x : List ℕ) → AllBits x → AllBits (drop n x)
+bits-drop zero x a = a
+bits-drop (suc n) [] a = tt
+bits-drop (suc n) (b ∷ x) a = bits-drop n x (a .1)
+
+pub bits-digits : (k v : ℕ) → AllBits (digits k v)
+unfolding digits
+bits-digits zero v = tt
+bits-digits (suc k) v = (mod-lt (v / 2 ^ k) (omega arith), bits-digits k v)
+
+pub bits-unpack : (s : List ℕ) → AllBits (unpack s)
+unfolding unpack
+bits-unpack [] = tt
+bits-unpack (v ∷ s) = bits-append (digits 8 v) (unpack s) (bits-digits 8 v) (bits-unpack s)
+
+-- ---- lengths
+pub length-digits : (k v : ℕ) → length (digits k v) ≡ k
+unfolding digits
+length-digits zero v = refl
+length-digits (suc k) v = ap suc (length-digits k v)
+
+pub length-unpack : (s : List ℕ) → length (unpack s) ≡ length s * 8
+unfolding unpack
+length-unpack [] = refl
+length-unpack (v ∷ s) = length-append (digits 8 v) (unpack s) ∙ omega (arith, length-digits 8 v, length-unpack s)
+
+-- ---- the number that bits spell
+number-none : (k : ℕ) → number k [] ≡ 0
+unfolding number
+number-none zero = refl
+number-none (suc k) = refl
+
+number-cons : (k b : ℕ) (x : List ℕ) → number (suc k) (b ∷ x) ≡ b * 2 ^ k + number k x
+unfolding number
+number-cons k b x = refl
+
+pub number-lt : (k : ℕ) (x : List ℕ) → AllBits x → number k x < 2 ^ k
+unfolding number
+number-lt zero x a = omega arith
+number-lt (suc k) [] a = pow-pos (suc k)
+number-lt (suc k) (b ∷ x) a = rw (pow-suc 2 k, mul-comm (2 ^ k) 2) (digits-lt (a .0) (number-lt k x (a .1)))
+
+-- a digit more, at the end of those that were read
+horner : (v b m n : ℕ) → (v * 2 + b) * 2 ^ m + n ≡ v * 2 ^ suc m + (b * 2 ^ m + n)
+horner v b m n =
+    let e : v * 2 ^ suc m ≡ v * 2 * 2 ^ m = ap (λ (p : ℕ). v * p) (pow-suc 2 m ∙ mul-comm (2 ^ m) 2) ∙ sym (mul-assoc v 2 (2 ^ m)) in
+    omega (arith, add-mul (v * 2) b (2 ^ m))
+
+-- what is read so far, v, with the bits from place at + i on still to come, is the same number a bit later
+pub number-next : (v k at i : ℕ) (x : List ℕ) → i < k → (v * 2 + getD x (at + i) 0) * 2 ^ (k - (i + 1)) + number (k - (i + 1)) (drop (at + (i + 1)) x) ≡ v * 2 ^ (k - i) + number (k - i) (drop (at + i) x)
+number-next v k at i x h =
+    let e : k - i ≡ suc (k - (i + 1)) = omega arith in
+    let d : at + (i + 1) ≡ suc (at + i) = omega arith in
+    rw (e, d) (⊎-elim inside outside (lt-or-ge (at + i) (length x)))
+  where
+    m : ℕ
+    m = k - (i + 1)
+
+    Next : Type 0
+    Next = (v * 2 + getD x (at + i) 0) * 2 ^ (k - (i + 1)) + number (k - (i + 1)) (drop (suc (at + i)) x) ≡ v * 2 ^ suc (k - (i + 1)) + number (suc (k - (i + 1))) (drop (at + i) x)
+
+    inside : at + i < length x → Next
+    inside p = rw (drop-cons x (at + i) 0 p, number-cons) (horner v (getD x (at + i) 0) m (number m (drop (suc (at + i)) x)))
+
+    outside : length x ≤ at + i → Next
+    outside p = rw (List·getD-eq-default x 0 p, drop-of-length-le x {i = suc (at + i)} (omega arith), drop-of-length-le x p, number-none, number-none) (horner v 0 m 0 ∙ rw (zero-mul (2 ^ m)) refl)
+
+-- nothing is still to come
+pub number-end : (v k : ℕ) (x : List ℕ) → k ≡ 0 → v * 2 ^ k + number k x ≡ v
+unfolding number
+number-end v k x e = rw (e, mul-one, add-zero) refl
+
+-- the number depends on the bits alone, not on whether zeros past the end are written
+pub number-ext : (k : ℕ) (x y : List ℕ) → ((i : ℕ) → getD x i 0 ≡ getD y i 0) → number k x ≡ number k y
+unfolding number
+number-ext zero x y h = refl
+number-ext (suc k) [] [] h = refl
+number-ext (suc k) [] (c ∷ y) h = rw (← h 0, zero-mul, zero-add) (sym (number-none k) ∙ number-ext k [] y (λ i. h (suc i)))
+number-ext (suc k) (b ∷ x) [] h = rw (h 0, zero-mul, zero-add) (number-ext k x [] (λ i. h (suc i)) ∙ number-none k)
+number-ext (suc k) (b ∷ x) (c ∷ y) h = ap₂ (λ (p q : ℕ). p * 2 ^ k + q) (h 0) (number-ext k x y (λ i. h (suc i)))
+
+-- ---- digits
+pub digits-at : (k v i : ℕ) → i < k → getD (digits k v) i 0 ≡ v / 2 ^ (k - (i + 1)) % 2
+unfolding digits
+digits-at zero v i h = absurd (omega arith)
+digits-at (suc k) v zero h =
+    let e : suc k - (0 + 1) ≡ k = omega arith in
+    rw e refl
+digits-at (suc k) v (suc i) h =
+    let e : suc k - (suc i + 1) ≡ k - (i + 1) = omega arith in
+    rw e (digits-at k v i (omega arith))
+
+pow-more : (c j : ℕ) → c * 2 ^ suc j ≡ c * 2 * 2 ^ j
+pow-more c j = ap (λ (p : ℕ). c * p) (pow-suc 2 j ∙ mul-comm (2 ^ j) 2) ∙ sym (mul-assoc c 2 (2 ^ j))
+
+-- digits above the j-th do not matter
+digits-above : (j c n : ℕ) → digits j (c * 2 ^ j + n) ≡ digits j n
+unfolding digits
+digits-above zero c n = refl
+digits-above (suc j) c n =
+    rw (pow-more c j)
+    (ap₂ (λ (d : ℕ) (l : List ℕ). d ∷ l) (ap (λ (q : ℕ). q % 2) (mul-add-div-right (pow-pos j) (c * 2) n) ∙ mul-add-mod-self-right c 2 (n / 2 ^ j)) (digits-above j (c * 2) n))
+
+-- k digits of a number spell it again, whatever follows them
+pub number-digits : (k v : ℕ) (x : List ℕ) → number k (digits k v ++ x) ≡ v % 2 ^ k
+unfolding number digits
+number-digits zero v x = sym (mod-one v)
+number-digits (suc k) v x =
+    let e : 2 ^ suc k ≡ 2 * 2 ^ k = pow-suc 2 k ∙ mul-comm (2 ^ k) 2 in
+    ap (λ (n : ℕ). v / 2 ^ k % 2 * 2 ^ k + n) (number-digits k v x) ∙ sym (ap (λ (n : ℕ). v % n) e ∙ mod-mul v {m = 2} {c = 2 ^ k} (omega arith) (pow-pos k))
+
+-- the first k bits of a string, with zeros past its end
+unfoldable pub fill : ℕ → List ℕ → List ℕ
+fill zero x = []
+fill (suc k) [] = 0 ∷ fill k []
+fill (suc k) (b ∷ x) = b ∷ fill k x
+
+-- the digits of the number that bits spell are these bits
+pub digits-number : (k : ℕ) (x : List ℕ) → AllBits x → digits k (number k x) ≡ fill k x
+unfolding number digits fill
+digits-number zero x a = refl
+digits-number (suc k) [] a =
+    ap₂ (λ (d : ℕ) (l : List ℕ). d ∷ l) (ap (λ (q : ℕ). q % 2) (zero-div (2 ^ k)))
+    (ap (digits k) (sym (number-none k)) ∙ digits-number k [] tt)
+digits-number (suc k) (b ∷ x) a =
+    ap₂ (λ (d : ℕ) (l : List ℕ). d ∷ l) (ap (λ (q : ℕ). q % 2) (digits-div b (number-lt k x (a .1))) ∙ mod-eq-of-lt (a .0)) (digits-above k b (number k x) ∙ digits-number k x (a .1))

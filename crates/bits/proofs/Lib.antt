@@ -1,0 +1,4 @@
+-- The laws of specs/Bits.antt, for the proofs of this crate and of the crates that stand on it.
+pub mod Laws
+pub mod Packing
+pub mod Copy

@@ -1,0 +1,179 @@
+-- Packing and unpacking undo each other. Assumes nothing.
+use mathlib.Core.Path.{_≡_, refl, sym, ap, ap₂, _∙_}
+use mathlib.Core.Bool.{Bool, true, false, _&&_, false≢true}
+use mathlib.Core.Logic.{_⊎_, inl, inr, ⊎-elim}
+use mathlib.Core.List.{List, [], _∷_, _++_, append-assoc}
+use Prim.Native.Nat.{ℕ, zero, suc, _+_, _-_, _*_, _/_, _%_, _^_, _<_, _≤_}
+use native.Mathlib.Nat.{zero-div, zero-mod, mod-eq-of-lt, div-eq-of-lt, zero-add, suc-add}
+use native.Mathlib.Numerals.{add-one}
+use native.Mathlib.Omega.{arith}
+use borrow.Author.Tests.{eq-eqb, ne-eqb, eqb-true}
+use lib.Dec.{eqb}
+use lib.ListN.{length, getD, take, drop, length-append, length-take, length-drop, List·getD-append, List·getD-eq-default, drop-of-length-le}
+use lib.Seq.{drop-cons, getD-drop, getD-take, getD-append-add, drop-drop, drop-nil, drop-at, length-take-le}
+use Rattle.bits.specs.Bits.{AllBits, number, digits, bytes, bytesFor, pack, unpack, blank, fits}
+use Rattle.bits.proofs.Laws.{lt-or-ge, bits-drop, number-ext, number-digits, digits-number, digits-at, length-digits, length-unpack, fill}
+
+-- each element is a byte
+abbrev pub AllBytes : List ℕ → Type 0
+AllBytes [] = Unit
+AllBytes (v ∷ s) = (v < 256) × AllBytes s
+
+pub bytes-of-each : (s : List ℕ) → ((i : ℕ) → getD s i 0 < 256) → AllBytes s
+bytes-of-each [] h = tt
+bytes-of-each (v ∷ s) h = (h 0, bytes-of-each s (λ i. h (suc i)))
+
+-- ---- the bit at a place
+pub unpack-at : (s : List ℕ) (i : ℕ) → getD (unpack s) i 0 ≡ getD s (i / 8) 0 / 2 ^ (7 - i % 8) % 2
+unfolding unpack
+unpack-at [] i = sym (ap (λ (q : ℕ). q % 2) (zero-div (2 ^ (7 - i % 8))))
+unpack-at (v ∷ s) i = ⊎-elim (inside v s i) (λ h. outside v s i h (unpack-at s (i - 8))) (lt-or-ge i 8)
+  where
+    inside : (v : ℕ) (s : List ℕ) (i : ℕ) → i < 8 → getD (digits 8 v ++ unpack s) i 0 ≡ getD (v ∷ s) (i / 8) 0 / 2 ^ (7 - i % 8) % 2
+    inside v s i h =
+        let e : 8 - (i + 1) ≡ 7 - i = omega arith in
+        let l : i < length (digits 8 v) = omega (arith, length-digits 8 v) in
+        rw (List·getD-append (digits 8 v) (unpack s) 0 i l, digits-at 8 v i h, e, div-eq-of-lt h, mod-eq-of-lt h) refl
+
+    outside : (v : ℕ) (s : List ℕ) (i : ℕ) → 8 ≤ i → getD (unpack s) (i - 8) 0 ≡ getD s ((i - 8) / 8) 0 / 2 ^ (7 - (i - 8) % 8) % 2 → getD (digits 8 v ++ unpack s) i 0 ≡ getD (v ∷ s) (i / 8) 0 / 2 ^ (7 - i % 8) % 2
+    outside v s i h r =
+        let e : i ≡ 8 + (i - 8) = omega arith in
+        let d : i / 8 ≡ suc ((i - 8) / 8) = omega arith in
+        let m : i % 8 ≡ (i - 8) % 8 = omega arith in
+        let l : i ≡ length (digits 8 v) + (i - 8) = omega (arith, length-digits 8 v) in
+        rw (d, m) (ap (λ (n : ℕ). getD (digits 8 v ++ unpack s) n 0) l ∙ getD-append-add (digits 8 v) (unpack s) (i - 8) 0 ∙ r)
+
+-- ---- packing
+pub bytes-ext : (n : ℕ) (x y : List ℕ) → ((i : ℕ) → getD x i 0 ≡ getD y i 0) → bytes n x ≡ bytes n y
+unfolding bytes
+bytes-ext zero x y h = refl
+bytes-ext (suc n) x y h =
+    ap₂ (λ (v : ℕ) (s : List ℕ). v ∷ s) (number-ext 8 x y h)
+    (bytes-ext n (drop 8 x) (drop 8 y) (λ i. getD-drop 8 x i 0 ∙ h (8 + i) ∙ sym (getD-drop 8 y i 0)))
+
+pub length-bytes : (n : ℕ) (x : List ℕ) → length (bytes n x) ≡ n
+unfolding bytes
+length-bytes zero x = refl
+length-bytes (suc n) x = ap suc (length-bytes n (drop 8 x))
+
+pub length-pack : (x : List ℕ) → length (pack x) ≡ bytesFor (length x)
+unfolding pack
+length-pack x = length-bytes (bytesFor (length x)) x
+
+-- byte i is made of the bits from 8 × i on
+pub bytes-at : (n i : ℕ) (x : List ℕ) → i < n → getD (bytes n x) i 0 ≡ number 8 (drop (i * 8) x)
+unfolding bytes
+bytes-at zero i x h = absurd (omega arith)
+bytes-at (suc n) zero x h = refl
+bytes-at (suc n) (suc i) x h =
+    let e : suc i * 8 ≡ 8 + i * 8 = omega arith in
+    bytes-at n i (drop 8 x) (omega arith) ∙ ap (number 8) (drop-drop (i * 8) 8 x ∙ ap (λ (k : ℕ). drop k x) (sym e))
+
+-- ---- unpacking what was packed
+fill-add : (k m : ℕ) (x : List ℕ) → fill k x ++ fill m (drop k x) ≡ fill (k + m) x
+unfolding fill
+fill-add zero m x = rw (zero-add m) refl
+fill-add (suc k) m [] = rw (suc-add k m) (ap (λ (l : List ℕ). 0 ∷ l) (ap (λ (l : List ℕ). fill k [] ++ fill m l) (sym (drop-nil k)) ∙ fill-add k m []))
+fill-add (suc k) m (b ∷ x) = rw (suc-add k m) (ap (λ (l : List ℕ). b ∷ l) (fill-add k m x))
+
+unpack-bytes : (n : ℕ) (x : List ℕ) → AllBits x → unpack (bytes n x) ≡ fill (n * 8) x
+unfolding unpack bytes fill
+unpack-bytes zero x a = refl
+unpack-bytes (suc n) x a =
+    let e : suc n * 8 ≡ 8 + n * 8 = omega arith in
+    rw e (ap₂ (λ (p q : List ℕ). p ++ q) (digits-number 8 x a) (unpack-bytes n (drop 8 x) (bits-drop 8 x a)) ∙ fill-add 8 (n * 8) x)
+
+blank-fill : (k : ℕ) → blank (fill k []) ≡ true
+unfolding blank fill
+blank-fill zero = refl
+blank-fill (suc k) = blank-fill k
+
+take-fill : (n : ℕ) (x : List ℕ) → length x ≤ n → take (length x) (fill n x) ≡ x
+unfolding fill
+take-fill n [] h = refl
+take-fill zero (b ∷ x) h = absurd (omega arith)
+take-fill (suc n) (b ∷ x) h = ap (λ (l : List ℕ). b ∷ l) (take-fill n x (omega arith))
+
+drop-fill : (n : ℕ) (x : List ℕ) → length x ≤ n → blank (drop (length x) (fill n x)) ≡ true
+unfolding fill
+drop-fill n [] h = blank-fill n
+drop-fill zero (b ∷ x) h = absurd (omega arith)
+drop-fill (suc n) (b ∷ x) h = drop-fill n x (omega arith)
+
+-- the bits of a packed string are the string
+pub unpack-pack : (x : List ℕ) → AllBits x → take (length x) (unpack (pack x)) ≡ x
+unfolding pack
+unpack-pack x a = rw (unpack-bytes (bytesFor (length x)) x a) (take-fill (bytesFor (length x) * 8) x (omega arith))
+
+-- a packed string has the bytes that it needs, and no spare bit 1
+pub fits-pack : (x : List ℕ) → AllBits x → fits (length x) (pack x) ≡ true
+unfolding fits pack
+fits-pack x a =
+    rw (eq-eqb (length (bytes (bytesFor (length x)) x)) (bytesFor (length x)) (length-bytes (bytesFor (length x)) x), unpack-bytes (bytesFor (length x)) x a)
+    (drop-fill (bytesFor (length x) * 8) x (omega arith))
+
+-- ---- packing what was unpacked
+both-left : (a b : Bool) → (a && b) ≡ true → a ≡ true
+both-left true b e = refl
+both-left false b e = e
+
+both-right : (a b : Bool) → (a && b) ≡ true → b ≡ true
+both-right true b e = e
+both-right false b e = absurd (false≢true e)
+
+blank-at : (x : List ℕ) → blank x ≡ true → (i : ℕ) → getD x i 0 ≡ 0
+unfolding blank
+blank-at [] e i = refl
+blank-at (b ∷ x) e zero = eqb-true b 0 (both-left (eqb b 0) (blank x) e)
+blank-at (b ∷ x) e (suc i) = blank-at x (both-right (eqb b 0) (blank x) e) i
+
+-- ---- looking at the spare bits one by one
+pub blank-next : (x : List ℕ) (i : ℕ) → i < length x → getD x i 0 ≡ 0 → blank (drop (i + 1) x) ≡ blank (drop i x)
+unfolding blank
+blank-next x i h e = rw (drop-cons x i 0 h, add-one i, eq-eqb (getD x i 0) 0 e) refl
+
+pub blank-stop : (x : List ℕ) (i : ℕ) → i < length x → (getD x i 0 ≡ 0 → ⊥) → blank (drop i x) ≡ false
+unfolding blank
+blank-stop x i h n = rw (drop-cons x i 0 h, ne-eqb (getD x i 0) 0 n) refl
+
+pub blank-end : (x : List ℕ) (i : ℕ) → length x ≤ i → blank (drop i x) ≡ true
+unfolding blank
+blank-end x i h = rw (drop-of-length-le x h) refl
+
+-- where the byte count is right, the spare bits decide
+pub fits-by : (w : ℕ) (s : List ℕ) (b : Bool) → length s ≡ bytesFor w → blank (drop w (unpack s)) ≡ b → b ≡ fits w s
+unfolding fits
+fits-by w s b e h = rw (eq-eqb (length s) (bytesFor w) e) (sym h)
+
+pub fits-length : (w : ℕ) (s : List ℕ) → fits w s ≡ true → length s ≡ bytesFor w
+unfolding fits
+fits-length w s e = eqb-true (length s) (bytesFor w) (both-left (eqb (length s) (bytesFor w)) (blank (drop w (unpack s))) e)
+
+fits-blank : (w : ℕ) (s : List ℕ) → fits w s ≡ true → blank (drop w (unpack s)) ≡ true
+unfolding fits
+fits-blank w s e = both-right (eqb (length s) (bytesFor w)) (blank (drop w (unpack s))) e
+
+bytes-unpack : (s : List ℕ) → AllBytes s → bytes (length s) (unpack s) ≡ s
+unfolding bytes unpack
+bytes-unpack [] a = refl
+bytes-unpack (v ∷ s) a =
+    ap₂ (λ (b : ℕ) (l : List ℕ). b ∷ l) (number-digits 8 v (unpack s) ∙ mod-eq-of-lt (a .0))
+    (ap (bytes (length s)) (drop-at (digits 8 v) (unpack s) 8 (length-digits 8 v)) ∙ bytes-unpack s (a .1))
+
+-- a string of w bits as long as it should be
+pub length-string : (w : ℕ) (s : List ℕ) → fits w s ≡ true → length (take w (unpack s)) ≡ w
+length-string w s e = length-take-le w (unpack s) (omega (arith, length-unpack s, fits-length w s e))
+
+-- bytes that are fit for w bits are those bits, packed
+pub pack-unpack : (w : ℕ) (s : List ℕ) → AllBytes s → fits w s ≡ true → pack (take w (unpack s)) ≡ s
+unfolding pack
+pack-unpack w s a e =
+    rw (length-string w s e, ← fits-length w s e) (bytes-ext (length s) (take w (unpack s)) (unpack s) same ∙ bytes-unpack s a)
+  where
+    same : (i : ℕ) → getD (take w (unpack s)) i 0 ≡ getD (unpack s) i 0
+    same i = ⊎-elim (λ h. getD-take w (unpack s) i 0 h) beyond (lt-or-ge i w)
+      where
+        beyond : w ≤ i → getD (take w (unpack s)) i 0 ≡ getD (unpack s) i 0
+        beyond h =
+            let k : w + (i - w) ≡ i = omega arith in
+            List·getD-eq-default (take w (unpack s)) 0 (omega (arith, length-string w s e)) ∙ sym (ap (λ (n : ℕ). getD (unpack s) n 0) (sym k) ∙ sym (getD-drop w (unpack s) (i - w) 0) ∙ blank-at (drop w (unpack s)) (fits-blank w s e) (i - w))

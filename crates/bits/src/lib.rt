@@ -1,0 +1,128 @@
+// Strings of bits: packed into bytes, unpacked to one byte a bit, and read or written field by field through a bit cursor
+// that is passed by value. Contracts cite specs/Bits.antt.
+ghost use mathlib.Core.Path.{_≡_};
+ghost use mathlib.Core.List.{_++_};
+ghost use Prim.Native.Nat.{_+_, _*_, _^_, _<_, _≤_};
+ghost use lib.ListN.{length, take, drop, getD};
+ghost use Rattle.bits.specs.Bits.{AllBits, longest, number, digits, bytesFor, pack as packed, unpack as unpacked, fits as fit};
+
+// The most bits that a string has.
+pub const LONGEST: usize = 2040;
+
+// Bit i of packed bytes.
+fn bit_at(s: &[u8], i: usize) -> u8
+    requires { ⌜ i < length (now s) * 8 ⌝ }
+    ensures { λ r. ⌜ r ≡ getD (unpacked (now (s .entry))) i 0 ⌝ }
+{
+    let b = s[i / 8];
+    let shift = 7 - i % 8;
+    (b >> shift) % 2
+}
+
+// The first w bits of packed bytes, one byte a bit, at the start of a slice.
+pub fn unpack(s: &[u8], w: usize, out: &mut [u8])
+    requires { ⌜ (w ≤ length (now s) * 8) × (w ≤ length (now out)) ⌝ }
+    ensures { λ _. ⌜ now (out .exit) ≡ take w (unpacked (now (s .entry))) ++ drop w (now (out .entry)) ⌝ }
+{
+    let mut i: usize = 0;
+    while i < w {
+        out[i] = bit_at(s, i);
+        i += 1;
+    }
+}
+
+// Eight bits from a place on, as a byte; past the end of the string stands 0.
+fn byte_at(bits: &[u8], at: usize) -> u8
+    requires { ⌜ AllBits (now bits) × (at < length (now bits)) ⌝ }
+    ensures { λ r. ⌜ r ≡ number 8 (drop at (now (bits .entry))) ⌝ }
+{
+    let mut v: u8 = 0;
+    let mut j: usize = 0;
+    while j < 8 {
+        v = v * 2;
+        if j < bits.len() - at {
+            v += bits[at + j];
+        }
+        j += 1;
+    }
+    v
+}
+
+// A string, packed, at the start of a slice.
+pub fn pack(bits: &[u8], out: &mut [u8])
+    requires { ⌜ AllBits (now bits) × ((length (now bits) ≤ longest) × (bytesFor (length (now bits)) ≤ length (now out))) ⌝ }
+    ensures { λ _. ⌜ now (out .exit) ≡ packed (now (bits .entry)) ++ drop (bytesFor (length (now (bits .entry)))) (now (out .entry)) ⌝ }
+{
+    let n = (bits.len() + 7) / 8;
+    let mut i: usize = 0;
+    while i < n {
+        out[i] = byte_at(bits, i * 8);
+        i += 1;
+    }
+}
+
+// Whether the bytes are just those that w bits need, with no spare bit 1.
+pub fn fits(w: usize, s: &[u8]) -> bool
+    requires { ⌜ w ≤ longest ⌝ }
+    ensures { λ r. ⌜ r ≡ fit w (now (s .entry)) ⌝ }
+{
+    let n = (w + 7) / 8;
+    if s.len() != n {
+        return false;
+    }
+    let mut i = w;
+    while i < n * 8 {
+        if bit_at(s, i) != 0 {
+            return false;
+        }
+        i += 1;
+    }
+    true
+}
+
+// A place among bits.
+pub struct BitCursor {
+    pub at: usize,
+}
+
+// A field that was read, and the cursor after it.
+pub struct Field {
+    pub value: u16,
+    pub next: BitCursor,
+}
+
+impl BitCursor {
+    // The next k bits of packed bytes as a number, and the cursor after them.
+    pub fn take(self, s: &[u8], k: usize) -> Field
+        requires { ⌜ (k ≤ 16) × ((length (now s) ≤ 4096) × (self .at + k ≤ length (now s) * 8)) ⌝ }
+        ensures { λ r. ⌜ (r .value ≡ number k (drop (self .at) (unpacked (now (s .entry))))) × (r .next .at ≡ self .at + k) ⌝ }
+    {
+        let at = self.at;
+        let mut v: u16 = 0;
+        let mut i: usize = 0;
+        while i < k {
+            let b = bit_at(s, at + i) as u16;
+            v = v * 2 + b;
+            i += 1;
+        }
+        Field {
+            value: v,
+            next: BitCursor { at: at + k },
+        }
+    }
+
+    // v as k binary digits at the cursor, one byte a bit, and the cursor after them.
+    pub fn put(self, bits: &mut [u8], k: usize, v: u16) -> BitCursor
+        requires { ⌜ (k ≤ 16) × (self .at + k ≤ length (now bits)) ⌝ }
+        ensures { λ r. ⌜ (r .at ≡ self .at + k) × (now (bits .exit) ≡ take (self .at) (now (bits .entry)) ++ digits k v ++ drop (self .at + k) (now (bits .entry))) ⌝ }
+    {
+        let at = self.at;
+        let mut i: usize = 0;
+        while i < k {
+            let shift = k - 1 - i;
+            bits[at + i] = ((v >> shift) % 2) as u8;
+            i += 1;
+        }
+        BitCursor { at: at + k }
+    }
+}
