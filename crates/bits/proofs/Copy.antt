@@ -5,7 +5,7 @@ use Prim.Native.Nat.{ℕ, suc, _+_, _<_, _≤_}
 use native.Mathlib.Nat.{zero-add}
 use native.Mathlib.Numerals.{add-one}
 use lib.ListN.{length, getD, take, drop, set}
-use lib.Seq.{paste, paste-suc}
+use lib.Seq.{paste, paste-suc, take-at, drop-append-add, drop-drop}
 
 -- a turn that stores element i of s at place at + i takes the copy of i elements to that of i + 1
 pub paste-next : (d : List ℕ) (at : ℕ) (s : List ℕ) (i : ℕ) → at + i < length d → i < length s → set (paste d at s i) (at + i) (getD s i 0) ≡ paste d at s (i + 1)
@@ -17,3 +17,9 @@ front-next d s i h k =
     let e : 0 + i ≡ i = zero-add i in
     let f : 0 + (i + 1) ≡ i + 1 = zero-add (i + 1) in
     rw (e, f) at (paste-next d 0 s i (rw e h) k)
+
+-- what is written after a part that stands at the start of a slice stands behind it
+pub part-next : (p f d : List ℕ) (n m : ℕ) → length p ≡ n → take n (p ++ drop n d) ++ f ++ drop (n + m) (p ++ drop n d) ≡ p ++ f ++ drop (n + m) d
+part-next p f d n m e =
+    let back : drop (n + m) (p ++ drop n d) ≡ drop (n + m) d = ap (λ (k : ℕ). drop (k + m) (p ++ drop n d)) (sym e) ∙ drop-append-add p (drop n d) m ∙ drop-drop m n d in
+    rw (take-at p (drop n d) n e, back) refl

@@ -1,19 +1,19 @@
 -- Bits, the numbers that they spell, and digits. Assumes nothing.
 use mathlib.Core.Path.{_≡_, refl, sym, ap, ap₂, _∙_}
-use mathlib.Core.Bool.{Bool, true, false, _&&_}
+use mathlib.Core.Bool.{Bool, true, false, _&&_, _||_, false≢true, true≢false}
 use mathlib.Core.Logic.{_⊎_, inl, inr, ⊎-elim}
 use mathlib.Core.List.{List, [], _∷_, _++_, append-assoc}
 use Prim.Native.Nat.{ℕ, zero, suc, _+_, _-_, _*_, _/_, _%_, _^_, _<_, _≤_}
 use native.Mathlib.Nat.{pow-suc, add-zero, zero-add, add-mul, mul-assoc, mul-comm, mod-lt, mod-eq-of-lt, zero-mul, mul-one, mul-zero, zero-lt-suc, mul-add-div-right, mul-add-mod-self-right, mod-one, zero-div}
 use native.Mathlib.Numerals.{add-one}
 use native.Mathlib.Omega.{arith}
-use borrow.Author.Tests.{ltb-true, ltb-false}
-use lib.Dec.{ltb}
+use borrow.Author.Tests.{ltb-true, ltb-false, eq-eqb, eqb-true}
+use lib.Dec.{ltb, eqb}
 use lib.Pow.{pow-pos, pow-mono, split}
 use lib.Arith.{digits-lt, digits-div, digits-mod, mod-mul}
 use lib.ListN.{length, getD, take, drop, replicate, length-append, length-take, length-drop, List·getD-eq-default, drop-of-length-le}
 use lib.Seq.{drop-cons, getD-drop}
-use Rattle.bits.specs.Bits.{AllBits, number, digits, unpack, blank}
+use Rattle.bits.specs.Bits.{AllBits, number, digits, unpack, same}
 
 pub lt-or-ge : (a b : ℕ) → (a < b) ⊎ (b ≤ a)
 lt-or-ge a b = go (ltb a b) refl
@@ -21,6 +21,27 @@ lt-or-ge a b = go (ltb a b) refl
     go : (t : Bool) → ltb a b ≡ t → (a < b) ⊎ (b ≤ a)
     go true e = inl (ltb-true a b e)
     go false e = inr (ltb-false a b e)
+
+pub both-left : (a b : Bool) → (a && b) ≡ true → a ≡ true
+both-left true b e = refl
+both-left false b e = e
+
+pub both-right : (a b : Bool) → (a && b) ≡ true → b ≡ true
+both-right true b e = e
+both-right false b e = absurd (false≢true e)
+
+-- what cannot be true is false
+pub refuted : (b : Bool) → (b ≡ true → ⊥) → false ≡ b
+refuted true n = absurd (n refl)
+refuted false n = refl
+
+pub neither-left : (a b : Bool) → (a || b) ≡ false → a ≡ false
+neither-left true b e = e
+neither-left false b e = refl
+
+pub neither-right : (a b : Bool) → (a || b) ≡ false → b ≡ false
+neither-right true b e = absurd (true≢false e)
+neither-right false b e = e
 
 pub pow-next : (j : ℕ) → 2 ^ (j + 1) ≡ 2 ^ j * 2
 pow-next j = rw (add-one j) (pow-suc 2 j)
@@ -173,3 +194,16 @@ digits-number (suc k) [] a =
     (ap (digits k) (sym (number-none k)) ∙ digits-number k [] tt)
 digits-number (suc k) (b ∷ x) a =
     ap₂ (λ (d : ℕ) (l : List ℕ). d ∷ l) (ap (λ (q : ℕ). q % 2) (digits-div b (number-lt k x (a .1))) ∙ mod-eq-of-lt (a .0)) (digits-above k b (number k x) ∙ digits-number k x (a .1))
+
+-- ---- equal lists
+pub same-eq : (x y : List ℕ) → same x y ≡ true → x ≡ y
+unfolding same
+same-eq [] [] e = refl
+same-eq [] (b ∷ y) e = absurd (false≢true e)
+same-eq (a ∷ x) [] e = absurd (false≢true e)
+same-eq (a ∷ x) (b ∷ y) e = ap₂ (λ (h : ℕ) (t : List ℕ). h ∷ t) (eqb-true a b (both-left (eqb a b) (same x y) e)) (same-eq x y (both-right (eqb a b) (same x y) e))
+
+pub same-refl : (x : List ℕ) → same x x ≡ true
+unfolding same
+same-refl [] = refl
+same-refl (a ∷ x) = rw (eq-eqb a a refl) (same-refl x)

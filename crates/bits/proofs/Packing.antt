@@ -1,6 +1,6 @@
 -- Packing and unpacking undo each other. Assumes nothing.
 use mathlib.Core.Path.{_≡_, refl, sym, ap, ap₂, _∙_}
-use mathlib.Core.Bool.{Bool, true, false, _&&_, false≢true}
+use mathlib.Core.Bool.{Bool, true, false, _&&_}
 use mathlib.Core.Logic.{_⊎_, inl, inr, ⊎-elim}
 use mathlib.Core.List.{List, [], _∷_, _++_, append-assoc}
 use Prim.Native.Nat.{ℕ, zero, suc, _+_, _-_, _*_, _/_, _%_, _^_, _<_, _≤_}
@@ -11,17 +11,17 @@ use borrow.Author.Tests.{eq-eqb, ne-eqb, eqb-true}
 use lib.Dec.{eqb}
 use lib.ListN.{length, getD, take, drop, length-append, length-take, length-drop, List·getD-append, List·getD-eq-default, drop-of-length-le}
 use lib.Seq.{drop-cons, getD-drop, getD-take, getD-append-add, drop-drop, drop-nil, drop-at, length-take-le}
-use Rattle.bits.specs.Bits.{AllBits, number, digits, bytes, bytesFor, pack, unpack, blank, fits}
-use Rattle.bits.proofs.Laws.{lt-or-ge, bits-drop, number-ext, number-digits, digits-number, digits-at, length-digits, length-unpack, fill}
-
--- each element is a byte
-abbrev pub AllBytes : List ℕ → Type 0
-AllBytes [] = Unit
-AllBytes (v ∷ s) = (v < 256) × AllBytes s
+use Rattle.bits.specs.Bits.{AllBits, AllBytes, number, digits, bytes, bytesFor, pack, unpack, blank, fits}
+use Rattle.bits.proofs.Laws.{lt-or-ge, both-left, both-right, bits-drop, number-ext, number-digits, digits-number, digits-at, length-digits, length-unpack, fill}
 
 pub bytes-of-each : (s : List ℕ) → ((i : ℕ) → getD s i 0 < 256) → AllBytes s
 bytes-of-each [] h = tt
 bytes-of-each (v ∷ s) h = (h 0, bytes-of-each s (λ i. h (suc i)))
+
+pub bytes-drop : (n : ℕ) (s : List ℕ) → AllBytes s → AllBytes (drop n s)
+bytes-drop zero s a = a
+bytes-drop (suc n) [] a = tt
+bytes-drop (suc n) (v ∷ s) a = bytes-drop n s (a .1)
 
 -- ---- the bit at a place
 pub unpack-at : (s : List ℕ) (i : ℕ) → getD (unpack s) i 0 ≡ getD s (i / 8) 0 / 2 ^ (7 - i % 8) % 2
@@ -113,14 +113,6 @@ fits-pack x a =
     (drop-fill (bytesFor (length x) * 8) x (omega arith))
 
 -- ---- packing what was unpacked
-both-left : (a b : Bool) → (a && b) ≡ true → a ≡ true
-both-left true b e = refl
-both-left false b e = e
-
-both-right : (a b : Bool) → (a && b) ≡ true → b ≡ true
-both-right true b e = e
-both-right false b e = absurd (false≢true e)
-
 blank-at : (x : List ℕ) → blank x ≡ true → (i : ℕ) → getD x i 0 ≡ 0
 unfolding blank
 blank-at [] e i = refl
@@ -149,7 +141,7 @@ pub fits-length : (w : ℕ) (s : List ℕ) → fits w s ≡ true → length s �
 unfolding fits
 fits-length w s e = eqb-true (length s) (bytesFor w) (both-left (eqb (length s) (bytesFor w)) (blank (drop w (unpack s))) e)
 
-fits-blank : (w : ℕ) (s : List ℕ) → fits w s ≡ true → blank (drop w (unpack s)) ≡ true
+pub fits-blank : (w : ℕ) (s : List ℕ) → fits w s ≡ true → blank (drop w (unpack s)) ≡ true
 unfolding fits
 fits-blank w s e = both-right (eqb (length s) (bytesFor w)) (blank (drop w (unpack s))) e
 

@@ -1,7 +1,7 @@
 -- Strings of bits and how they are packed (document 01, "Rows, blocks, chunks", last paragraph). A string of bits is a list
 -- of numbers, each 0 or 1; bytes are a list of numbers below 256.
 use Prim.Native.Nat.{ℕ, zero, suc, _+_, _*_, _/_, _%_, _^_, _<_}
-use mathlib.Core.Bool.{Bool, true, _&&_}
+use mathlib.Core.Bool.{Bool, true, false, _&&_}
 use mathlib.Core.List.{List, [], _∷_, _++_}
 use lib.Dec.{eqb}
 use lib.ListN.{length, drop}
@@ -14,6 +14,11 @@ longest = 2040
 abbrev pub AllBits : List ℕ → Type 0
 AllBits [] = Unit
 AllBits (b ∷ x) = (b < 2) × AllBits x
+
+-- each element is a byte
+abbrev pub AllBytes : List ℕ → Type 0
+AllBytes [] = Unit
+AllBytes (v ∷ s) = (v < 256) × AllBytes s
 
 -- the number that the first k bits spell, first bit highest; past the end of the string stands 0
 unfoldable pub number : ℕ → List ℕ → ℕ
@@ -46,6 +51,13 @@ unfoldable pub unpack : List ℕ → List ℕ
 unfolding digits
 unpack [] = []
 unpack (v ∷ s) = digits 8 v ++ unpack s
+
+-- two strings, or two lists of bytes, are equal element for element
+unfoldable pub same : List ℕ → List ℕ → Bool
+same [] [] = true
+same [] (b ∷ y) = false
+same (a ∷ x) [] = false
+same (a ∷ x) (b ∷ y) = eqb a b && same x y
 
 -- no bit is 1
 unfoldable pub blank : List ℕ → Bool

@@ -1,13 +1,12 @@
 -- Document 01's marked cases, one table.
-use Prim.Native.Nat.{ℕ, _-_}
-use mathlib.Core.Bool.{Bool, true, false, _&&_}
+use Prim.Native.Nat.{ℕ}
+use mathlib.Core.Bool.{Bool, true, _&&_}
 use mathlib.Core.List.{List, [], _∷_}
-use lib.Dec.{eqb}
-use lib.ListN.{length, take}
-use Rattle.bits.specs.Bits.{unpack}
+use lib.ListN.{take}
+use Rattle.bits.specs.Bits.{unpack, same}
 use Rattle.vt.specs.Mend.{mended}
 use Rattle.message.specs.declared.Layout.{Layout}
-use Rattle.message.specs.Layout.{rowBits}
+use Rattle.message.specs.Layout.{layout, rowBits}
 use Rattle.message.specs.Message.{blockSums, stringSums, checks, message}
 
 -- a marked case: what is given, and what the paper says comes of it
@@ -18,13 +17,6 @@ pub data Case : Type 0 where
   has-message : Layout → (row message : List ℕ) → Case
   -- a length, a sum and bits pick this string
   picks : (w s : ℕ) (bits string : List ℕ) → Case
-
--- two lists of numbers are the same
-unfoldable pub same : List ℕ → List ℕ → Bool
-same [] [] = true
-same [] (b ∷ y) = false
-same (a ∷ x) [] = false
-same (a ∷ x) (b ∷ y) = eqb a b && same x y
 
 -- the row of a layout that stands in packed bytes
 unfoldable pub rowOf : Layout → List ℕ → List ℕ
@@ -43,16 +35,13 @@ unfolding holds
 holdAll [] = true
 holdAll (c ∷ cs) = holds c && holdAll cs
 
-layout : (l1 l2 nc r : ℕ) → Layout
-layout l1 l2 nc r = record { l1 = l1; l2 = l2; nc = nc; r = r }
-
 -- the row of cases 1 and 2, Example 1 of source document 002
 exampleRow : List ℕ
 exampleRow = 0x4A ∷ 0x50 ∷ 0x3E ∷ 0x77 ∷ 0x10 ∷ 0x24 ∷ 0x46 ∷ 0x80 ∷ []
 
 -- the table: cases 1, 2, 9 (twice) and 10
 unfoldable pub marked : List Case
-unfolding layout exampleRow
+unfolding exampleRow
 marked =
     has-sums (layout 5 3 4 4) exampleRow (10 ∷ 6 ∷ 3 ∷ 4 ∷ 11 ∷ []) (11 ∷ 20 ∷ 4 ∷ []) (11 ∷ 6 ∷ 13 ∷ 2 ∷ [])
     ∷ has-message (layout 5 3 4 4) exampleRow (0x52 ∷ 0x53 ∷ 0x4D ∷ 0x00 ∷ 0x01 ∷ 0x05 ∷ 0x03 ∷ 0x04 ∷ 0x04 ∷ 0xA6 ∷ 0x34 ∷ 0xB5 ∷ 0xD0 ∷ 0x96 ∷ 0xDA ∷ 0x40 ∷ [])

@@ -1,7 +1,7 @@
 -- The fields of 2 ^ nc elements, nc from 3 to 8, and the checks (document 01, "Rows, blocks, chunks"). An element is a number
 -- below 2 ^ nc, its binary digits the coefficients of a polynomial over two elements; the sum of two is their exclusive or.
 -- The checks are those of a Reed-Solomon code.
-use Prim.Native.Nat.{ℕ, zero, suc, _+_, _-_, _*_, _/_, _%_, _^_, _<_}
+use Prim.Native.Nat.{ℕ, zero, suc, _-_, _*_, _/_, _%_, _^_, _<_}
 use mathlib.Core.Bool.{cond}
 use mathlib.Core.List.{List, [], _∷_}
 use lib.Bits.{bitXor}
@@ -15,6 +15,10 @@ polynomial nc = getD (11 ∷ 19 ∷ 37 ∷ 67 ∷ 137 ∷ 285 ∷ []) (nc - 3) 0
 -- an element of the field of nc
 abbrev pub Element : ℕ → ℕ → Type 0
 Element nc x = x < 2 ^ nc
+
+-- a list of elements (past its end 0 stands, which is one)
+abbrev pub Elements : ℕ → List ℕ → Type 0
+Elements nc xs = (k : ℕ) → Element nc (getD xs k 0)
 
 -- 2 times x, the polynomial taken off where the result has a digit too many
 unfoldable pub double : (nc x : ℕ) → ℕ

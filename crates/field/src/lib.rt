@@ -1,1 +1,640 @@
-// The six fields: the table of the powers of 2, and the checks of a row's chunks.
+// The fields of 2 ^ nc elements, nc from 3 to 8: the table of the powers of 2, the product through logs, and the checks of a
+// row's chunks. The contracts cite specs/Field.antt and specs/Tables.antt.
+ghost use mathlib.Core.Path.{_≡_};
+ghost use Prim.Native.Nat.{_+_, _-_, _*_, _^_, _<_, _≤_};
+ghost use lib.ListN.{length};
+ghost use Rattle.field.specs.Field.{Element, Elements, power, times, check as checkOf};
+ghost use Rattle.field.specs.Tables.{powers, start, withLogs, Logs};
+
+// The powers of 2 of the six fields one after another, 2 ^ nc - 1 for each.
+const POWERS: [u8; 498] = [
+    1,
+    2,
+    4,
+    3,
+    6,
+    7,
+    5,
+    1,
+    2,
+    4,
+    8,
+    3,
+    6,
+    12,
+    11,
+    5,
+    10,
+    7,
+    14,
+    15,
+    13,
+    9,
+    1,
+    2,
+    4,
+    8,
+    16,
+    5,
+    10,
+    20,
+    13,
+    26,
+    17,
+    7,
+    14,
+    28,
+    29,
+    31,
+    27,
+    19,
+    3,
+    6,
+    12,
+    24,
+    21,
+    15,
+    30,
+    25,
+    23,
+    11,
+    22,
+    9,
+    18,
+    1,
+    2,
+    4,
+    8,
+    16,
+    32,
+    3,
+    6,
+    12,
+    24,
+    48,
+    35,
+    5,
+    10,
+    20,
+    40,
+    19,
+    38,
+    15,
+    30,
+    60,
+    59,
+    53,
+    41,
+    17,
+    34,
+    7,
+    14,
+    28,
+    56,
+    51,
+    37,
+    9,
+    18,
+    36,
+    11,
+    22,
+    44,
+    27,
+    54,
+    47,
+    29,
+    58,
+    55,
+    45,
+    25,
+    50,
+    39,
+    13,
+    26,
+    52,
+    43,
+    21,
+    42,
+    23,
+    46,
+    31,
+    62,
+    63,
+    61,
+    57,
+    49,
+    33,
+    1,
+    2,
+    4,
+    8,
+    16,
+    32,
+    64,
+    9,
+    18,
+    36,
+    72,
+    25,
+    50,
+    100,
+    65,
+    11,
+    22,
+    44,
+    88,
+    57,
+    114,
+    109,
+    83,
+    47,
+    94,
+    53,
+    106,
+    93,
+    51,
+    102,
+    69,
+    3,
+    6,
+    12,
+    24,
+    48,
+    96,
+    73,
+    27,
+    54,
+    108,
+    81,
+    43,
+    86,
+    37,
+    74,
+    29,
+    58,
+    116,
+    97,
+    75,
+    31,
+    62,
+    124,
+    113,
+    107,
+    95,
+    55,
+    110,
+    85,
+    35,
+    70,
+    5,
+    10,
+    20,
+    40,
+    80,
+    41,
+    82,
+    45,
+    90,
+    61,
+    122,
+    125,
+    115,
+    111,
+    87,
+    39,
+    78,
+    21,
+    42,
+    84,
+    33,
+    66,
+    13,
+    26,
+    52,
+    104,
+    89,
+    59,
+    118,
+    101,
+    67,
+    15,
+    30,
+    60,
+    120,
+    121,
+    123,
+    127,
+    119,
+    103,
+    71,
+    7,
+    14,
+    28,
+    56,
+    112,
+    105,
+    91,
+    63,
+    126,
+    117,
+    99,
+    79,
+    23,
+    46,
+    92,
+    49,
+    98,
+    77,
+    19,
+    38,
+    76,
+    17,
+    34,
+    68,
+    1,
+    2,
+    4,
+    8,
+    16,
+    32,
+    64,
+    128,
+    29,
+    58,
+    116,
+    232,
+    205,
+    135,
+    19,
+    38,
+    76,
+    152,
+    45,
+    90,
+    180,
+    117,
+    234,
+    201,
+    143,
+    3,
+    6,
+    12,
+    24,
+    48,
+    96,
+    192,
+    157,
+    39,
+    78,
+    156,
+    37,
+    74,
+    148,
+    53,
+    106,
+    212,
+    181,
+    119,
+    238,
+    193,
+    159,
+    35,
+    70,
+    140,
+    5,
+    10,
+    20,
+    40,
+    80,
+    160,
+    93,
+    186,
+    105,
+    210,
+    185,
+    111,
+    222,
+    161,
+    95,
+    190,
+    97,
+    194,
+    153,
+    47,
+    94,
+    188,
+    101,
+    202,
+    137,
+    15,
+    30,
+    60,
+    120,
+    240,
+    253,
+    231,
+    211,
+    187,
+    107,
+    214,
+    177,
+    127,
+    254,
+    225,
+    223,
+    163,
+    91,
+    182,
+    113,
+    226,
+    217,
+    175,
+    67,
+    134,
+    17,
+    34,
+    68,
+    136,
+    13,
+    26,
+    52,
+    104,
+    208,
+    189,
+    103,
+    206,
+    129,
+    31,
+    62,
+    124,
+    248,
+    237,
+    199,
+    147,
+    59,
+    118,
+    236,
+    197,
+    151,
+    51,
+    102,
+    204,
+    133,
+    23,
+    46,
+    92,
+    184,
+    109,
+    218,
+    169,
+    79,
+    158,
+    33,
+    66,
+    132,
+    21,
+    42,
+    84,
+    168,
+    77,
+    154,
+    41,
+    82,
+    164,
+    85,
+    170,
+    73,
+    146,
+    57,
+    114,
+    228,
+    213,
+    183,
+    115,
+    230,
+    209,
+    191,
+    99,
+    198,
+    145,
+    63,
+    126,
+    252,
+    229,
+    215,
+    179,
+    123,
+    246,
+    241,
+    255,
+    227,
+    219,
+    171,
+    75,
+    150,
+    49,
+    98,
+    196,
+    149,
+    55,
+    110,
+    220,
+    165,
+    87,
+    174,
+    65,
+    130,
+    25,
+    50,
+    100,
+    200,
+    141,
+    7,
+    14,
+    28,
+    56,
+    112,
+    224,
+    221,
+    167,
+    83,
+    166,
+    81,
+    162,
+    89,
+    178,
+    121,
+    242,
+    249,
+    239,
+    195,
+    155,
+    43,
+    86,
+    172,
+    69,
+    138,
+    9,
+    18,
+    36,
+    72,
+    144,
+    61,
+    122,
+    244,
+    245,
+    247,
+    243,
+    251,
+    235,
+    203,
+    139,
+    11,
+    22,
+    44,
+    88,
+    176,
+    125,
+    250,
+    233,
+    207,
+    131,
+    27,
+    54,
+    108,
+    216,
+    173,
+    71,
+    142,
+];
+
+// A byte as an index.
+fn wide(x: u8) -> usize
+    ensures { λ r. ⌜ r ≡ x ⌝ }
+{
+    x as usize
+}
+
+// The number of powers of 2 in the field: the elements but 0.
+fn order(nc: usize) -> usize
+    requires { ⌜ (3 ≤ nc) × (nc ≤ 8) ⌝ }
+    ensures { λ r. ⌜ r ≡ 2 ^ nc - 1 ⌝ }
+{
+    (1usize << nc) - 1
+}
+
+// Where the field's powers start in the table: the smaller fields have 2 ^ nc - 8 elements in all, and each one power less.
+fn base_of(nc: usize) -> usize
+    requires { ⌜ (3 ≤ nc) × (nc ≤ 8) ⌝ }
+    ensures { λ r. ⌜ r ≡ start 3 (nc - 3) ⌝ }
+{
+    order(nc) - nc - 4
+}
+
+// The table as a local array, to be lent: a constant that is read in place is copied at each read.
+fn table() -> [u8; 498]
+    ensures { λ r. ⌜ r ≡ powers ⌝ }
+{
+    POWERS
+}
+
+// 2 to the power e, from the table.
+fn entry(t: &[u8; 498], nc: usize, e: usize) -> u8
+    requires { ⌜ (now t ≡ powers) × (3 ≤ nc) × (nc ≤ 8) × (e + 1 < 2 ^ nc) ⌝ }
+    ensures { λ r. ⌜ r ≡ power nc e ⌝ }
+{
+    let base = base_of(nc);
+    t[base + e]
+}
+
+// 2 to the power e.
+pub fn power_of(nc: usize, e: usize) -> u8
+    requires { ⌜ (3 ≤ nc) × (nc ≤ 8) × (e + 1 < 2 ^ nc) ⌝ }
+    ensures { λ r. ⌜ r ≡ power nc e ⌝ }
+{
+    let t = table();
+    entry(&t, nc, e)
+}
+
+// An exponent of the same power below 2 ^ nc - 1, from one below twice that.
+fn reduce(nc: usize, e: usize) -> usize
+    requires { ⌜ (3 ≤ nc) × (nc ≤ 8) × (e + 2 < 2 * 2 ^ nc) ⌝ }
+    ensures { λ r. ⌜ (r + 1 < 2 ^ nc) × (power nc r ≡ power nc e) ⌝ }
+{
+    let n = order(nc);
+    if e < n { e } else { e - n }
+}
+
+// The same of any exponent.
+fn remainder(nc: usize, e: usize) -> usize
+    requires { ⌜ (3 ≤ nc) × (nc ≤ 8) ⌝ }
+    ensures { λ r. ⌜ (r + 1 < 2 ^ nc) × (power nc r ≡ power nc e) ⌝ }
+{
+    e % order(nc)
+}
+
+// Writes the log of each element but 0 at the element's place, and nothing else.
+pub fn fill_logs(nc: usize, logs: &mut [u8])
+    requires { ⌜ (3 ≤ nc) × (nc ≤ 8) × (2 ^ nc ≤ length (now logs)) ⌝ }
+    ensures { λ _. ⌜ (now (logs .exit) ≡ withLogs nc (2 ^ nc - 1) (now (logs .entry))) × Logs nc (now (logs .exit)) ⌝ }
+{
+    let t = table();
+    let n = order(nc);
+    let mut e: usize = 0;
+    while e < n {
+        let x = wide(entry(&t, nc, e));
+        logs[x] = e as u8;
+        e += 1;
+    }
+}
+
+// The log of an element but 0: the exponent of 2 that gives it.
+pub fn log_of(nc: usize, logs: &[u8], x: u8) -> usize
+    requires { ⌜ Logs nc (now logs) × Element nc x × (0 < x) ⌝ }
+    ensures { λ r. ⌜ (r + 1 < 2 ^ nc) × (power nc r ≡ x) ⌝ }
+{
+    wide(logs[wide(x)])
+}
+
+// 2 to the power e, times x.
+fn shift(t: &[u8; 498], nc: usize, logs: &[u8], e: usize, x: u8) -> u8
+    requires { ⌜ (now t ≡ powers) × (3 ≤ nc) × (nc ≤ 8) × Logs nc (now logs) × (e + 1 < 2 ^ nc) × Element nc x ⌝ }
+    ensures { λ r. ⌜ r ≡ times nc (power nc e) x ⌝ }
+{
+    if x == 0 {
+        return 0;
+    }
+    let d = log_of(nc, logs, x);
+    entry(t, nc, reduce(nc, e + d))
+}
+
+// a times b.
+pub fn multiply(nc: usize, logs: &[u8], a: u8, b: u8) -> u8
+    requires { ⌜ (3 ≤ nc) × (nc ≤ 8) × Logs nc (now logs) × Element nc a × Element nc b ⌝ }
+    ensures { λ r. ⌜ r ≡ times nc a b ⌝ }
+{
+    if a == 0 {
+        return 0;
+    }
+    let e = log_of(nc, logs, a);
+    let t = table();
+    shift(&t, nc, logs, e, b)
+}
+
+// Check i of the chunks: the exponent of chunk c's factor 2 ^ (i * c) is carried along, reduced by one subtraction a step.
+pub fn check(nc: usize, i: usize, logs: &[u8], chunks: &[u8]) -> u8
+    requires { ⌜ (3 ≤ nc) × (nc ≤ 8) × Logs nc (now logs) × Elements nc (now chunks) ⌝ }
+    ensures { λ r. ⌜ r ≡ checkOf nc i (now (chunks .entry)) ⌝ }
+{
+    let t = table();
+    let step = remainder(nc, i);
+    let mut sum: u8 = 0;
+    let mut exponent: usize = 0;
+    let mut c: usize = 0;
+    while c < chunks.len() {
+        sum ^= shift(&t, nc, logs, exponent, chunks[c]);
+        exponent = reduce(nc, exponent + step);
+        c += 1;
+    }
+    sum
+}

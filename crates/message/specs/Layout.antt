@@ -6,6 +6,10 @@ use lib.Dec.{leb}
 use lib.ListN.{take, drop}
 use Rattle.message.specs.declared.Layout.{Layout}
 
+-- the layout with these numbers
+abbrev pub layout : (l1 l2 nc r : ℕ) → Layout
+layout l1 l2 nc r = record { l1 = l1; l2 = l2; nc = nc; r = r }
+
 -- "l1 and l2 at least 1; nc from 3 to 8; l1 × l2 at most 2^nc − 1; r from 0 to 16"
 unfoldable pub legal : Layout → Bool
 legal l =

@@ -1,7 +1,7 @@
 -- The side message of a row (document 01, "The side message").
 use Prim.Native.Nat.{ℕ, zero, suc, _+_, _*_, _/_}
 use mathlib.Core.List.{List, [], _∷_, _++_, flatMap, map}
-use Rattle.bits.specs.Bits.{number, digits, pack}
+use Rattle.bits.specs.Bits.{number, digits, bytesFor, pack}
 use Rattle.vt.specs.Sum.{sum}
 use Rattle.field.specs.Field.{check}
 use Rattle.message.specs.declared.Layout.{Layout}
@@ -17,6 +17,16 @@ halvings (suc f) (suc w) = suc (halvings f (suc w / 2))
 unfoldable pub width : ℕ → ℕ
 unfolding halvings
 width w = halvings w w
+
+-- the bits of the fields of a message: l1 block sums, l2 chunk-string sums, r checks
+unfoldable pub fieldsLength : Layout → ℕ
+unfolding width
+fieldsLength l = l .l1 * width (blockBits l) + l .l2 * width (stringBits l) + l .r * l .nc
+
+-- the length in bytes that a layout gives its message: the nine bytes of the head, and the packed fields
+unfoldable pub messageBytes : Layout → ℕ
+unfolding fieldsLength
+messageBytes l = 9 + bytesFor (fieldsLength l)
 
 -- the sums of a row's blocks
 unfoldable pub blockSums : Layout → List ℕ → List ℕ

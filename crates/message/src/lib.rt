@@ -1,7 +1,25 @@
-// Layouts and the side message.
+// Layouts, the side message, and the two operations on it: writing the message of a row, and reading one back. Contracts cite
+// specs/.
+mod layouts;
+mod reading;
+
+use refusal::Refusal;
+
 pub struct Layout {
     pub l1: usize,
     pub l2: usize,
     pub nc: usize,
     pub r: usize,
+}
+
+// What writing answers: the message's length in bytes, or a refusal.
+pub enum Written {
+    Length(usize),
+    Refused(Refusal),
+}
+
+// What reading answers: the message's layout, or a refusal.
+pub enum Read {
+    Layout(Layout),
+    Refused(Refusal),
 }

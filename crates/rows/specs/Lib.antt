@@ -1,2 +1,5 @@
 pub mod Rows
 pub mod Deletion
+pub mod Order
+pub mod Held
+pub mod Slice

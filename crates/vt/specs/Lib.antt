@@ -1,2 +1,4 @@
 pub mod Sum
+pub mod Ones
 pub mod Mend
+pub mod Answer

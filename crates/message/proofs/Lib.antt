@@ -1,0 +1,7 @@
+-- The laws of specs/, for the proofs of this crate and of the crates that stand on it.
+pub mod Legal
+pub mod Head
+pub mod Fields
+pub mod Messages
+pub mod Longest
+pub mod Numbers

@@ -1,0 +1,53 @@
+-- The numbers of a message, written one part after another to a slice o. Assumes nothing.
+use mathlib.Core.Path.{_≡_, refl, sym, ap, _∙_}
+use mathlib.Core.List.{List, _++_}
+use Prim.Native.Nat.{ℕ, _+_, _-_, _*_, _≤_}
+use native.Mathlib.Nat.{zero-add}
+use native.Mathlib.Omega.{arith}
+use borrow.Rule.Slice.PartAt.{part-to-end}
+use lib.ListN.{length, take, drop, length-append}
+use Rattle.bits.specs.Bits.{unpack}
+use Rattle.bits.proofs.Copy.{part-next}
+use Rattle.message.specs.declared.Layout.{Layout}
+use Rattle.message.specs.Layout.{blockBits, stringBits}
+use Rattle.message.specs.Message.{width}
+use Rattle.message.specs.Read.{body, fields, readBlockSums, readStringSums, readChecks}
+use Rattle.message.proofs.Fields.{length-fields}
+
+module _ (l : Layout) (s : List ℕ) where
+  pub block-count : length (readBlockSums l s) ≡ l .l1
+  unfolding readBlockSums
+  block-count = length-fields (l .l1) (width (blockBits l)) (body s)
+
+  pub string-count : length (readStringSums l s) ≡ l .l2
+  unfolding readStringSums
+  string-count = length-fields (l .l2) (width (stringBits l)) (drop (l .l1 * width (blockBits l)) (body s))
+
+  pub check-count : length (readChecks l s) ≡ l .r
+  unfolding readChecks
+  check-count = length-fields (l .r) (l .nc) (drop (l .l1 * width (blockBits l) + l .l2 * width (stringBits l)) (body s))
+
+  -- the bits after the head, as the code has them: those of the part of s from its tenth byte to its end
+  abbrev pub rest : List ℕ
+  rest = unpack (take (length s - 9) (drop 9 s))
+
+  rest-body : rest ≡ body s
+  unfolding body
+  rest-body = ap unpack (part-to-end s 9)
+
+  module _ (o : List ℕ) (wb ws : ℕ) (eb : wb ≡ width (blockBits l)) (es : ws ≡ width (stringBits l)) where
+    pub block-written : take 0 o ++ fields (l .l1) wb (drop 0 rest) ++ drop (0 + l .l1) o ≡ readBlockSums l s ++ drop (l .l1) o
+    unfolding readBlockSums
+    block-written = rw (rest-body, eb, zero-add) refl
+
+    pub string-written : (o₁ : List ℕ) → o₁ ≡ readBlockSums l s ++ drop (l .l1) o
+        → take (l .l1) o₁ ++ fields (l .l2) ws (drop (l .l1 * wb) rest) ++ drop (l .l1 + l .l2) o₁ ≡ readBlockSums l s ++ readStringSums l s ++ drop (l .l1 + l .l2) o
+    unfolding readStringSums
+    string-written o₁ e = rw (e, rest-body, eb, es) (part-next (readBlockSums l s) (readStringSums l s) o (l .l1) (l .l2) block-count)
+
+    pub check-written : (o₂ : List ℕ) → o₂ ≡ readBlockSums l s ++ readStringSums l s ++ drop (l .l1 + l .l2) o
+        → take (l .l1 + l .l2) o₂ ++ fields (l .r) (l .nc) (drop (l .l1 * wb + l .l2 * ws) rest) ++ drop (l .l1 + l .l2 + l .r) o₂ ≡ readBlockSums l s ++ readStringSums l s ++ readChecks l s ++ drop (l .l1 + l .l2 + l .r) o
+    unfolding readChecks
+    check-written o₂ e =
+        rw (e, rest-body, eb, es)
+        (part-next (readBlockSums l s ++ readStringSums l s) (readChecks l s) o (l .l1 + l .l2) (l .r) (length-append (readBlockSums l s) (readStringSums l s) ∙ omega (arith, block-count, string-count)))
