@@ -5,3 +5,4 @@ pub mod Fields
 pub mod Messages
 pub mod Longest
 pub mod Numbers
+pub mod Answers

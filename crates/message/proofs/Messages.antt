@@ -202,16 +202,6 @@ module _ (s : List ℕ) (m : marked s ≡ true) (v : versionOne s ≡ true) wher
     pub refused-not : legal l ≡ true → length s ≡ messageBytes l → sumHigh l s ≡ false → blank (drop (fieldsLength l) (body s)) ≡ true → messageRefusal s ≡ 0
     refused-not k n h a = refused-not′ (rw q k) (rw q n) (rw q h) (rw q a)
 
--- a refusal answers its number alone
-pub refused-answer : (q : ℕ) (s : List ℕ) → messageRefusal s ≡ suc q → record { refusal = suc q; layout = noLayout } ≡ layoutAnswer (messageRefusal s) s
-unfolding layoutAnswer
-refused-answer q s e = rw (e, eqb·suc-zero q) refl
-
--- and a fit message its layout
-pub fit-answer : (s : List ℕ) (l : Layout) → layoutOf s ≡ l → messageRefusal s ≡ 0 → record { refusal = 0; layout = l } ≡ layoutAnswer (messageRefusal s) s
-unfolding layoutAnswer
-fit-answer s l q e = rw (e, q) refl
-
 -- ---- a message is fit exactly when some layout and values have it as their encoding
 -- what is encoded is not refused
 pub encoded-fit : (l : Layout) (bs ss cs : List ℕ) → Encodable l bs ss cs → messageRefusal (encode l bs ss cs) ≡ 0

@@ -146,3 +146,39 @@ fn read_fields(s: &[u8], at: usize, n: usize, k: usize, out: &mut [u16], from: u
         i += 1;
     }
 }
+
+// The numbers of a fit message: block sums, chunk-string sums, checks, written to the start of a slice.
+fn read_numbers(l1: usize, l2: usize, nc: usize, r: usize, s: &[u8], out: &mut [u16])
+    requires { ⌜ (isLegal (layout l1 l2 nc r) ≡ true) × ((length (now s) ≡ messageBytes (layout l1 l2 nc r)) × (l1 + l2 + r ≤ length (now out))) ⌝ }
+    ensures { λ _. ⌜ now (out .exit) ≡ readBlockSums (layout l1 l2 nc r) (now (s .entry)) ++ readStringSums (layout l1 l2 nc r) (now (s .entry))
+        ++ readChecks (layout l1 l2 nc r) (now (s .entry)) ++ drop (l1 + l2 + r) (now (out .entry)) ⌝ }
+{
+    let rest = &s[9..];
+    let block = layouts::width(l2 * nc);
+    let string = layouts::width(nc * l1);
+    let strings = l1 * block;
+    let checks = strings + l2 * string;
+    read_fields(rest, 0, l1, block, out, 0);
+    read_fields(rest, strings, l2, string, out, l1);
+    read_fields(rest, checks, r, nc, out, l1 + l2);
+}
+
+// Reads a message: answers its layout, and writes its numbers to the start of a slice.
+pub fn read(s: &[u8], out: &mut [u16]) -> Read
+    ensures { λ r. ⌜ (readOf r ≡ layoutAnswer (readRefusal (now (s .entry)) (length (now (out .entry)))) (now (s .entry)))
+        × (now (out .exit) ≡ readTarget (now (s .entry)) (now (out .entry))) ⌝ }
+{
+    let checked = check(s);
+    let Read::Layout(l) = checked else {
+        return checked;
+    };
+    let l1 = l.l1;
+    let l2 = l.l2;
+    let nc = l.nc;
+    let r = l.r;
+    if out.len() < l1 + l2 + r {
+        return Read::Refused(Refusal::ShortTarget);
+    }
+    read_numbers(l1, l2, nc, r, s, out);
+    Read::Layout(l)
+}

@@ -2,8 +2,11 @@
 use mathlib.Core.Path.{_≡_, refl, _∙_}
 use mathlib.Core.Bool.{Bool, true, false, cond}
 use mathlib.Core.List.{List, [], _∷_, _++_}
-use Prim.Native.Nat.{ℕ}
-use Rattle.refusal.specs.Refusal.{Check, firstRefusal}
+use Prim.Native.Nat.{ℕ, _≤_}
+use native.Mathlib.Omega.{arith}
+use Rattle.refusal.specs.declared.Refusal.{Refusal}
+use Rattle.refusal.specs.declared.Refusal.the-variants.{NoMessage, Version, Layout, MessageLength, Sum, SpareBit, Losses, Packing, ListFull, ShortTarget}
+use Rattle.refusal.specs.Refusal.{numberOf, Check, firstRefusal}
 
 -- each check has a number of the table
 abbrev pub Numbered : List Check → Type 0
@@ -38,3 +41,16 @@ passed c cs n e = go (c .1) refl e
     go : (t : Bool) → c .1 ≡ t → cond t (c .0) (firstRefusal cs) ≡ 0 → (c .1 ≡ false) × (firstRefusal cs ≡ 0)
     go true h e = absurd (n e)
     go false h e = (h, e)
+
+-- no refusal has the number 0
+pub numbered : (q : Refusal) → 1 ≤ numberOf q
+numbered NoMessage = omega arith
+numbered Version = omega arith
+numbered Layout = omega arith
+numbered MessageLength = omega arith
+numbered Sum = omega arith
+numbered SpareBit = omega arith
+numbered Losses = omega arith
+numbered Packing = omega arith
+numbered ListFull = omega arith
+numbered ShortTarget = omega arith

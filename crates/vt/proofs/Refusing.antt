@@ -9,7 +9,7 @@ use lib.Dec.{ltb, eqb}
 use lib.ListN.{length, take, drop}
 use Rattle.refusal.specs.Refusal.{Answer, numberOf, firstRefusal}
 use Rattle.refusal.specs.declared.Refusal.{Refusal}
-use Rattle.refusal.specs.declared.Refusal.the-variants.{NoMessage, Version, Layout, MessageLength, Sum, SpareBit, Losses, Packing, ListFull, ShortTarget}
+use Rattle.refusal.proofs.Laws.{numbered}
 use Rattle.bits.specs.Bits.{longest, bytesFor, pack, unpack, fits}
 use Rattle.vt.specs.Mend.{mended, mendRefusal, mendTarget}
 use Rattle.vt.specs.declared.Mended.{Mended}
@@ -66,19 +66,6 @@ pub admitted : (w s : ℕ) (p : List ℕ) (room : ℕ) → mendRefusal w s p roo
 admitted w s p room h =
     let k = all-pass (ltb w 1) (ltb longest w) (ltb w s) (fits (w - 1) p) (ltb room (bytesFor w)) (sym (table w s p room) ∙ h) in
     ((ltb-false w 1 (k .0 .0), ltb-false longest w (k .0 .1)), (ltb-false w s (k .1 .0), (k .1 .1 .0, ltb-false room (bytesFor w) (k .1 .1 .1))))
-
--- no refusal has the number 0
-numbered : (q : Refusal) → 1 ≤ numberOf q
-numbered NoMessage = omega arith
-numbered Version = omega arith
-numbered Layout = omega arith
-numbered MessageLength = omega arith
-numbered Sum = omega arith
-numbered SpareBit = omega arith
-numbered Losses = omega arith
-numbered Packing = omega arith
-numbered ListFull = omega arith
-numbered ShortTarget = omega arith
 
 -- the target, with the table left as it is
 target : (w s : ℕ) (p t : List ℕ)

@@ -1,7 +1,8 @@
 use borrow.Author.Needs.{needs}
-use Rattle.message.proofs.Messages.{refused-1, refused-2, refused-answer}
+use Rattle.message.proofs.Answers.{refused-answer}
+use Rattle.message.proofs.Messages.{refused-1, refused-2}
 use Rattle.message.proofs.Head.{Mark, mark}
-use Rattle.message.specs.Read.{marked, versionOne, layoutOf}
+use Rattle.message.specs.Read.{marked, versionOne, layoutOf, messageRefusal}
 use lib.ListN.{length}
 use borrow.Author.Tests.{not-true, not-false}
 use native.Mathlib.Omega.{arith}
@@ -18,7 +19,7 @@ marked-requires c κs = search needs
 returns : tie.Need-returns
 returns c =
     let s : List ℕ = c .before .before .before .args .s .now in
-    refused-answer 0 s (refused-1 s (sym (c .before .marked .ensures) ∙ not-true _ (c .if1 .taken)))
+    refused-answer (messageRefusal s) 0 s (refused-1 s (sym (c .before .marked .ensures) ∙ not-true _ (c .if1 .taken)))
 
 -- past the first test there is a mark, and so there are nine bytes
 is-marked : (c : tie.Else1) → marked (c .before .before .before .args .s .now) ≡ true
@@ -33,7 +34,7 @@ version-one-requires c κs = mark (c .before .before .before .args .s .now) (is-
 returns-2 : tie.Need-returns-2
 returns-2 c =
     let s : List ℕ = c .before .before .before .before .before .args .s .now in
-    refused-answer 1 s (refused-2 s (is-marked (c .before .before)) (sym (c .before .version-one .ensures) ∙ not-true _ (c .if2 .taken)))
+    refused-answer (messageRefusal s) 1 s (refused-2 s (is-marked (c .before .before)) (sym (c .before .version-one .ensures) ∙ not-true _ (c .if2 .taken)))
 
 shared-slice-read-wide : tie.Need-shared-slice-read-wide
 shared-slice-read-wide c = omega (arith, long (c .before))

@@ -1,8 +1,10 @@
 use borrow.Author.Needs.{needs}
-use Rattle.message.proofs.Messages.{refused-1, refused-2, refused-3, refused-4, refused-5, refused-6, refused-not, refused-answer, fit-answer}
+use Rattle.message.proofs.Answers.{refused-answer, fit-answer}
+use Rattle.message.proofs.Messages.{refused-1, refused-2, refused-3, refused-4, refused-5, refused-6, refused-not}
 use lib.ListN.{length}
 use Rattle.message.specs.Layout.{layout, legal}
 use Rattle.message.specs.Message.{messageBytes}
+use Rattle.message.specs.Read.{messageRefusal}
 use Rattle.message.specs.declared.Layout.{Layout}
 use borrow.Author.Tests.{not-true, not-false}
 use Prim.Native.Nat.{ℕ}
@@ -23,7 +25,7 @@ returns : tie.Need-returns
 returns c =
     let t = c .before .before .before in
     let s : List ℕ = t .args .s .now in
-    refused-answer 2 s (refused-3 s (t .pre .0) (t .pre .1 .0) (named t) (t .pre .1 .1) (sym (c .before .legal .ensures) ∙ not-true _ (c .if1 .taken)))
+    refused-answer (messageRefusal s) 2 s (refused-3 s (t .pre .0) (t .pre .1 .0) (named t) (t .pre .1 .1) (sym (c .before .legal .ensures) ∙ not-true _ (c .if1 .taken)))
 
 -- past the first test the layout is legal, past the second the message is as long as it gives
 is-legal : (c : tie.Else1) → legal (named (c .before .before .before)) ≡ true
@@ -39,7 +41,7 @@ returns-2 : tie.Need-returns-2
 returns-2 c =
     let t = c .before .before .before .before .before in
     let s : List ℕ = t .args .s .now in
-    refused-answer 3 s (refused-4 s (t .pre .0) (t .pre .1 .0) (named t) (t .pre .1 .1) (is-legal (c .before .before)) (λ e. c .if2 .taken (e ∙ sym (c .before .message-bytes .ensures))))
+    refused-answer (messageRefusal s) 3 s (refused-4 s (t .pre .0) (t .pre .1 .0) (named t) (t .pre .1 .1) (is-legal (c .before .before)) (λ e. c .if2 .taken (e ∙ sym (c .before .message-bytes .ensures))))
 
 sum-high-requires : tie.Need-sum-high-requires
 sum-high-requires c κs = (is-legal (c .before .before), is-long c)
@@ -48,7 +50,7 @@ returns-3 : tie.Need-returns-3
 returns-3 c =
     let t = c .before .before .before .before .before .before .before in
     let s : List ℕ = t .args .s .now in
-    refused-answer 4 s (refused-5 s (t .pre .0) (t .pre .1 .0) (named t) (t .pre .1 .1) (is-legal (c .before .before .before .before)) (is-long (c .before .before)) (sym (c .before .sum-high .ensures) ∙ c .if3 .taken))
+    refused-answer (messageRefusal s) 4 s (refused-5 s (t .pre .0) (t .pre .1 .0) (named t) (t .pre .1 .1) (is-legal (c .before .before .before .before)) (is-long (c .before .before)) (sym (c .before .sum-high .ensures) ∙ c .if3 .taken))
 
 spare-blank-requires : tie.Need-spare-blank-requires
 spare-blank-requires c κs = (is-legal (c .before .before .before .before), is-long (c .before .before))
@@ -57,13 +59,13 @@ returns-4 : tie.Need-returns-4
 returns-4 c =
     let t = c .before .before .before .before .before .before .before .before .before in
     let s : List ℕ = t .args .s .now in
-    refused-answer 5 s (refused-6 s (t .pre .0) (t .pre .1 .0) (named t) (t .pre .1 .1) (is-legal (c .before .before .before .before .before .before)) (is-long (c .before .before .before .before)) (sym (c .before .before .before .sum-high .ensures) ∙ c .before .before .if3 .left) (sym (c .before .spare-blank .ensures) ∙ not-true _ (c .if4 .taken)))
+    refused-answer (messageRefusal s) 5 s (refused-6 s (t .pre .0) (t .pre .1 .0) (named t) (t .pre .1 .1) (is-legal (c .before .before .before .before .before .before)) (is-long (c .before .before .before .before)) (sym (c .before .before .before .sum-high .ensures) ∙ c .before .before .if3 .left) (sym (c .before .spare-blank .ensures) ∙ not-true _ (c .if4 .taken)))
 
 returns-5 : tie.Need-returns-5
 returns-5 c =
     let t = c .before .before .before .before .before .before .before .before .before in
     let s : List ℕ = t .args .s .now in
-    fit-answer s (named t) (t .pre .1 .1) (refused-not s (t .pre .0) (t .pre .1 .0) (named t) (t .pre .1 .1) (is-legal (c .before .before .before .before .before .before)) (is-long (c .before .before .before .before)) (sym (c .before .before .before .sum-high .ensures) ∙ c .before .before .if3 .left) (sym (c .before .spare-blank .ensures) ∙ not-false _ (c .if4 .left)))
+    fit-answer (messageRefusal s) s (named t) (t .pre .1 .1) (refused-not s (t .pre .0) (t .pre .1 .0) (named t) (t .pre .1 .1) (is-legal (c .before .before .before .before .before .before)) (is-long (c .before .before .before .before)) (sym (c .before .before .before .sum-high .ensures) ∙ c .before .before .if3 .left) (sym (c .before .spare-blank .ensures) ∙ not-false _ (c .if4 .left)))
 
 pub check-layout-spec : {M : Type 1} → statement M
 check-layout-spec =

@@ -1,0 +1,149 @@
+use borrow.Author.Needs.{needs}
+use Rattle.message.proofs.Numbers.{block-count, string-count, block-written, string-written, check-written}
+use Rattle.message.proofs.Longest.{Rest, after-head}
+use Rattle.message.proofs.Legal.{Bounds, Sizes, sizes, legal-bounds}
+use Rattle.message.proofs.Fields.{length-fields}
+use Rattle.message.specs.Read.{body, fields, readBlockSums, readStringSums, readChecks}
+use Rattle.message.specs.Message.{width, fieldsLength, messageBytes}
+use Rattle.message.specs.Layout.{layout, legal, blockBits, stringBits}
+use Rattle.message.specs.declared.Layout.{Layout}
+use Rattle.bits.proofs.Copy.{part-next}
+use Rattle.bits.specs.Bits.{unpack}
+use lib.ListN.{length, take, drop, length-append, length-drop}
+use borrow.Rule.Slice.PartAt.{part-to-end}
+use native.Mathlib.Nat.{zero-add}
+use native.Mathlib.Omega.{arith}
+use mathlib.Core.List.{List, _++_}
+use mathlib.Core.Path.{_≡_, refl, sym, ap, _∙_}
+use Prim.Native.Nat.{ℕ, _+_, _-_, _*_, _≤_}
+use Rattle.message.proofs.reading.read_numbers.Statement.{statement}
+use Rattle.message.proofs.reading.read_numbers.Tie as tie
+
+-- what stands after the head, and the sizes of the legal layout
+rest : (c : tie.Start) → Rest (layout (c .args .l1) (c .args .l2) (c .args .nc) (c .args .r)) (c .args .s .now)
+rest c = after-head (layout (c .args .l1) (c .args .l2) (c .args .nc) (c .args .r)) (c .args .s .now) (c .pre .0) (c .pre .1 .0)
+
+within : (c : tie.Start) → Sizes (layout (c .args .l1) (c .args .l2) (c .args .nc) (c .args .r))
+within c =
+    let l : Layout = layout (c .args .l1) (c .args .l2) (c .args .nc) (c .args .r) in
+    sizes l (legal-bounds l (c .pre .0))
+
+sub-rest : tie.Need-sub-rest
+sub-rest c = rest (c .before .before) .long
+
+part-rest-start : tie.Need-part-rest-start
+part-rest-start c = rest (c .before .before) .long
+
+part-rest-end : tie.Need-part-rest-end
+part-rest-end c = search needs
+
+mul-width : tie.Need-mul-width
+mul-width c = record { fits = omega (arith, within (c .before .before .before) .block) }
+
+width-requires : tie.Need-width-requires
+width-requires c κs = within (c .before .before .before) .block
+
+mul-width-2 : tie.Need-mul-width-2
+mul-width-2 c = record { fits = omega (arith, within (c .before .before .before .before) .string) }
+
+width-requires-2 : tie.Need-width-requires-2
+width-requires-2 c κs = within (c .before .before .before .before) .string
+
+-- the fields lie within the bits after the head, which the code has as a part of the message
+places : (c : tie.After-width2) →
+    let a = c .before .before .before .before .before .args in
+    (a .l1 * c .before .width .result + a .l2 * c .width2 .result + a .r * a .nc ≤ length (drop 9 (a .s .now)) * 8) × (length (take (length (a .s .now) - 9) (drop 9 (a .s .now))) ≡ length (drop 9 (a .s .now)))
+places c =
+    let a = c .before .before .before .before .before in
+    (rw (c .before .width .ensures, c .width2 .ensures) (rest a .all-fields), ap length (part-to-end (a .args .s .now) 9))
+
+mul-strings : tie.Need-mul-strings
+mul-strings c = record { fits = omega (arith, places c .0, rest (c .before .before .before .before .before) .few) }
+
+mul-checks : tie.Need-mul-checks
+mul-checks c = record { fits = omega (arith, places c .0, rest (c .before .before .before .before .before) .few) }
+
+add-checks : tie.Need-add-checks
+add-checks c = record { fits = omega (arith, places c .0, rest (c .before .before .before .before .before) .few) }
+
+read-fields-requires : tie.Need-read-fields-requires
+read-fields-requires c κs =
+    let t = rest (c .before .before .before .before .before .before) in
+    rw (part-to-end (c .before .before .before .before .before .before .args .s .now) 9, c .before .before .width .ensures, zero-add, zero-add) (omega (arith, t .block-width), (omega (arith, t .few), (t .block-fields, omega (arith, c .before .before .before .before .before .before .pre .1 .1))))
+
+-- the layout, and the slice after the block sums, after the chunk-string sums, after the checks
+abbrev named : tie.Start → Layout
+named c = layout (c .args .l1) (c .args .l2) (c .args .nc) (c .args .r)
+
+first : (c : tie.After-read-fields) →
+    let a = c .before .before .before .before .before .before .before in
+    c .read-fields .last .1 .1 .1 .1 .0 ≡ readBlockSums (named a) (a .args .s .now) ++ drop (a .args .l1) (a .args .out .now)
+first c =
+    let a = c .before .before .before .before .before .before .before in
+    let w = c .before .before in
+    c .read-fields .ensures ∙ block-written (named a) (a .args .s .now) (a .args .out .now) (w .before .width .result) (w .width2 .result) (w .before .width .ensures) (w .width2 .ensures)
+
+second : (c : tie.After-read-fields2) →
+    let a = c .before .before .before .before .before .before .before .before .before .before .before in
+    c .read-fields2 .last .1 .1 .1 .1 .0 ≡ readBlockSums (named a) (a .args .s .now) ++ readStringSums (named a) (a .args .s .now) ++ drop (a .args .l1 + a .args .l2) (a .args .out .now)
+second c =
+    let a = c .before .before .before .before .before .before .before .before .before .before .before in
+    let d = c .before .before .before .before in
+    let w = d .before .before in
+    c .read-fields2 .ensures ∙ string-written (named a) (a .args .s .now) (a .args .out .now) (w .before .width .result) (w .width2 .result) (w .before .width .ensures) (w .width2 .ensures) (d .read-fields .last .1 .1 .1 .1 .0) (first d)
+
+-- the slice stays as long as it was
+room-after : (c : tie.After-read-fields) → length (c .read-fields .last .1 .1 .1 .1 .0) ≡ length (c .before .before .before .before .before .before .before .args .out .now)
+room-after c = search needs
+
+room-left : (c : tie.After-read-fields2) → length (c .read-fields2 .last .1 .1 .1 .1 .0) ≡ length (c .before .before .before .before .before .before .before .before .before .before .before .args .out .now)
+room-left c = search needs
+
+read-fields-requires-2 : tie.Need-read-fields-requires-2
+read-fields-requires-2 c κs =
+    let w = c .before .before .before .before .before in
+    let q = w .before .before .before .before .before in
+    let t = rest q in
+    (omega (arith, w .width2 .ensures, t .string-width), (omega (arith, places w .1, t .few), (omega (arith, places w .0, places w .1), omega (arith, q .pre .1 .1, room-after (c .before .before .before)))))
+
+add-read-fields : tie.Need-add-read-fields
+add-read-fields c = search needs
+
+read-fields-requires-3 : tie.Need-read-fields-requires-3
+read-fields-requires-3 c κs =
+    let w = c .before .before .before .before .before .before .before .before .before in
+    let q = w .before .before .before .before .before in
+    let t = rest q in
+    (omega (arith, legal-bounds (named q) (q .pre .0) .nc-high), (omega (arith, places w .1, t .few), (omega (arith, places w .0, places w .1), omega (arith, q .pre .1 .1, room-left (c .before .before .before)))))
+
+same-length : tie.Need-same-length
+same-length c = search needs
+
+returns : tie.Need-returns
+returns c =
+    let v = c .before .before in
+    let a = c .before .before .before .before .before .before .before .before .before .before .before .before .before .before .before .before .before in
+    let d = v .before .before .before .before in
+    let w = d .before .before .before .before .before .before in
+    v .read-fields3 .ensures ∙ check-written (named a) (a .args .s .now) (a .args .out .now) (w .before .width .result) (w .width2 .result) (w .before .width .ensures) (w .width2 .ensures) (d .read-fields2 .last .1 .1 .1 .1 .0) (second d)
+
+pub read-numbers-spec : {M : Type 1} → statement M
+read-numbers-spec =
+    tie.close
+    (tie.spec
+    sub-rest
+    part-rest-start
+    part-rest-end
+    mul-width
+    width-requires
+    mul-width-2
+    width-requires-2
+    mul-strings
+    mul-checks
+    add-checks
+    read-fields-requires
+    read-fields-requires-2
+    add-read-fields
+    read-fields-requires-3
+    same-length
+    returns)
