@@ -3,9 +3,9 @@ use mathlib.Core.Path.{_≡_, refl, sym, ap, _∙_}
 use mathlib.Core.List.{List, [], _∷_, _++_}
 use Prim.Native.Nat.{ℕ, suc, _+_, _<_, _≤_}
 use native.Mathlib.Nat.{zero-add}
-use native.Mathlib.Numerals.{add-one}
+use native.Mathlib.Numerals.{add-one, towards-suc}
 use lib.ListN.{length, getD, take, drop, set}
-use lib.Seq.{paste, paste-suc, take-at, drop-append-add, drop-drop}
+use lib.Seq.{paste, paste-suc, sets-eq, take-at, drop-append-add, drop-drop}
 
 -- a turn that stores element i of s at place at + i takes the copy of i elements to that of i + 1
 pub paste-next : (d : List ℕ) (at : ℕ) (s : List ℕ) (i : ℕ) → at + i < length d → i < length s → set (paste d at s i) (at + i) (getD s i 0) ≡ paste d at s (i + 1)
@@ -23,3 +23,7 @@ pub part-next : (p f d : List ℕ) (n m : ℕ) → length p ≡ n → take n (p 
 part-next p f d n m e =
     let back : drop (n + m) (p ++ drop n d) ≡ drop (n + m) d = ap (λ (k : ℕ). drop (k + m) (p ++ drop n d)) (sym e) ∙ drop-append-add p (drop n d) m ∙ drop-drop m n d in
     rw (take-at p (drop n d) n e, back) refl
+
+-- eight stores one after another
+pub stored-eight : (d : List ℕ) (at a b c e f g h k : ℕ) → at + 8 ≤ length d → set (set (set (set (set (set (set (set d at a) (at + 1) b) (at + 2) c) (at + 3) e) (at + 4) f) (at + 5) g) (at + 6) h) (at + 7) k ≡ take at d ++ (a ∷ b ∷ c ∷ e ∷ f ∷ g ∷ h ∷ k ∷ []) ++ drop (at + 8) d
+stored-eight d at a b c e f g h k l = simp towards-suc (simp towards-suc at (sets-eq (a ∷ b ∷ c ∷ e ∷ f ∷ g ∷ h ∷ k ∷ []) d at l))

@@ -9,9 +9,10 @@ use native.Mathlib.Numerals.{add-one}
 use native.Mathlib.Omega.{arith}
 use borrow.Author.Tests.{eq-eqb, ne-eqb, eqb-true}
 use lib.Dec.{eqb}
-use lib.ListN.{length, getD, take, drop, length-append, length-take, length-drop, List·getD-append, List·getD-eq-default, drop-of-length-le}
-use lib.Seq.{drop-cons, getD-drop, getD-take, getD-append-add, drop-drop, drop-nil, drop-at, length-take-le}
+use lib.ListN.{length, getD, take, drop, set, length-append, length-take, length-drop, List·getD-append, List·getD-eq-default, drop-of-length-le}
+use lib.Seq.{drop-cons, set-at, append-snoc, getD-drop, getD-take, getD-append-add, drop-drop, drop-nil, drop-at, take-at, take-append-add, take-add, length-take-le}
 use Rattle.bits.specs.Bits.{AllBits, AllBytes, number, digits, bytes, bytesFor, pack, unpack, blank, fits}
+use Rattle.bits.proofs.Copy.{part-next}
 use Rattle.bits.proofs.Laws.{lt-or-ge, both-left, both-right, bits-drop, number-ext, number-digits, digits-number, digits-at, length-digits, length-unpack, fill}
 
 pub bytes-of-each : (s : List ℕ) → ((i : ℕ) → getD s i 0 < 256) → AllBytes s
@@ -43,6 +44,35 @@ unpack-at (v ∷ s) i = ⊎-elim (inside v s i) (λ h. outside v s i h (unpack-a
         let l : i ≡ length (digits 8 v) + (i - 8) = omega (arith, length-digits 8 v) in
         rw (d, m) (ap (λ (n : ℕ). getD (digits 8 v ++ unpack s) n 0) l ∙ getD-append-add (digits 8 v) (unpack s) (i - 8) 0 ∙ r)
 
+-- byte i has the bits from 8 × i on
+unpack-next : (s : List ℕ) (i : ℕ) → i < length s → take (i * 8 + 8) (unpack s) ≡ take (i * 8) (unpack s) ++ digits 8 (getD s i 0)
+unfolding unpack
+unpack-next [] i h = absurd (omega arith)
+unpack-next (v ∷ s) zero h = take-at (digits 8 v) (unpack s) 8 (length-digits 8 v)
+unpack-next (v ∷ s) (suc i) h =
+    let d : List ℕ = digits 8 v in
+    let n : length (digits 8 v) ≡ 8 = length-digits 8 v in
+    let e : suc i * 8 + 8 ≡ length d + (i * 8 + 8) = omega arith in
+    let f : suc i * 8 ≡ length d + i * 8 = omega arith in
+    rw (e, f, take-append-add d (unpack s), take-append-add d (unpack s), append-assoc)
+    (ap (λ (t : List ℕ). d ++ t) (unpack-next s i (omega arith)))
+
+-- a slice q that holds the bits of i bytes, with those of the next byte behind them
+pub byte-unpacked : (s o q : List ℕ) (i : ℕ) → i < length s → q ≡ take (i * 8) (unpack s) ++ drop (i * 8) o → take (i * 8) q ++ digits 8 (getD s i 0) ++ drop (i * 8 + 8) q ≡ take ((i + 1) * 8) (unpack s) ++ drop ((i + 1) * 8) o
+byte-unpacked s o q i h e =
+    let n : (i + 1) * 8 ≡ i * 8 + 8 = omega arith in
+    rw (e, n) (part-next (take (i * 8) (unpack s)) (digits 8 (getD s i 0)) o (i * 8) 8 (length-take-le (i * 8) (unpack s) (omega (arith, length-unpack s)))
+    ∙ ap (λ (t : List ℕ). t ++ drop (i * 8 + 8) o) (sym (unpack-next s i h)))
+
+-- a slice q that holds the first n bits, with those up to w behind them
+pub all-unpacked : (s o q : List ℕ) (n w : ℕ) → n ≤ w → n ≤ length s * 8 → q ≡ take n (unpack s) ++ drop n o → take n q ++ take (w - n) (drop n (unpack s)) ++ drop (n + (w - n)) q ≡ take w (unpack s) ++ drop w o
+all-unpacked s o q n w h k e =
+    let f : n + (w - n) ≡ w = omega arith in
+    let u : List ℕ = unpack s in
+    rw e
+    (part-next (take n u) (take (w - n) (drop n u)) o n (w - n) (length-take-le n u (omega (arith, length-unpack s)))
+    ∙ ap₂ (λ (a b : List ℕ). a ++ b) (sym (take-add n (w - n) u) ∙ ap (λ (m : ℕ). take m u) f) (ap (λ (m : ℕ). drop m o) f))
+
 -- ---- packing
 pub bytes-ext : (n : ℕ) (x y : List ℕ) → ((i : ℕ) → getD x i 0 ≡ getD y i 0) → bytes n x ≡ bytes n y
 unfolding bytes
@@ -68,6 +98,33 @@ bytes-at (suc n) zero x h = refl
 bytes-at (suc n) (suc i) x h =
     let e : suc i * 8 ≡ 8 + i * 8 = omega arith in
     bytes-at n i (drop 8 x) (omega arith) ∙ ap (number 8) (drop-drop (i * 8) 8 x ∙ ap (λ (k : ℕ). drop k x) (sym e))
+
+bytes-more : (n : ℕ) (x : List ℕ) → bytes (suc n) x ≡ bytes n x ++ (number 8 (drop (n * 8) x) ∷ [])
+unfolding bytes
+bytes-more zero x = refl
+bytes-more (suc n) x =
+    let e : suc n * 8 ≡ 8 + n * 8 = omega arith in
+    ap (λ (l : List ℕ). number 8 x ∷ l) (bytes-more n (drop 8 x) ∙ ap (λ (y : List ℕ). bytes n (drop 8 x) ++ (number 8 y ∷ [])) (drop-drop (n * 8) 8 x ∙ ap (λ (k : ℕ). drop k x) (sym e)))
+
+-- a string of whole bytes is packed by them
+pub packed-whole : (x o : List ℕ) → length x ≤ length x / 8 * 8 → bytes (length x / 8) x ++ drop (length x / 8) o ≡ pack x ++ drop (bytesFor (length x)) o
+unfolding pack
+packed-whole x o h =
+    let e : length x / 8 ≡ bytesFor (length x) = omega arith in
+    rw e refl
+
+-- any other has one byte more
+pub packed-rest : (x o : List ℕ) → length x / 8 * 8 < length x → bytesFor (length x) ≤ length o → set (bytes (length x / 8) x ++ drop (length x / 8) o) (length x / 8) (number 8 (drop (length x / 8 * 8) x)) ≡ pack x ++ drop (bytesFor (length x)) o
+unfolding pack
+packed-rest x o h k =
+    let n : ℕ = length x / 8 in
+    let v : ℕ = number 8 (drop (n * 8) x) in
+    let e : bytesFor (length x) ≡ suc n = omega arith in
+    ap (λ (t : List ℕ). set (bytes n x ++ t) n v) (drop-cons o n 0 (omega arith))
+    ∙ set-at (bytes n x) (getD o n 0) (drop (suc n) o) v n (length-bytes n x)
+    ∙ sym (append-snoc (bytes n x) v (drop (suc n) o))
+    ∙ ap (λ (l : List ℕ). l ++ drop (suc n) o) (sym (bytes-more n x))
+    ∙ ap (λ (k : ℕ). bytes k x ++ drop k o) (sym e)
 
 -- ---- unpacking what was packed
 fill-add : (k m : ℕ) (x : List ℕ) → fill k x ++ fill m (drop k x) ≡ fill (k + m) x

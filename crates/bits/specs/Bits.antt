@@ -4,7 +4,7 @@ use Prim.Native.Nat.{ℕ, zero, suc, _+_, _*_, _/_, _%_, _^_, _<_}
 use mathlib.Core.Bool.{Bool, true, false, _&&_}
 use mathlib.Core.List.{List, [], _∷_, _++_}
 use lib.Dec.{eqb}
-use lib.ListN.{length, drop}
+use lib.ListN.{length, take, drop}
 
 -- the longest string of bits that the papers speak of: "n is at most 2,040", "a length w (1 to 2,040)"
 abbrev pub longest : ℕ
@@ -19,6 +19,11 @@ AllBits (b ∷ x) = (b < 2) × AllBits x
 abbrev pub AllBytes : List ℕ → Type 0
 AllBytes [] = Unit
 AllBytes (v ∷ s) = (v < 256) × AllBytes s
+
+-- n pieces of w elements each, one after another
+unfoldable pub cut : (n w : ℕ) → List ℕ → List (List ℕ)
+cut zero w x = []
+cut (suc n) w x = take w x ∷ cut n w (drop w x)
 
 -- the number that the first k bits spell, first bit highest; past the end of the string stands 0
 unfoldable pub number : ℕ → List ℕ → ℕ

@@ -2,9 +2,9 @@
 // that is passed by value. Contracts cite specs/Bits.antt.
 ghost use mathlib.Core.Path.{_≡_};
 ghost use mathlib.Core.List.{_++_};
-ghost use Prim.Native.Nat.{_+_, _*_, _^_, _<_, _≤_};
+ghost use Prim.Native.Nat.{_+_, _-_, _*_, _^_, _<_, _≤_};
 ghost use lib.ListN.{length, take, drop, getD};
-ghost use Rattle.bits.specs.Bits.{AllBits, longest, number, digits, bytesFor, pack as packed, unpack as unpacked, fits as fit};
+ghost use Rattle.bits.specs.Bits.{AllBits, longest, number, digits, bytes, bytesFor, pack as packed, unpack as unpacked, fits as fit};
 
 // The most bits that a string has.
 pub const LONGEST: usize = 2040;
@@ -19,20 +19,72 @@ fn bit_at(s: &[u8], i: usize) -> u8
     (b >> shift) % 2
 }
 
+// The eight bits of a byte, one byte a bit, from a place of a slice on.
+fn unpack_byte(b: u8, out: &mut [u8], at: usize)
+    requires { ⌜ at + 8 ≤ length (now out) ⌝ }
+    ensures { λ _. ⌜ now (out .exit) ≡ take at (now (out .entry)) ++ digits 8 b ++ drop (at + 8) (now (out .entry)) ⌝ }
+{
+    out[at] = b / 128 % 2;
+    out[at + 1] = b / 64 % 2;
+    out[at + 2] = b / 32 % 2;
+    out[at + 3] = b / 16 % 2;
+    out[at + 4] = b / 8 % 2;
+    out[at + 5] = b / 4 % 2;
+    out[at + 6] = b / 2 % 2;
+    out[at + 7] = b % 2;
+}
+
+// The first n bytes of a slice, one byte a bit, at the start of another.
+fn unpack_bytes(s: &[u8], n: usize, out: &mut [u8])
+    requires { ⌜ (n ≤ length (now s)) × (n * 8 ≤ length (now out)) ⌝ }
+    ensures { λ _. ⌜ now (out .exit) ≡ take (n * 8) (unpacked (now (s .entry))) ++ drop (n * 8) (now (out .entry)) ⌝ }
+{
+    let mut i: usize = 0;
+    while i < n {
+        unpack_byte(s[i], out, i * 8);
+        i += 1;
+    }
+}
+
+// The bits of packed bytes from one place up to another, one byte a bit, at the same places of a slice.
+fn unpack_part(s: &[u8], from: usize, to: usize, out: &mut [u8])
+    requires { ⌜ (from ≤ to) × ((to ≤ length (now s) * 8) × (to ≤ length (now out))) ⌝ }
+    ensures { λ _. ⌜ now (out .exit) ≡ take from (now (out .entry)) ++ take (to - from) (drop from (unpacked (now (s .entry)))) ++ drop (from + (to - from)) (now (out .entry)) ⌝ }
+{
+    let n = to - from;
+    let mut i: usize = 0;
+    while i < n {
+        out[from + i] = bit_at(s, from + i);
+        i += 1;
+    }
+}
+
 // The first w bits of packed bytes, one byte a bit, at the start of a slice.
 pub fn unpack(s: &[u8], w: usize, out: &mut [u8])
     requires { ⌜ (w ≤ length (now s) * 8) × (w ≤ length (now out)) ⌝ }
     ensures { λ _. ⌜ now (out .exit) ≡ take w (unpacked (now (s .entry))) ++ drop w (now (out .entry)) ⌝ }
 {
-    let mut i: usize = 0;
-    while i < w {
-        out[i] = bit_at(s, i);
-        i += 1;
-    }
+    let n = w / 8;
+    unpack_bytes(s, n, out);
+    unpack_part(s, n * 8, w, out);
 }
 
-// Eight bits from a place on, as a byte; past the end of the string stands 0.
-fn byte_at(bits: &[u8], at: usize) -> u8
+// The next eight bits of a string, as a byte.
+fn whole_byte(bits: &[u8], at: usize) -> u8
+    requires { ⌜ AllBits (now bits) × (at + 8 ≤ length (now bits)) ⌝ }
+    ensures { λ r. ⌜ r ≡ number 8 (drop at (now (bits .entry))) ⌝ }
+{
+    let mut v: u8 = 0;
+    let mut j: usize = 0;
+    while j < 8 {
+        v = v * 2 + bits[at + j];
+        j += 1;
+    }
+    v
+}
+
+// The same near the end of a string: past the end stands 0.
+fn last_byte(bits: &[u8], at: usize) -> u8
     requires { ⌜ AllBits (now bits) × (at < length (now bits)) ⌝ }
     ensures { λ r. ⌜ r ≡ number 8 (drop at (now (bits .entry))) ⌝ }
 {
@@ -48,16 +100,27 @@ fn byte_at(bits: &[u8], at: usize) -> u8
     v
 }
 
+// The first n whole bytes of a string, at the start of a slice.
+fn pack_bytes(bits: &[u8], n: usize, out: &mut [u8])
+    requires { ⌜ AllBits (now bits) × ((n * 8 ≤ length (now bits)) × (n ≤ length (now out))) ⌝ }
+    ensures { λ _. ⌜ now (out .exit) ≡ bytes n (now (bits .entry)) ++ drop n (now (out .entry)) ⌝ }
+{
+    let mut i: usize = 0;
+    while i < n {
+        out[i] = whole_byte(bits, i * 8);
+        i += 1;
+    }
+}
+
 // A string, packed, at the start of a slice.
 pub fn pack(bits: &[u8], out: &mut [u8])
     requires { ⌜ AllBits (now bits) × ((length (now bits) ≤ longest) × (bytesFor (length (now bits)) ≤ length (now out))) ⌝ }
     ensures { λ _. ⌜ now (out .exit) ≡ packed (now (bits .entry)) ++ drop (bytesFor (length (now (bits .entry)))) (now (out .entry)) ⌝ }
 {
-    let n = (bits.len() + 7) / 8;
-    let mut i: usize = 0;
-    while i < n {
-        out[i] = byte_at(bits, i * 8);
-        i += 1;
+    let n = bits.len() / 8;
+    pack_bytes(bits, n, out);
+    if n * 8 < bits.len() {
+        out[n] = last_byte(bits, n * 8);
     }
 }
 

@@ -4,6 +4,7 @@ use mathlib.Core.Bool.{Bool, _&&_}
 use mathlib.Core.List.{List, [], _∷_, flatMap, map}
 use lib.Dec.{leb}
 use lib.ListN.{take, drop}
+use Rattle.bits.specs.Bits.{cut}
 use Rattle.message.specs.declared.Layout.{Layout}
 
 -- the layout with these numbers
@@ -26,11 +27,6 @@ blockBits l = l .l2 * l .nc
 -- the bits of a chunk-string
 abbrev pub stringBits : Layout → ℕ
 stringBits l = l .nc * l .l1
-
--- n pieces of w elements each, one after another
-unfoldable pub cut : (n w : ℕ) → List ℕ → List (List ℕ)
-cut zero w x = []
-cut (suc n) w x = take w x ∷ cut n w (drop w x)
 
 -- the numbers from i on, n of them
 unfoldable pub numbers : (i n : ℕ) → List ℕ

@@ -1,7 +1,7 @@
 // Layouts, the side message, and the two operations on it: writing the message of a row, and reading one back. Contracts cite
 // specs/.
-mod layouts;
-mod reading;
+pub mod layouts;
+pub mod reading;
 
 use refusal::Refusal;
 

@@ -1,5 +1,8 @@
 // The refusals of document 01's table. Which inputs get which one is said by each operation's own definition; here stand
 // only their names, and in specs/ their numbers. Contracts cite specs/Refusal.antt.
+ghost use mathlib.Core.Path.{_≡_};
+ghost use Rattle.refusal.specs.Refusal.{numberOf};
+
 pub enum Refusal {
     // 1: a message under nine bytes, or another mark
     NoMessage,
@@ -21,4 +24,22 @@ pub enum Refusal {
     ListFull,
     // 10: a target slice shorter than what is to be written
     ShortTarget,
+}
+
+// The number of a refusal.
+pub fn number(q: Refusal) -> u32
+    ensures { λ r. ⌜ r ≡ numberOf q ⌝ }
+{
+    match q {
+        Refusal::NoMessage => 1,
+        Refusal::Version => 2,
+        Refusal::Layout => 3,
+        Refusal::MessageLength => 4,
+        Refusal::Sum => 5,
+        Refusal::SpareBit => 6,
+        Refusal::Losses => 7,
+        Refusal::Packing => 8,
+        Refusal::ListFull => 9,
+        Refusal::ShortTarget => 10,
+    }
 }

@@ -8,13 +8,13 @@ use Prim.Native.Nat.{ℕ, zero, suc, _+_, _*_, _^_, _<_, _≤_, compare, Orderin
 use native.Mathlib.Omega.{arith}
 use lib.Dec.{ltb}
 use lib.ListN.{length, take, drop, length-drop, length-map, take-append-drop}
-use Rattle.bits.specs.Bits.{AllBits, number, bytes, bytesFor, pack, unpack}
+use Rattle.bits.specs.Bits.{cut, AllBits, number, bytes, bytesFor, pack, unpack}
 use Rattle.bits.proofs.Laws.{number-lt, bits-drop}
 use Rattle.bits.proofs.Packing.{length-pack, unpack-pack}
 use Rattle.rows.specs.Rows.{allRows, keep}
 use Rattle.rows.specs.Order.{byOrder, order, Mem, Before, Ascending, Row}
 use Rattle.rows.specs.Held.{Held, none, insert, union, add, WellHeld}
-use Rattle.rows.specs.Slice.{flat, cut, heldIn, Written, packed, rowsIn}
+use Rattle.rows.specs.Slice.{flat, heldIn, Written, packed, rowsIn}
 use Rattle.rows.proofs.Order.{ComparedN, compared-n, answer-n, order-same, order-less, answer}
 use Rattle.rows.proofs.Held.{insert-only, add-add, add-well, add-length, add-kept}
 use Rattle.rows.proofs.Slice.{Wide, length-cut, flat-cut, written-held, written-written}
@@ -154,9 +154,9 @@ module _ {cap n : ℕ} {f : List ℕ → Bool} {h : Held} (w : WellHeld cap n f 
 
   -- what the function `insert` requires of a slice that holds h packed
   pub insert-ready : (s : List ℕ) (c : ℕ) (m : Bool) → heldIn (bytesFor n) s c m ≡ packed h
-      → (c ≤ cap) × Ascending (cut (bytesFor n) c s)
+      → (c ≤ cap) × Ascending (cut c (bytesFor n) s)
   insert-ready s c m e =
-      let rows : cut (bytesFor n) c s ≡ map pack (h .rows) = ap (λ (g : Held). g .rows) e in
+      let rows : cut c (bytesFor n) s ≡ map pack (h .rows) = ap (λ (g : Held). g .rows) e in
       let many : c ≡ length (h .rows) = sym (length-cut (bytesFor n) c s) ∙ ap length rows ∙ length-map (h .rows) pack in
       (omega (arith, w .atMost), subst Ascending (sym rows) (packed-ascending n (h .rows) rows-held (w .ascending)))
 

@@ -11,7 +11,8 @@ use lib.ListN.{length, take, drop, getD, set, length-append, length-drop, take-a
 use lib.Seq.{take-at, take-append-le, drop-at, drop-drop, take-take, take-add, take-suc, drop-cons, getD-take, set-at, append-snoc, length-take-le, drop-append-add}
 use Rattle.rows.specs.Order.{Less, byOrder, order, Mem, Ascending}
 use Rattle.rows.specs.Held.{Held, insert}
-use Rattle.rows.specs.Slice.{flat, cut, heldIn, Written, place}
+use Rattle.bits.specs.Bits.{cut}
+use Rattle.rows.specs.Slice.{flat, heldIn, Written, place}
 use Rattle.rows.proofs.Order.{less-trans, Compared, compared, answer, ComparedN, answer-n, order-same, mem-before}
 use Rattle.rows.proofs.Held.{insert-held}
 
@@ -90,25 +91,25 @@ abbrev pub Wide : ℕ → List (List ℕ) → Type 0
 Wide w [] = Unit
 Wide w (x ∷ xs) = (length x ≡ w) × Wide w xs
 
-pub length-cut : (w c : ℕ) (s : List ℕ) → length (cut w c s) ≡ c
+pub length-cut : (w c : ℕ) (s : List ℕ) → length (cut c w s) ≡ c
 unfolding cut
 length-cut w zero s = refl
 length-cut w (suc c) s = ap suc (length-cut w c (drop w s))
 
-pub wide-cut : (w c : ℕ) (s : List ℕ) → c * w ≤ length s → Wide w (cut w c s)
+pub wide-cut : (w c : ℕ) (s : List ℕ) → c * w ≤ length s → Wide w (cut c w s)
 unfolding cut
 wide-cut w zero s h = tt
 wide-cut w (suc c) s h =
     let e = suc-mul c w in
     (length-take-le w s (omega arith), wide-cut w c (drop w s) (simp length-drop (omega arith)))
 
-pub cut-take : (w p c : ℕ) (s : List ℕ) → p ≤ c → take p (cut w c s) ≡ cut w p s
+pub cut-take : (w p c : ℕ) (s : List ℕ) → p ≤ c → take p (cut c w s) ≡ cut p w s
 unfolding cut
 cut-take w zero c s h = refl
 cut-take w (suc p) zero s h = absurd (omega arith)
 cut-take w (suc p) (suc c) s h = ap (λ (l : List (List ℕ)). take w s ∷ l) (cut-take w p c (drop w s) (omega arith))
 
-pub cut-drop : (w p c : ℕ) (s : List ℕ) → p ≤ c → drop p (cut w c s) ≡ cut w (c - p) (drop (p * w) s)
+pub cut-drop : (w p c : ℕ) (s : List ℕ) → p ≤ c → drop p (cut c w s) ≡ cut (c - p) w (drop (p * w) s)
 unfolding cut
 cut-drop w zero c s h =
     let e : c - 0 ≡ c = omega arith in
@@ -120,14 +121,14 @@ cut-drop w (suc p) (suc c) s h =
     let d : w + p * w ≡ suc p * w = omega (arith, suc-mul p w) in
     cut-drop w p c (drop w s) (omega arith) ∙ rw (drop-drop, d, e) refl
 
-pub flat-cut : (w c : ℕ) (s : List ℕ) → flat (cut w c s) ≡ take (c * w) s
+pub flat-cut : (w c : ℕ) (s : List ℕ) → flat (cut c w s) ≡ take (c * w) s
 unfolding cut flat
 flat-cut w zero s = let z : 0 * w ≡ 0 = zero-mul w in rw z refl
 flat-cut w (suc c) s =
     let d : suc c * w ≡ w + c * w = omega (arith, suc-mul c w) in
     rw (d, take-add, flat-cut w c (drop w s)) refl
 
-pub row-at : (w i c : ℕ) (s : List ℕ) → i < c → getD (cut w c s) i [] ≡ take w (drop (i * w) s)
+pub row-at : (w i c : ℕ) (s : List ℕ) → i < c → getD (cut c w s) i [] ≡ take w (drop (i * w) s)
 unfolding cut
 row-at w i zero s h = absurd (omega arith)
 row-at w zero (suc c) s h = let z : 0 * w ≡ 0 = zero-mul w in rw z refl
@@ -145,7 +146,7 @@ unfolding flat
 length-flat w [] a = sym (zero-mul w)
 length-flat w (x ∷ xs) a = simp length-append (omega (arith, a .0, length-flat w xs (a .1), suc-mul (length xs) w))
 
-pub cut-flat : (w : ℕ) (xs : List (List ℕ)) (s : List ℕ) → Wide w xs → cut w (length xs) (flat xs ++ s) ≡ xs
+pub cut-flat : (w : ℕ) (xs : List (List ℕ)) (s : List ℕ) → Wide w xs → cut (length xs) w (flat xs ++ s) ≡ xs
 unfolding cut flat
 cut-flat w [] s a = refl
 cut-flat w (x ∷ xs) s a =
@@ -155,7 +156,7 @@ cut-flat w (x ∷ xs) s a =
 pub written-held : (w : ℕ) (h : Held) (entry exit : List ℕ) (c : ℕ) (m : Bool) → Wide w (h .rows)
     → Written w h entry exit c m → heldIn w exit c m ≡ h
 written-held w h entry exit c m a r =
-    let e : cut w c exit ≡ h .rows = ap (λ (k : ℕ). cut w k exit) (r .count) ∙ ap (cut w (length (h .rows))) (r .slice) ∙ cut-flat w (h .rows) (drop (c * w) entry) a in
+    let e : cut c w exit ≡ h .rows = ap (λ (k : ℕ). cut k w exit) (r .count) ∙ ap (cut (length (h .rows)) w) (r .slice) ∙ cut-flat w (h .rows) (drop (c * w) entry) a in
     λ i. record { rows = e i; more = r .more i }
 
 pub rows-le : (a b w : ℕ) → a ≤ b → a * w ≤ b * w
@@ -269,24 +270,24 @@ row-fits i c w h = omega (arith, suc-mul i w, rows-le (suc i) c w h)
 abbrev pub OrderAt : (s : List ℕ) (m : ℕ) (x : List ℕ) → Ordering
 OrderAt s m x = order (take (length x) (drop (m * length x) s)) x
 
-pub order-at : (s : List ℕ) (c : ℕ) (x : List ℕ) (m : ℕ) → m < c → order (getD (cut (length x) c s) m []) x ≡ OrderAt s m x
+pub order-at : (s : List ℕ) (c : ℕ) (x : List ℕ) (m : ℕ) → m < c → order (getD (cut c (length x) s) m []) x ≡ OrderAt s m x
 order-at s c x m low = ap (λ (v : List ℕ). order v x) (row-at (length x) m c s low)
 
 module _ (s : List ℕ) (c : ℕ) (x : List ℕ) (m r : ℕ) (low : m < c) (e : r ≡ byOrder (OrderAt s m x) 0 1 2) where
-  in-rows : m < length (cut (length x) c s)
+  in-rows : m < length (cut c (length x) s)
   in-rows = rw length-cut low
 
-  pub place-up : Ascending (cut (length x) c s) → r ≡ 0 → m + 1 ≤ place x (cut (length x) c s)
+  pub place-up : Ascending (cut c (length x) s) → r ≡ 0 → m + 1 ≤ place x (cut c (length x) s)
   place-up a z =
-      let p = place-above x m (cut (length x) c s) a in-rows (order-at s c x m low ∙ answered-less (OrderAt s m x) r e z) in
+      let p = place-above x m (cut c (length x) s) a in-rows (order-at s c x m low ∙ answered-less (OrderAt s m x) r e z) in
       omega arith
 
-  pub place-down : (r ≡ 0 → ⊥) → place x (cut (length x) c s) ≤ m
+  pub place-down : (r ≡ 0 → ⊥) → place x (cut c (length x) s) ≤ m
   place-down n =
-      place-below x m (cut (length x) c s) in-rows (λ l. answered-not-less (OrderAt s m x) r e n (sym (order-at s c x m low) ∙ l))
+      place-below x m (cut c (length x) s) in-rows (λ l. answered-not-less (OrderAt s m x) r e n (sym (order-at s c x m low) ∙ l))
 
-pub place-count : (s : List ℕ) (c : ℕ) (x : List ℕ) → place x (cut (length x) c s) ≤ c
-place-count s c x = let p = place-length x (cut (length x) c s) in omega (arith, length-cut (length x) c s)
+pub place-count : (s : List ℕ) (c : ℕ) (x : List ℕ) → place x (cut c (length x) s) ≤ c
+place-count s c x = let p = place-length x (cut c (length x) s) in omega (arith, length-cut (length x) c s)
 
 -- ---- a row put in at a place
 -- the bytes moved up, and then the row written

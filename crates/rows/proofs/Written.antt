@@ -12,16 +12,17 @@ use lib.ListN.{length, take, drop, getD, length-append, length-take, length-drop
 use lib.Seq.{take-all, take-at, take-append-add, length-take-le}
 use Rattle.rows.specs.Order.{byOrder, order, Ascending}
 use Rattle.rows.specs.Held.{Held, insert, union, add}
-use Rattle.rows.specs.Slice.{flat, cut, heldIn, Written, place}
+use Rattle.bits.specs.Bits.{cut}
+use Rattle.rows.specs.Slice.{flat, heldIn, Written, place}
 use Rattle.rows.proofs.Held.{or-true, or-false}
 use Rattle.rows.proofs.Slice.{place-length, insert-there, insert-place, length-cut, cut-take, cut-drop, flat-cut, flat-append, OrderAt, order-at, answered-same, answered-not-same}
 
 -- the row at the place p of x, if there is one, is not x
 abbrev pub Absent : (s : List ℕ) (c : ℕ) (x : List ℕ) (p : ℕ) → Type 0
-Absent s c x p = p < c → order (getD (cut (length x) c s) p []) x ≡ Ordering·eq → ⊥
+Absent s c x p = p < c → order (getD (cut c (length x) s) p []) x ≡ Ordering·eq → ⊥
 
 module _ (s : List ℕ) (c : ℕ) (x : List ℕ) (p r : ℕ) (low : p < c) (e : r ≡ byOrder (OrderAt s p x) 0 1 2) where
-  pub present : r ≡ 1 → order (getD (cut (length x) c s) p []) x ≡ Ordering·eq
+  pub present : r ≡ 1 → order (getD (cut c (length x) s) p []) x ≡ Ordering·eq
   present one = order-at s c x p low ∙ answered-same (OrderAt s p x) r e one
 
   pub absent-other : (r ≡ 1 → ⊥) → Absent s c x p
@@ -32,13 +33,13 @@ absent-end s c x p h l = absurd (omega arith)
 
 -- the bytes that the row and the rows around it take, where the first t rows stay
 put-flat : (w c p t : ℕ) (s x : List ℕ) → p ≤ t → t ≤ c
-    → take (p * w) s ++ (x ++ (take (t * w - p * w) (drop (p * w) s) ++ drop (t * w + w) s)) ≡ flat (take p (cut w c s) ++ (x ∷ take (t - p) (drop p (cut w c s)))) ++ drop ((t + 1) * w) s
+    → take (p * w) s ++ (x ++ (take (t * w - p * w) (drop (p * w) s) ++ drop (t * w + w) s)) ≡ flat (take p (cut c w s) ++ (x ∷ take (t - p) (drop p (cut c w s)))) ++ drop ((t + 1) * w) s
 unfolding flat
 put-flat w c p t s x h k =
     let d : t * w - p * w ≡ (t - p) * w = sub-rows t p w h in
     let n : t * w + w ≡ (t + 1) * w = rw (add-one t) (sym (suc-mul t w)) in
-    let a : flat (take p (cut w c s)) ≡ take (p * w) s = ap flat (cut-take w p c s (omega arith)) ∙ flat-cut w p s in
-    let b : flat (take (t - p) (drop p (cut w c s))) ≡ take ((t - p) * w) (drop (p * w) s) =
+    let a : flat (take p (cut c w s)) ≡ take (p * w) s = ap flat (cut-take w p c s (omega arith)) ∙ flat-cut w p s in
+    let b : flat (take (t - p) (drop p (cut c w s))) ≡ take ((t - p) * w) (drop (p * w) s) =
     ap (λ (l : List (List ℕ)). flat (take (t - p) l)) (cut-drop w p c s (omega arith))
     ∙ ap flat (cut-take w (t - p) (c - p) (drop (p * w) s) (omega arith))
     ∙ flat-cut w (t - p) (drop (p * w) s)
@@ -50,9 +51,9 @@ put-flat w c p t s x h k =
         let e : t - p + p ≡ t = omega arith in
         omega (arith, ap (λ (v : ℕ). v * w) e, add-mul (t - p) p w)
 
-module _ (s : List ℕ) (c : ℕ) (m : Bool) (cap : ℕ) (x : List ℕ) (fewer : c ≤ cap) (p : ℕ) (at : p ≡ place x (cut (length x) c s)) where
+module _ (s : List ℕ) (c : ℕ) (m : Bool) (cap : ℕ) (x : List ℕ) (fewer : c ≤ cap) (p : ℕ) (at : p ≡ place x (cut c (length x) s)) where
   abbrev Now : List (List ℕ)
-  Now = cut (length x) c s
+  Now = cut c (length x) s
 
   abbrev Next : Held
   Next = add cap (heldIn (length x) s c m) (x ∷ [])

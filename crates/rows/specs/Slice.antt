@@ -5,7 +5,7 @@ use mathlib.Core.Path.{_≡_}
 use mathlib.Core.Bool.{Bool}
 use mathlib.Core.List.{List, [], _∷_, _++_, map}
 use lib.ListN.{length, take, drop}
-use Rattle.bits.specs.Bits.{bytesFor, pack, unpack}
+use Rattle.bits.specs.Bits.{cut, bytesFor, pack, unpack}
 use Rattle.rows.specs.Order.{order, byOrder}
 use Rattle.rows.specs.Held.{Held}
 
@@ -14,14 +14,9 @@ unfoldable pub flat : List (List ℕ) → List ℕ
 flat [] = []
 flat (x ∷ xs) = x ++ flat xs
 
--- the first c strings of w bytes of a slice
-unfoldable pub cut : (w c : ℕ) → List ℕ → List (List ℕ)
-cut w zero s = []
-cut w (suc c) s = take w s ∷ cut w c (drop w s)
-
 -- what a slice holds that has c rows of w bytes at its start
 abbrev pub heldIn : (w : ℕ) (s : List ℕ) (c : ℕ) (more : Bool) → Held
-heldIn w s c more = record { rows = cut w c s; more = more }
+heldIn w s c more = record { rows = cut c w s; more = more }
 
 -- the slice holds h at exit, in rows of w bytes: its rows from the start, and beyond them the bytes as at entry
 pub record Written (w : ℕ) (h : Held) (entry exit : List ℕ) (c : ℕ) (m : Bool) : Type 0 where
@@ -36,7 +31,7 @@ packed h = record { rows = map pack (h .rows); more = h .more }
 -- the c rows of n bits that a slice holds packed
 abbrev pub rowsIn : (n : ℕ) (s : List ℕ) (c : ℕ) (more : Bool) → Held
 rowsIn n s c more =
-    record { rows = map (λ (b : List ℕ). take n (unpack b)) (cut (bytesFor n) c s); more = more }
+    record { rows = map (λ (b : List ℕ). take n (unpack b)) (cut c (bytesFor n) s); more = more }
 
 -- how many rows of an ordered list come before x
 unfoldable pub place : List ℕ → List (List ℕ) → ℕ

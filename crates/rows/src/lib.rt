@@ -6,7 +6,8 @@ ghost use Prim.Native.Nat.{_+_, _*_, _-_, _≤_};
 ghost use lib.ListN.{length, take, drop};
 ghost use Rattle.rows.specs.Order.{order, byOrder, Ascending};
 ghost use Rattle.rows.specs.Held.{add};
-ghost use Rattle.rows.specs.Slice.{cut, heldIn, Written, place as placed};
+ghost use Rattle.bits.specs.Bits.{cut};
+ghost use Rattle.rows.specs.Slice.{heldIn, Written, place as placed};
 
 // How many rows the list slice holds, and whether more were found than fit.
 pub struct Kept {
@@ -38,8 +39,8 @@ pub fn compare(list: &[u8], at: usize, x: &[u8]) -> u8
 
 // How many of the rows held come before x.
 pub fn place(list: &[u8], count: usize, x: &[u8]) -> usize
-    requires { ⌜ (count * length (now x) ≤ length (now list)) × Ascending (cut (length (now x)) count (now list)) ⌝ }
-    ensures { λ r. ⌜ r ≡ placed (now (x .entry)) (cut (length (now (x .entry))) count (now (list .entry))) ⌝ }
+    requires { ⌜ (count * length (now x) ≤ length (now list)) × Ascending (cut count (length (now x)) (now list)) ⌝ }
+    ensures { λ r. ⌜ r ≡ placed (now (x .entry)) (cut count (length (now (x .entry))) (now (list .entry))) ⌝ }
 {
     let w = x.len();
     let mut low: usize = 0;
@@ -97,7 +98,7 @@ fn put_row(list: &mut [u8], at: usize, to: usize, x: &[u8])
 // Adds the row x to the rows held: it goes to its place in the order, once; of a full list the last row is pushed out.
 pub fn insert(list: &mut [u8], kept: Kept, cap: usize, x: &[u8]) -> Kept
     requires { ⌜ (1 ≤ length (now x)) × ((cap * length (now x) ≤ length (now list)) × ((kept .count ≤ cap)
-        × Ascending (cut (length (now x)) (kept .count) (now list)))) ⌝ }
+        × Ascending (cut (kept .count) (length (now x)) (now list)))) ⌝ }
     ensures { λ r. ⌜ Written (length (now (x .entry)))
         (add cap (heldIn (length (now (x .entry))) (now (list .entry)) (kept .count) (kept .more)) (now (x .entry) ∷ []))
         (now (list .entry)) (now (list .exit)) (r .count) (r .more) ⌝ }

@@ -1,78 +1,62 @@
 use borrow.Author.Needs.{needs}
-use Rattle.bits.proofs.Copy.{front-next}
-use Rattle.bits.proofs.Packing.{bytes-at, length-bytes}
-use Rattle.bits.specs.Bits.{bytes, pack}
-use lib.Seq.{take-all}
-use lib.ListN.{length, getD, take, drop, set, length-set}
+use Rattle.bits.proofs.Packing.{packed-whole, packed-rest}
+use Rattle.bits.specs.Bits.{number, bytes}
+use lib.ListN.{length, set, drop}
 use native.Mathlib.Omega.{arith}
+use Prim.Native.Nat.{ℕ, _*_, _/_}
 use mathlib.Core.List.{List, _++_}
-use mathlib.Core.Path.{_≡_, refl, _∙_, ap, sym}
-use Prim.Native.Nat.{ℕ, _+_, _-_, _*_, _/_, _%_, _^_, _<_, _≤_}
+use mathlib.Core.Path.{_≡_, refl, _∙_}
 use Rattle.bits.proofs.pack.Statement.{statement}
 use Rattle.bits.proofs.pack.Tie as tie
 
-abbrev Inv-loop : tie.InvT-loop
-Inv-loop bits out₀ n i₀ out i = (i ≤ n) × ((length out ≡ length out₀) × (out ≡ take i (bytes n bits) ++ drop i out₀))
+pack-bytes-requires : tie.Need-pack-bytes-requires
+pack-bytes-requires c κs = search needs
 
-abbrev μ-loop : tie.MeasureT-loop
-μ-loop bits out₀ n i₀ out i = n - i
+mul-if1 : tie.Need-mul-if1
+mul-if1 c = search needs
 
-add-n : tie.Need-add-n Inv-loop μ-loop
-add-n c = search needs
+mul-last-byte : tie.Need-mul-last-byte
+mul-last-byte c = search needs
 
-loop-holds : tie.Need-loop-holds Inv-loop μ-loop
-loop-holds c = (search needs, (search needs, refl))
+last-byte-requires : tie.Need-last-byte-requires
+last-byte-requires c κs = search needs
 
-mul-byte-at : tie.Need-mul-byte-at Inv-loop μ-loop
-mul-byte-at c = search needs
-
-byte-at-requires : tie.Need-byte-at-requires Inv-loop μ-loop
-byte-at-requires c κs = search needs
-
-slice-write-out : tie.Need-slice-write-out Inv-loop μ-loop
+slice-write-out : tie.Need-slice-write-out
 slice-write-out c = search needs
 
-add-i : tie.Need-add-i Inv-loop μ-loop
-add-i c = search needs
-
-loop-less : tie.Need-loop-less Inv-loop μ-loop
-loop-less c = search needs
-
-loop-again : tie.Need-loop-again Inv-loop μ-loop
-loop-again c =
-    let a = c .before .before .before .before .before .args in
-    let p = c .before .before .loop in
-    let x : List ℕ = a .bits .now in
-    let n : ℕ = (length x + 7) / 8 in
-    let b : c .byte-at .result ≡ getD (bytes n x) (p .i) 0 = c .byte-at .ensures ∙ sym (bytes-at n (p .i) x (omega arith)) in
-    (omega arith, (simp length-set (p .inv .1 .0), rw (p .inv .1 .1, b) (front-next (a .out .now) (bytes n x) (p .i) (omega arith) (omega (arith, length-bytes n x)))))
-
-same-length : tie.Need-same-length Inv-loop μ-loop
+same-length : tie.Need-same-length
 same-length c = search needs
 
-returns : tie.Need-returns Inv-loop μ-loop
-unfolding pack
+-- the last byte is stored behind the whole ones
+stored : (q x o : List ℕ) (v : ℕ) → q ≡ bytes (length x / 8) x ++ drop (length x / 8) o → v ≡ number 8 (drop (length x / 8 * 8) x) → set q (length x / 8) v ≡ set (bytes (length x / 8) x ++ drop (length x / 8) o) (length x / 8) (number 8 (drop (length x / 8 * 8) x))
+stored q x o v e f = rw (e, f) refl
+
+returns : tie.Need-returns
 returns c =
-    let a = c .before .before .before .before .args in
-    let p = c .before .loop in
-    let n : ℕ = (length (a .bits .now) + 7) / 8 in
-    let e : p .i ≡ n = omega arith in
-    let whole : take (p .i) (bytes n (a .bits .now)) ≡ bytes n (a .bits .now) = take-all (p .i) (bytes n (a .bits .now)) (omega (arith, length-bytes n (a .bits .now))) in
-    p .inv .1 .1 ∙ rw (whole, e) refl
+    let s = c .before .before .before .before .before .before .before .before in
+    let x : List ℕ = s .args .bits .now in
+    let p = c .before .before .before .before .pack-bytes in
+    stored (p .last .1 .1 .0) x (s .args .out .now) (c .last-byte .result) (p .ensures) (c .last-byte .ensures) ∙ packed-rest x (s .args .out .now) (omega (arith, c .before .if1 .taken)) (omega (arith, s .pre .1 .1))
+
+same-length-2 : tie.Need-same-length-2
+same-length-2 c = search needs
+
+returns-2 : tie.Need-returns-2
+returns-2 c =
+    let s = c .before .before .before .before .before .before .before in
+    let x : List ℕ = s .args .bits .now in
+    c .before .before .before .pack-bytes .ensures ∙ packed-whole x (s .args .out .now) (omega (arith, c .if1 .left))
 
 pub pack-spec : {M : Type 1} → statement M
 pack-spec =
     tie.close
     (tie.spec
-    Inv-loop
-    μ-loop
-    add-n
-    loop-holds
-    mul-byte-at
-    byte-at-requires
+    pack-bytes-requires
+    mul-if1
+    mul-last-byte
+    last-byte-requires
     slice-write-out
-    add-i
-    loop-less
-    loop-again
     same-length
-    returns)
+    returns
+    same-length-2
+    returns-2)

@@ -3,13 +3,14 @@ use borrow.Author.Needs.{needs}
 use Prim.Native.Nat.{ℕ, _+_, _-_, _*_, _/_, _≤_}
 use native.Mathlib.Omega.{arith}
 use lib.ListN.{length}
-use Rattle.rows.specs.Slice.{cut, place}
+use Rattle.bits.specs.Bits.{cut}
+use Rattle.rows.specs.Slice.{place}
 use Rattle.rows.proofs.Slice.{row-fits, place-up, place-down, place-count}
 use Rattle.rows.proofs.place.Statement.{statement}
 use Rattle.rows.proofs.place.Tie as tie
 
 abbrev Inv-loop : tie.InvT-loop
-Inv-loop list count x w low₀ high₀ low high = (low ≤ place x (cut (length x) count list)) × ((place x (cut (length x) count list) ≤ high) × (high ≤ count))
+Inv-loop list count x w low₀ high₀ low high = (low ≤ place x (cut count (length x) list)) × ((place x (cut count (length x) list) ≤ high) × (high ≤ count))
 
 abbrev μ-loop : tie.MeasureT-loop
 μ-loop list count x w low₀ high₀ low high = high - low

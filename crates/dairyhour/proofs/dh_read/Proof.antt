@@ -1,0 +1,53 @@
+use borrow.Author.Needs.{needs}
+use Rattle.message.specs.Read.{LayoutAnswer, noLayout, readOf}
+use Prim.Native.Nat.{ℕ}
+use mathlib.Core.Path.{_≡_, sym, ap, _∙_}
+use Rattle.dairyhour.proofs.dh_read.Statement.{statement}
+use Rattle.dairyhour.proofs.dh_read.Tie as tie
+
+read-requires : tie.Need-read-requires
+read-requires c κs = search needs
+
+enum-known-answer : tie.Need-enum-known-answer
+enum-known-answer c = search needs
+
+enum-known-answer-2 : tie.Need-enum-known-answer-2
+enum-known-answer-2 c = search needs
+
+number-requires : tie.Need-number-requires
+number-requires c κs = search needs
+
+same-length : tie.Need-same-length
+same-length c = search needs
+
+-- a refusal's answer, by its number
+numbered : ℕ → LayoutAnswer
+numbered n = record { refusal = n; layout = noLayout }
+
+returns : tie.Need-returns
+returns c =
+    let k = c .before .before .before .before .before in
+    (ap readOf (sym (c .before .answer .given .1)) ∙ k .read .ensures .0, k .read .ensures .1)
+
+same-length-2 : tie.Need-same-length-2
+same-length-2 c = search needs
+
+returns-2 : tie.Need-returns-2
+unfolding numbered
+returns-2 c =
+    let k = c .before .before .before .before .before .before in
+    let e = c .before .before .answer2 .given .1 in
+    (ap numbered (c .number .ensures) ∙ ap readOf (sym e) ∙ k .read .ensures .0, k .read .ensures .1)
+
+pub dh-read-spec : {M : Type 1} → statement M
+dh-read-spec =
+    tie.close
+    (tie.spec
+    read-requires
+    enum-known-answer
+    enum-known-answer-2
+    number-requires
+    same-length
+    returns
+    same-length-2
+    returns-2)
