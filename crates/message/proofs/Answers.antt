@@ -52,9 +52,9 @@ unfolding layoutAnswer
 fit-answer n s l q e = rw (e, q) refl
 
 -- ---- what reading refuses
-all-numbered : (s : List ℕ) → Numbered (messageChecks s)
+pub all-numbered : (s : List ℕ) → Numbered (messageChecks s)
 unfolding messageChecks
-all-numbered s = ((λ z. omega arith), ((λ z. omega arith), ((λ z. omega arith), ((λ z. omega arith), ((λ z. omega arith), ((λ z. omega arith), tt))))))
+all-numbered s = omega arith
 
 module _ (s o : List ℕ) where
   -- what the message is refused for, reading refuses

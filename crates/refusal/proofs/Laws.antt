@@ -42,6 +42,16 @@ passed c cs n e = go (c .1) refl e
     go true h e = absurd (n e)
     go false h e = (h, e)
 
+-- where all checks pass, the earlier ones do
+pub passed-first : (cs ds : List Check) → firstRefusal (cs ++ ds) ≡ 0 → firstRefusal cs ≡ 0
+unfolding firstRefusal
+passed-first [] ds e = refl
+passed-first (c ∷ cs) ds e = go (c .1) e (passed-first cs ds)
+  where
+    go : (t : Bool) → cond t (c .0) (firstRefusal (cs ++ ds)) ≡ 0 → (firstRefusal (cs ++ ds) ≡ 0 → firstRefusal cs ≡ 0) → cond t (c .0) (firstRefusal cs) ≡ 0
+    go true e f = e
+    go false e f = f e
+
 -- no refusal has the number 0
 pub numbered : (q : Refusal) → 1 ≤ numberOf q
 numbered NoMessage = omega arith

@@ -1,0 +1,8 @@
+-- The laws of specs/, for the proofs of the crates that stand on this one.
+pub mod Greedy
+pub mod Rule
+pub mod Blocks
+pub mod Own
+pub mod Consistent
+pub mod List
+pub mod Demand3

@@ -1,0 +1,3 @@
+pub mod Consistent
+pub mod List
+pub mod Greedy
