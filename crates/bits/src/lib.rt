@@ -9,6 +9,13 @@ ghost use Rattle.bits.specs.Bits.{AllBits, longest, number, digits, byte
 // The most bits that a string has.
 pub const LONGEST: usize = 2040;
 
+// A byte as a number of any size.
+pub fn wide(b: u8) -> usize
+    ensures { λ r. ⌜ r ≡ b ⌝ }
+{
+    b as usize
+}
+
 // Bit i of packed bytes.
 fn bit_at(s: &[u8], i: usize) -> u8
     requires { ⌜ i < length (now s) * 8 ⌝ }

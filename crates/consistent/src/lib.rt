@@ -1,2 +1,73 @@
-// When a row is consistent, the list of the consistent rows, greedy matching, and the source's rule on single losses. There is no
-// code here: see specs/ and proofs/.
+// Which rows are consistent with a message and a received row, and the tests that a search makes of a candidate. Contracts cite
+// specs/Consistent.antt and specs/Greedy.antt; strings are unpacked, one byte a bit.
+ghost use mathlib.Core.Path.{_≡_};
+ghost use mathlib.Core.Bool.{_&&_};
+ghost use mathlib.Core.List.{[], _∷_};
+ghost use Prim.Native.Nat.{_+_, _-_, _*_, _≤_};
+ghost use lib.ListN.{length, drop};
+ghost use Rattle.bits.specs.Bits.{same, cut};
+ghost use Rattle.rows.specs.Deletion.{comesFrom};
+ghost use Rattle.consistent.specs.Greedy.{eat, losses, table, used};
+
+// Where y goes on after a bit of x: one place further where the bit takes what stands at place j.
+fn after_bit(b: u8, y: &[u8], j: usize) -> usize
+    requires { ⌜ j ≤ length (now y) ⌝ }
+    ensures { λ r. ⌜ (r ≤ length (now (y .entry))) × ((eat (b ∷ []) (drop j (now (y .entry))) ≡ drop r (now (y .entry)))
+        × (losses (b ∷ []) (drop j (now (y .entry))) + r ≡ j + 1)) ⌝ }
+{
+    if y.len() <= j {
+        return j;
+    }
+    if y[j] != b {
+        return j;
+    }
+    j + 1
+}
+
+// How many bits of y the string x takes, bit by bit from the left.
+fn taken(x: &[u8], y: &[u8]) -> usize
+    ensures { λ r. ⌜ (r ≤ length (now (y .entry))) × ((eat (now (x .entry)) (now (y .entry)) ≡ drop r (now (y .entry)))
+        × (losses (now (x .entry)) (now (y .entry)) + r ≡ length (now (x .entry)))) ⌝ }
+{
+    let mut j: usize = 0;
+    let mut i: usize = 0;
+    while i < x.len() {
+        j = after_bit(x[i], y, j);
+        i += 1;
+    }
+    j
+}
+
+// Whether y comes from x by deleting bits.
+pub fn comes(x: &[u8], y: &[u8]) -> bool
+    ensures { λ r. ⌜ r ≡ comesFrom (now (x .entry)) (length (now (x .entry)) - length (now (y .entry))) (now (y .entry)) ⌝ }
+{
+    if taken(x, y) == y.len() {
+        return true;
+    }
+    false
+}
+
+// Whether the pieces of w bits that x is cut into lose just these counts, one after another, and y is used up.
+pub fn loses(x: &[u8], w: usize, y: &[u8], counts: &[u8]) -> bool
+    requires { ⌜ length (now x) ≡ length (now counts) * w ⌝ }
+    ensures { λ r. ⌜ r ≡ (same (table (cut (length (now (counts .entry))) w (now (x .entry))) (now (y .entry))) (now (counts .entry))
+        && used (now (x .entry)) (now (y .entry))) ⌝ }
+{
+    let mut at: usize = 0;
+    let mut i: usize = 0;
+    while i < counts.len() {
+        let from = i * w;
+        let to = from + w;
+        let n = taken(&x[from..to], &y[at..]);
+        if w - n != bits::wide(counts[i]) {
+            return false;
+        }
+        at += n;
+        i += 1;
+    }
+    if at == y.len() {
+        return true;
+    }
+    false
+}

@@ -14,13 +14,6 @@ ghost use Rattle.message.specs.Layout.{layout, legal as isLegal, blockBi
 ghost use Rattle.message.specs.Message.{fieldsLength, messageBytes};
 ghost use Rattle.message.specs.Read.{marked as isMarked, versionOne, layoutOf, fields, body, readBlockSums, readStringSums, readChecks, someAbove, messageRefusal, readRefusal, readOf, layoutAnswer, readTarget};
 
-// A byte as a number of any size.
-fn wide(b: u8) -> usize
-    ensures { λ r. ⌜ r ≡ b ⌝ }
-{
-    b as usize
-}
-
 // Whether there are nine bytes, of which the first three are the mark.
 fn marked(s: &[u8]) -> bool
     ensures { λ r. ⌜ r ≡ isMarked (now (s .entry)) ⌝ }
@@ -128,7 +121,13 @@ pub fn check(s: &[u8]) -> Read
     if !version_one(s) {
         return Read::Refused(Refusal::Version);
     }
-    check_layout(wide(s[5]), wide(s[6]), wide(s[7]), wide(s[8]), s)
+    check_layout(
+        bits::wide(s[5]),
+        bits::wide(s[6]),
+        bits::wide(s[7]),
+        bits::wide(s[8]),
+        s,
+    )
 }
 
 // n fields of k bits, the first at bit at of packed bytes, written to a slice from an entry on.

@@ -1,0 +1,120 @@
+-- Greedy matching one bit, and one piece, at a time. Assumes nothing.
+use mathlib.Core.Path.{_≡_, refl, sym, ap, ap₂, _∙_}
+use mathlib.Core.Bool.{Bool, true, false, cond, _&&_, and-false}
+use mathlib.Core.List.{List, [], _∷_, _++_}
+use Prim.Native.Nat.{ℕ, zero, suc, _+_, _-_, _*_, _<_, _≤_}
+use native.Mathlib.Nat.{add-mul, one-mul}
+use native.Mathlib.Numerals.{add-one}
+use native.Mathlib.Omega.{arith}
+use borrow.Author.Tests.{eq-eqb, ne-eqb}
+use borrow.Rule.Slice.PartAt.{part-to-end}
+use lib.Dec.{eqb}
+use lib.ListN.{length, getD, take, drop, drop-of-length-le, take-append-drop, length-drop}
+use lib.Seq.{drop-cons, drop-drop, length-take-le}
+use Rattle.bits.specs.Bits.{same, cut}
+use Rattle.bits.proofs.Laws.{refuted}
+use Rattle.rows.specs.Deletion.{comesFrom}
+use Rattle.consistent.specs.Greedy.{eat, losses, table, used}
+use Rattle.consistent.proofs.Greedy.{eat-append, losses-append, comes-eat, eat-comes}
+
+-- ---- one bit
+-- after a bit b, y goes on at place r instead of j
+abbrev pub AfterBit : (b : ℕ) (y : List ℕ) (j r : ℕ) → Type 0
+AfterBit b y j r = (r ≤ length y) × ((eat (b ∷ []) (drop j y) ≡ drop r y) × (losses (b ∷ []) (drop j y) + r ≡ j + 1))
+
+pub bit-past : (b : ℕ) (y : List ℕ) (j : ℕ) → j ≤ length y → length y ≤ j → AfterBit b y j j
+unfolding eat losses
+bit-past b y j h k =
+    let e : drop j y ≡ [] = drop-of-length-le y k in
+    (h, (rw e refl, rw e (omega arith)))
+
+pub bit-other : (b : ℕ) (y : List ℕ) (j : ℕ) → j < length y → (getD y j 0 ≡ b → ⊥) → AfterBit b y j j
+unfolding eat losses
+bit-other b y j h n =
+    let e : eqb b (getD y j 0) ≡ false = ne-eqb b (getD y j 0) (λ p. n (sym p)) in
+    (omega arith, (rw (drop-cons y j 0 h, e) refl, rw (drop-cons y j 0 h, e) (omega arith)))
+
+pub bit-takes : (b : ℕ) (y : List ℕ) (j : ℕ) → j < length y → getD y j 0 ≡ b → AfterBit b y j (j + 1)
+unfolding eat losses
+bit-takes b y j h p =
+    let e : eqb b (getD y j 0) ≡ true = eq-eqb b (getD y j 0) (sym p) in
+    (omega arith, (rw (drop-cons y j 0 h, e, add-one j) refl, rw (drop-cons y j 0 h, e) (omega arith)))
+
+-- the bits of x from i on against y from j on are the same a bit later
+pub bit-next : (x y : List ℕ) (i j r : ℕ) → i < length x → AfterBit (getD x i 0) y j r → (eat (drop (i + 1) x) (drop r y) ≡ eat (drop i x) (drop j y)) × (losses (drop i x) (drop j y) + r ≡ j + 1 + losses (drop (i + 1) x) (drop r y))
+bit-next x y i j r h s =
+    let b : ℕ = getD x i 0 in
+    let z : List ℕ = drop j y in
+    let d : drop i x ≡ (b ∷ []) ++ drop (i + 1) x = rw (add-one i) (drop-cons x i 0 h) in
+    let e : eat (drop i x) z ≡ eat (drop (i + 1) x) (drop r y) = ap (λ (t : List ℕ). eat t z) d ∙ eat-append (b ∷ []) (drop (i + 1) x) z ∙ ap (eat (drop (i + 1) x)) (s .1 .0) in
+    let l : losses (drop i x) z ≡ losses (b ∷ []) z + losses (drop (i + 1) x) (drop r y) = ap (λ (t : List ℕ). losses t z) d ∙ losses-append (b ∷ []) (drop (i + 1) x) z ∙ ap (λ (t : List ℕ). losses (b ∷ []) z + losses (drop (i + 1) x) t) (s .1 .0) in
+    (sym e, omega (arith, l, s .1 .1))
+
+-- and at the end nothing of x is left
+pub bits-end : (x y : List ℕ) (i j : ℕ) → length x ≤ i → (eat (drop i x) (drop j y) ≡ drop j y) × (losses (drop i x) (drop j y) ≡ 0)
+unfolding eat losses
+bits-end x y i j h = rw (drop-of-length-le x h) (refl, refl)
+
+-- ---- the whole string
+-- y comes from x exactly when x takes all of it
+pub comes-used : (x y : List ℕ) → eat x y ≡ [] → true ≡ comesFrom x (length x - length y) y
+comes-used x y e = sym (eat-comes x y e)
+
+pub comes-not : (x y : List ℕ) → (eat x y ≡ [] → ⊥) → false ≡ comesFrom x (length x - length y) y
+comes-not x y n = refuted (comesFrom x (length x - length y) y) (λ e. n (comes-eat x (length x - length y) y e))
+
+-- ---- piece by piece
+-- the pieces of x lose these counts against y, and y is used up
+abbrev pub loseAll : (n w : ℕ) (x y counts : List ℕ) → Bool
+loseAll n w x y counts = same (table (cut n w x) y) counts && used x y
+
+used-rest : (w : ℕ) (x y : List ℕ) → used x y ≡ used (drop w x) (eat (take w x) y)
+unfolding used
+used-rest w x y = ap (λ (t : List ℕ). eqb (length t) 0) (ap (λ (t : List ℕ). eat t y) (sym (take-append-drop w x)) ∙ eat-append (take w x) (drop w x) y)
+
+-- a piece that loses its count leaves the rest to be looked at
+pub loses-next : (n w c : ℕ) (x y counts : List ℕ) → losses (take w x) y ≡ c → loseAll n w (drop w x) (eat (take w x) y) counts ≡ loseAll (suc n) w x y (c ∷ counts)
+unfolding cut table same
+loses-next n w c x y counts e =
+    rw (eq-eqb (losses (take w x) y) c e) (ap (λ (u : Bool). same (table (cut n w (drop w x)) (eat (take w x) y)) counts && u) (sym (used-rest w x y)))
+
+-- a piece that loses another settles it
+pub loses-stop : (n w c : ℕ) (x y counts : List ℕ) → (losses (take w x) y ≡ c → ⊥) → false ≡ loseAll (suc n) w x y (c ∷ counts)
+unfolding cut table same
+loses-stop n w c x y counts k = rw (ne-eqb (losses (take w x) y) c k) refl
+
+-- piece i, against what the earlier pieces left of y, which is y from place at on
+module _ (x y counts : List ℕ) (n w i at r : ℕ) (h : i < n) (k : length counts ≡ n) where
+  -- what is to be looked at from piece i on, taken apart
+  apart : loseAll (n - i) w (drop (i * w) x) (drop at y) (drop i counts) ≡ loseAll (suc (n - (i + 1))) w (drop (i * w) x) (drop at y) (getD counts i 0 ∷ drop (i + 1) counts)
+  apart =
+      let e : n - i ≡ suc (n - (i + 1)) = omega arith in
+      ap₂ (λ (m : ℕ) (c : List ℕ). loseAll m w (drop (i * w) x) (drop at y) c) e (rw (add-one i) (drop-cons counts i 0 (omega arith)))
+
+  pub piece-next : eat (take w (drop (i * w) x)) (drop at y) ≡ drop r (drop at y) → losses (take w (drop (i * w) x)) (drop at y) ≡ getD counts i 0
+      → loseAll (n - (i + 1)) w (drop ((i + 1) * w) x) (drop (at + r) y) (drop (i + 1) counts) ≡ loseAll (n - i) w (drop (i * w) x) (drop at y) (drop i counts)
+  piece-next e l =
+      let f : drop w (drop (i * w) x) ≡ drop ((i + 1) * w) x = drop-drop w (i * w) x ∙ ap (λ (m : ℕ). drop m x) (sym (add-mul i 1 w ∙ ap (λ (m : ℕ). i * w + m) (one-mul w))) in
+      let g : eat (take w (drop (i * w) x)) (drop at y) ≡ drop (at + r) y = e ∙ drop-drop r at y in
+      sym (apart ∙ sym (loses-next (n - (i + 1)) w (getD counts i 0) (drop (i * w) x) (drop at y) (drop (i + 1) counts) l)
+      ∙ ap₂ (λ (s t : List ℕ). loseAll (n - (i + 1)) w s t (drop (i + 1) counts)) f g)
+
+  pub piece-stop : (losses (take w (drop (i * w) x)) (drop at y) ≡ getD counts i 0 → ⊥) → false ≡ loseAll (n - i) w (drop (i * w) x) (drop at y) (drop i counts)
+  piece-stop l = loses-stop (n - (i + 1)) w (getD counts i 0) (drop (i * w) x) (drop at y) (drop (i + 1) counts) l ∙ sym apart
+
+-- past the last piece it is left to see whether y is used up
+pub pieces-end : (x y counts : List ℕ) (n w i at : ℕ) → n ≤ i → length x ≤ i * w → length counts ≤ i → loseAll (n - i) w (drop (i * w) x) (drop at y) (drop i counts) ≡ eqb (length y - at) 0
+unfolding cut table same used eat
+pieces-end x y counts n w i at h k l =
+    let e : n - i ≡ 0 = omega arith in
+    rw (e, drop-of-length-le x k, drop-of-length-le counts l, length-drop at y) refl
+
+-- what matching finds of a piece, where the code has it and the rest of y as parts of their slices
+pub piece-found : (x y : List ℕ) (w i at r : ℕ) → i * w + w ≤ length x
+    → (r ≤ length (take (length y - at) (drop at y))) × ((eat (take (i * w + w - i * w) (drop (i * w) x)) (take (length y - at) (drop at y)) ≡ drop r (take (length y - at) (drop at y))) × (losses (take (i * w + w - i * w) (drop (i * w) x)) (take (length y - at) (drop at y)) + r ≡ length (take (i * w + w - i * w) (drop (i * w) x))))
+    → (r ≤ length y - at) × ((eat (take w (drop (i * w) x)) (drop at y) ≡ drop r (drop at y)) × (losses (take w (drop (i * w) x)) (drop at y) + r ≡ w))
+piece-found x y w i at r h f =
+    let e : i * w + w - i * w ≡ w = omega arith in
+    let n : length (take w (drop (i * w) x)) ≡ w = length-take-le w (drop (i * w) x) (simp length-drop (omega arith)) in
+    let g = rw (part-to-end y at, e, n, length-drop at y) at f in
+    g
