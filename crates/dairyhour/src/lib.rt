@@ -1,10 +1,13 @@
 // The C boundary: each operation under its C name, with its answer as a plain struct. There is no logic here; each contract is
 // that of the operation which it wraps. include/dairyhour.h is this boundary in C.
 use message::Read;
+use message::Written;
 use vt::Mended;
 ghost use mathlib.Core.Path.{_≡_};
 ghost use lib.ListN.{length};
 ghost use Rattle.vt.specs.Mend.{mendRefusal, mendTarget};
+ghost use Rattle.message.specs.Layout.{layout};
+ghost use Rattle.message.specs.Write.{writeAnswer, writeTarget};
 ghost use Rattle.message.specs.Read.{readRefusal, layoutAnswer, readTarget};
 ghost use Rattle.dairyhour.specs.Boundary.{answerIn, layoutIn};
 
@@ -23,6 +26,31 @@ pub struct LayoutAnswer {
     pub l2: usize,
     pub nc: usize,
     pub r: usize,
+}
+
+#[no_mangle]
+pub extern "C" fn dh_write(
+    l1: usize,
+    l2: usize,
+    nc: usize,
+    r: usize,
+    row: &[u8],
+    out: &mut [u8],
+) -> Answer
+    ensures { λ a. ⌜ (answerIn a ≡ writeAnswer (layout l1 l2 nc r) (now (row .entry)) (length (now (out .entry))))
+        × (now (out .exit) ≡ writeTarget (layout l1 l2 nc r) (now (row .entry)) (now (out .entry))) ⌝ }
+{
+    let answer = message::writing::write(l1, l2, nc, r, row, out);
+    match answer {
+        Written::Length(n) => Answer {
+            refusal: 0,
+            value: n,
+        },
+        Written::Refused(q) => Answer {
+            refusal: refusal::number(q),
+            value: 0,
+        },
+    }
 }
 
 #[no_mangle]

@@ -6,3 +6,10 @@ pub mod Messages
 pub mod Longest
 pub mod Numbers
 pub mod Answers
+pub mod Positions
+pub mod Cutting
+mod Turns
+mod Placing
+mod Assembly
+mod Writes
+pub mod Roundtrip

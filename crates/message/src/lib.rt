@@ -2,6 +2,8 @@
 // specs/.
 pub mod layouts;
 pub mod reading;
+pub mod sums;
+pub mod writing;
 
 use refusal::Refusal;
 

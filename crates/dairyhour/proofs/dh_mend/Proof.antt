@@ -1,8 +1,7 @@
 use borrow.Author.Needs.{needs}
 use Rattle.vt.specs.Answer.{answerOf}
-use Rattle.refusal.specs.Refusal.{Answer}
-use Prim.Native.Nat.{ℕ}
-use mathlib.Core.Path.{_≡_, sym, ap, _∙_}
+use Rattle.dairyhour.proofs.Refusing.{refusedBy}
+use mathlib.Core.Path.{sym, ap, _∙_}
 use Rattle.dairyhour.proofs.dh_mend.Statement.{statement}
 use Rattle.dairyhour.proofs.dh_mend.Tie as tie
 
@@ -21,10 +20,6 @@ number-requires c κs = search needs
 same-length : tie.Need-same-length
 same-length c = search needs
 
--- a refusal's answer, by its number
-numbered : ℕ → Answer
-numbered n = record { refusal = n; value = 0 }
-
 returns : tie.Need-returns
 returns c =
     let k = c .before .before .before .before in
@@ -34,11 +29,10 @@ same-length-2 : tie.Need-same-length-2
 same-length-2 c = search needs
 
 returns-2 : tie.Need-returns-2
-unfolding numbered
 returns-2 c =
     let k = c .before .before .before .before .before .before in
     let e = c .before .before .answer .given .1 in
-    (ap numbered (c .number .ensures) ∙ ap answerOf (sym e) ∙ k .mend .ensures .0, k .mend .ensures .1)
+    (ap refusedBy (c .number .ensures) ∙ ap answerOf (sym e) ∙ k .mend .ensures .0, k .mend .ensures .1)
 
 pub dh-mend-spec : {M : Type 1} → statement M
 dh-mend-spec =

@@ -1,7 +1,7 @@
 use borrow.Author.Needs.{needs}
-use Rattle.message.specs.Read.{LayoutAnswer, noLayout, readOf}
-use Prim.Native.Nat.{ℕ}
-use mathlib.Core.Path.{_≡_, sym, ap, _∙_}
+use Rattle.message.specs.Read.{readOf}
+use Rattle.dairyhour.proofs.Refusing.{layoutRefusedBy}
+use mathlib.Core.Path.{sym, ap, _∙_}
 use Rattle.dairyhour.proofs.dh_read.Statement.{statement}
 use Rattle.dairyhour.proofs.dh_read.Tie as tie
 
@@ -20,10 +20,6 @@ number-requires c κs = search needs
 same-length : tie.Need-same-length
 same-length c = search needs
 
--- a refusal's answer, by its number
-numbered : ℕ → LayoutAnswer
-numbered n = record { refusal = n; layout = noLayout }
-
 returns : tie.Need-returns
 returns c =
     let k = c .before .before .before .before .before in
@@ -33,11 +29,10 @@ same-length-2 : tie.Need-same-length-2
 same-length-2 c = search needs
 
 returns-2 : tie.Need-returns-2
-unfolding numbered
 returns-2 c =
     let k = c .before .before .before .before .before .before in
     let e = c .before .before .answer2 .given .1 in
-    (ap numbered (c .number .ensures) ∙ ap readOf (sym e) ∙ k .read .ensures .0, k .read .ensures .1)
+    (ap layoutRefusedBy (c .number .ensures) ∙ ap readOf (sym e) ∙ k .read .ensures .0, k .read .ensures .1)
 
 pub dh-read-spec : {M : Type 1} → statement M
 dh-read-spec =

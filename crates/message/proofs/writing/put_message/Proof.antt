@@ -1,0 +1,155 @@
+-- `message::writing::put_message` meets its contract: what the local arrays and the target hold on the way is said in Assembly.
+-- Assumes nothing.
+use borrow.Author.Needs.{needs}
+use Rattle.message.specs.declared.Layout.{Layout}
+use Rattle.message.specs.Layout.{layout, rowBits}
+use Rattle.message.proofs.Legal.{Sizes, legal-bounds, sizes}
+use Rattle.message.proofs.Longest.{fields-high}
+use Rattle.message.proofs.Assembly.{held, fieldsOf, enough, row-lent, row-asks, head-room, fields-lent, body-room, pack-asks, assembled}
+use lib.ListN.{length, take}
+use native.Mathlib.Omega.{arith}
+use mathlib.Core.List.{List}
+use mathlib.Core.Path.{_≡_}
+use Prim.Native.Nat.{ℕ, _-_, _≤_}
+use Rattle.message.proofs.writing.put_message.Statement.{statement}
+use Rattle.message.proofs.writing.put_message.Tie as tie
+
+abbrev lay : tie.Start → Layout
+lay s = layout (s .args .l1) (s .args .l2) (s .args .nc) (s .args .r)
+
+high : (s : tie.Start) → Sizes (lay s)
+high s = sizes (lay s) (legal-bounds (lay s) (s .pre .0))
+
+mul-n : tie.Need-mul-n
+mul-n c = omega (arith, high (c .before .before) .chunks)
+
+mul-n-2 : tie.Need-mul-n-2
+mul-n-2 c = omega (arith, high (c .before .before) .row)
+
+slice-aggregate-unpack : tie.Need-slice-aggregate-unpack
+slice-aggregate-unpack c = search needs
+
+unpack-requires : tie.Need-unpack-requires
+unpack-requires c κs =
+    let s = c .before .before .before in
+    enough (lay s) (s .args .row .now) (s .args .out .now) (s .pre .0) (s .pre .1 .0) (s .pre .1 .1)
+
+sub-put-fields : tie.Need-sub-put-fields
+sub-put-fields c = search needs
+
+part-put-fields-start : tie.Need-part-put-fields-start
+part-put-fields-start c = search needs
+
+part-put-fields-end : tie.Need-part-put-fields-end
+part-put-fields-end c = omega (arith, high (c .before .before .before .before .before .before) .row)
+
+slice-aggregate-put-fields : tie.Need-slice-aggregate-put-fields
+slice-aggregate-put-fields c = search needs
+
+-- what the function is given, seen from where the row is unpacked, and the row, lent
+abbrev start : tie.After-unpack → tie.Start
+start c = c .before .before .before .before
+
+abbrev lent : tie.After-unpack → List ℕ
+lent c = take (rowBits (lay (start c)) - 0) (c .unpack .last .1 .1 .0)
+
+lent-is : (c : tie.After-unpack) → lent c ≡ held (lay (start c)) (start c .args .row .now)
+lent-is c =
+    let s = start c in
+    row-lent (lay s) (s .args .row .now) (s .args .out .now) (s .pre .0) (s .pre .1 .0) (s .pre .1 .1) (c .unpack .last .1 .1 .0) _ (c .unpack .ensures)
+
+put-fields-requires : tie.Need-put-fields-requires
+put-fields-requires c κs =
+    let u = c .before .before .before .before in
+    let s = start u in
+    row-asks (lay s) (s .args .row .now) (s .args .out .now) (s .pre .0) (s .pre .1 .0) (s .pre .1 .1) (lent u) (lent-is u)
+
+put-head-requires : tie.Need-put-head-requires
+put-head-requires c κs =
+    let s = start (c .before .before .before .before .before .before .before) in
+    (s .pre .0, head-room (lay s) (s .args .row .now) (s .args .out .now) (s .pre .0) (s .pre .1 .0) (s .pre .1 .1))
+
+fields-length-requires : tie.Need-fields-length-requires
+fields-length-requires c κs = search needs
+
+sub-pack : tie.Need-sub-pack
+sub-pack c = search needs
+
+part-pack-start : tie.Need-part-pack-start
+part-pack-start c = search needs
+
+part-pack-end : tie.Need-part-pack-end
+part-pack-end c =
+    let s = start (c .before .before .before .before .before .before .before .before .before .before .before .before) in
+    omega (arith, c .before .fields-length .ensures, fields-high (lay s) (s .pre .0))
+
+-- the unpacked row seen from where the head is written, and the fields, lent
+abbrev unpacked : tie.After-put-head → tie.After-unpack
+unpacked c = c .before .before .before .before .before .before .before .before
+
+fields-are : (c : tie.After-fields-length) → let u = unpacked (c .before .before .before) in
+    take (c .fields-length .result - 0) (c .before .before .before .before .before .before .put-fields .last .1 .1 .1 .1 .1 .0) ≡ fieldsOf (lay (start u)) (lent u)
+fields-are c =
+    let u = unpacked (c .before .before .before) in
+    let s = start u in
+    let q = c .before .before .before .before .before .before .put-fields in
+    fields-lent (lay s) (s .args .row .now) (s .args .out .now) (s .pre .0) (s .pre .1 .0) (s .pre .1 .1) (lent u) (q .last .1 .1 .1 .1 .1 .0) _ (c .fields-length .result) (c .fields-length .ensures) (q .ensures)
+
+-- there is a head in front of the packed fields
+headed : (c : tie.After-put-head) → 9 ≤ length (c .put-head .last .1 .1 .1 .1 .0)
+headed c =
+    let s = start (unpacked c) in
+    body-room (lay s) (s .args .row .now) (s .args .out .now) (s .pre .0) (s .pre .1 .0) (s .pre .1 .1) (c .put-head .last .1 .1 .1 .1 .0) (c .put-head .ensures)
+
+sub-pack-2 : tie.Need-sub-pack-2
+sub-pack-2 c = headed (c .before .before .before .before .before)
+
+part-pack-start-2 : tie.Need-part-pack-start-2
+part-pack-start-2 c = headed (c .before .before .before .before .before)
+
+part-pack-end-2 : tie.Need-part-pack-end-2
+part-pack-end-2 c = search needs
+
+pack-requires : tie.Need-pack-requires
+pack-requires c κs =
+    let f = c .before .before .before in
+    let h = f .before .before .before in
+    let s = start (unpacked h) in
+    pack-asks (lay s) (s .args .row .now) (s .args .out .now) (s .pre .0) (s .pre .1 .0) (s .pre .1 .1) (h .put-head .last .1 .1 .1 .1 .0) (h .put-head .ensures) (lent (unpacked h)) _ (fields-are f)
+
+same-length : tie.Need-same-length
+same-length c = search needs
+
+returns : tie.Need-returns
+returns c =
+    let q = c .before .before in
+    let f = q .before .before .before .before in
+    let h = f .before .before .before in
+    let u = unpacked h in
+    let s = start u in
+    assembled (lay s) (s .args .row .now) (s .args .out .now) (s .pre .0) (s .pre .1 .0) (s .pre .1 .1) (h .put-head .last .1 .1 .1 .1 .0) (h .put-head .ensures) (lent u) _ (q .pack .last .1 .0) (lent-is u) (fields-are f) (q .pack .ensures)
+
+pub put-message-spec : {M : Type 1} → statement M
+put-message-spec =
+    tie.close
+    (tie.spec
+    mul-n
+    mul-n-2
+    slice-aggregate-unpack
+    unpack-requires
+    sub-put-fields
+    part-put-fields-start
+    part-put-fields-end
+    slice-aggregate-put-fields
+    put-fields-requires
+    put-head-requires
+    fields-length-requires
+    sub-pack
+    part-pack-start
+    part-pack-end
+    sub-pack-2
+    part-pack-start-2
+    part-pack-end-2
+    pack-requires
+    same-length
+    returns)

@@ -1,0 +1,193 @@
+// Writing the message of a row: its fields as bits, one byte a bit, then the head and the packed fields. Contracts cite
+// specs/Message.antt and specs/Write.antt.
+use crate::Written;
+use crate::layouts;
+use crate::sums;
+use bits::BitCursor;
+use refusal::Refusal;
+ghost use mathlib.Core.Path.{_≡_};
+ghost use mathlib.Core.Bool.{true};
+ghost use mathlib.Core.List.{_++_, map, flatMap};
+ghost use Prim.Native.Nat.{_+_, _*_, _≤_};
+ghost use lib.ListN.{length, take, drop};
+ghost use Rattle.bits.specs.Bits.{AllBits, digits, unpack as unpacked, fits};
+ghost use Rattle.field.specs.Field.{Elements, check};
+ghost use Rattle.field.specs.Tables.{Logs};
+ghost use Rattle.message.specs.Layout.{layout, legal as isLegal, rowBits, numbers};
+ghost use Rattle.message.specs.Message.{width, fieldsLength, messageBytes, blockSums, stringSums, checks, head, fieldBits, message};
+ghost use Rattle.message.specs.Write.{writtenOf, writeAnswer, writeTarget};
+
+// The block sums of a row as fields of k bits at a cursor, and the cursor after them.
+fn put_block_sums(
+    l1: usize,
+    l2: usize,
+    nc: usize,
+    r: usize,
+    row: &[u8],
+    k: usize,
+    start: BitCursor,
+    bits: &mut [u8],
+) -> BitCursor
+    requires { ⌜ ((isLegal (layout l1 l2 nc r) ≡ true) × (AllBits (now row) × (length (now row) ≡ rowBits (layout l1 l2 nc r))))
+        × ((k ≤ 16) × (start .at + l1 * k ≤ length (now bits))) ⌝ }
+    ensures { λ c. ⌜ (c .at ≡ start .at + l1 * k) × (now (bits .exit) ≡ take (start .at) (now (bits .entry))
+        ++ flatMap (digits k) (blockSums (layout l1 l2 nc r) (now (row .entry))) ++ drop (start .at + l1 * k) (now (bits .entry))) ⌝ }
+{
+    let mut c = start;
+    let mut i: usize = 0;
+    while i < l1 {
+        let sum = sums::block_sum(l1, l2, nc, r, row, i) as u16;
+        let next = c.put(bits, k, sum);
+        c = next;
+        i += 1;
+    }
+    c
+}
+
+// The chunk-string sums of a row in the same way.
+fn put_string_sums(
+    l1: usize,
+    l2: usize,
+    nc: usize,
+    r: usize,
+    row: &[u8],
+    k: usize,
+    start: BitCursor,
+    bits: &mut [u8],
+) -> BitCursor
+    requires { ⌜ ((isLegal (layout l1 l2 nc r) ≡ true) × (AllBits (now row) × (length (now row) ≡ rowBits (layout l1 l2 nc r))))
+        × ((k ≤ 16) × (start .at + l2 * k ≤ length (now bits))) ⌝ }
+    ensures { λ c. ⌜ (c .at ≡ start .at + l2 * k) × (now (bits .exit) ≡ take (start .at) (now (bits .entry))
+        ++ flatMap (digits k) (stringSums (layout l1 l2 nc r) (now (row .entry))) ++ drop (start .at + l2 * k) (now (bits .entry))) ⌝ }
+{
+    let mut c = start;
+    let mut j: usize = 0;
+    while j < l2 {
+        let sum = sums::string_sum(l1, l2, nc, r, row, j) as u16;
+        let next = c.put(bits, k, sum);
+        c = next;
+        j += 1;
+    }
+    c
+}
+
+// The first r checks of chunks as fields of nc bits at a cursor.
+fn put_checks(nc: usize, r: usize, logs: &[u8], chunks: &[u8], start: BitCursor, bits: &mut [u8])
+    requires { ⌜ ((3 ≤ nc) × (nc ≤ 8) × Logs nc (now logs) × Elements nc (now chunks)) × (start .at + r * nc ≤ length (now bits)) ⌝ }
+    ensures { λ _. ⌜ now (bits .exit) ≡ take (start .at) (now (bits .entry))
+        ++ flatMap (digits nc) (map (λ i. check nc i (now (chunks .entry))) (numbers 0 r)) ++ drop (start .at + r * nc) (now (bits .entry)) ⌝ }
+{
+    let mut c = start;
+    let mut i: usize = 0;
+    while i < r {
+        let value = field::check(nc, i, logs, chunks) as u16;
+        let next = c.put(bits, nc, value);
+        c = next;
+        i += 1;
+    }
+}
+
+// The checks of a row at a cursor.
+fn put_row_checks(
+    l1: usize,
+    l2: usize,
+    nc: usize,
+    r: usize,
+    row: &[u8],
+    start: BitCursor,
+    bits: &mut [u8],
+)
+    requires { ⌜ ((isLegal (layout l1 l2 nc r) ≡ true) × (AllBits (now row) × (length (now row) ≡ rowBits (layout l1 l2 nc r))))
+        × (start .at + r * nc ≤ length (now bits)) ⌝ }
+    ensures { λ _. ⌜ now (bits .exit) ≡ take (start .at) (now (bits .entry))
+        ++ flatMap (digits nc) (checks (layout l1 l2 nc r) (now (row .entry))) ++ drop (start .at + r * nc) (now (bits .entry)) ⌝ }
+{
+    let mut logs: [u8; 256] = [0; 256];
+    field::fill_logs(nc, &mut logs);
+    let mut chunks: [u8; 255] = [0; 255];
+    sums::fill_chunks(l1, l2, nc, r, row, &mut chunks);
+    let n = l1 * l2;
+    put_checks(nc, r, &logs, &chunks[0..n], start, bits);
+}
+
+// The fields of a row's message, one byte a bit, at the start of a slice.
+fn put_fields(l1: usize, l2: usize, nc: usize, r: usize, row: &[u8], bits: &mut [u8])
+    requires { ⌜ ((isLegal (layout l1 l2 nc r) ≡ true) × (AllBits (now row) × (length (now row) ≡ rowBits (layout l1 l2 nc r))))
+        × (fieldsLength (layout l1 l2 nc r) ≤ length (now bits)) ⌝ }
+    ensures { λ _. ⌜ now (bits .exit) ≡ fieldBits (layout l1 l2 nc r) (blockSums (layout l1 l2 nc r) (now (row .entry)))
+        (stringSums (layout l1 l2 nc r) (now (row .entry))) (checks (layout l1 l2 nc r) (now (row .entry)))
+        ++ drop (fieldsLength (layout l1 l2 nc r)) (now (bits .entry)) ⌝ }
+{
+    let block = layouts::width(l2 * nc);
+    let string = layouts::width(nc * l1);
+    let after_blocks = put_block_sums(l1, l2, nc, r, row, block, BitCursor { at: 0 }, bits);
+    let after_strings = put_string_sums(l1, l2, nc, r, row, string, after_blocks, bits);
+    put_row_checks(l1, l2, nc, r, row, after_strings, bits);
+}
+
+// Bytes copied to the start of a slice.
+fn copy(part: &[u8], out: &mut [u8])
+    requires { ⌜ length (now part) ≤ length (now out) ⌝ }
+    ensures { λ _. ⌜ now (out .exit) ≡ now (part .entry) ++ drop (length (now (part .entry))) (now (out .entry)) ⌝ }
+{
+    let mut i: usize = 0;
+    while i < part.len() {
+        out[i] = part[i];
+        i += 1;
+    }
+}
+
+// The head of a message at the start of a slice.
+fn put_head(l1: usize, l2: usize, nc: usize, r: usize, out: &mut [u8])
+    requires { ⌜ (isLegal (layout l1 l2 nc r) ≡ true) × (9 ≤ length (now out)) ⌝ }
+    ensures { λ _. ⌜ now (out .exit) ≡ head (layout l1 l2 nc r) ++ drop 9 (now (out .entry)) ⌝ }
+{
+    let bytes: [u8; 9] = [
+        0x52,
+        0x53,
+        0x4D,
+        0x00,
+        0x01,
+        l1 as u8,
+        l2 as u8,
+        nc as u8,
+        r as u8,
+    ];
+    copy(&bytes[0..9], out);
+}
+
+// The message of a packed row at the start of a slice.
+fn put_message(l1: usize, l2: usize, nc: usize, r: usize, row: &[u8], out: &mut [u8])
+    requires { ⌜ (isLegal (layout l1 l2 nc r) ≡ true) × ((fits (rowBits (layout l1 l2 nc r)) (now row) ≡ true)
+        × (messageBytes (layout l1 l2 nc r) ≤ length (now out))) ⌝ }
+    ensures { λ _. ⌜ now (out .exit) ≡ message (layout l1 l2 nc r) (take (rowBits (layout l1 l2 nc r)) (unpacked (now (row .entry))))
+        ++ drop (messageBytes (layout l1 l2 nc r)) (now (out .entry)) ⌝ }
+{
+    let n = l1 * l2 * nc;
+    let mut x: [u8; bits::LONGEST] = [0; bits::LONGEST];
+    bits::unpack(row, n, &mut x);
+    let mut fields: [u8; 1160] = [0; 1160];
+    put_fields(l1, l2, nc, r, &x[0..n], &mut fields);
+    put_head(l1, l2, nc, r, out);
+    let used = layouts::fields_length(l1, l2, nc, r);
+    bits::pack(&fields[0..used], &mut out[9..]);
+}
+
+// Writes the message of a packed row to the start of a slice. The layout's numbers may be any.
+pub fn write(l1: usize, l2: usize, nc: usize, r: usize, row: &[u8], out: &mut [u8]) -> Written
+    ensures { λ a. ⌜ (writtenOf a ≡ writeAnswer (layout l1 l2 nc r) (now (row .entry)) (length (now (out .entry))))
+        × (now (out .exit) ≡ writeTarget (layout l1 l2 nc r) (now (row .entry)) (now (out .entry))) ⌝ }
+{
+    if !layouts::legal(l1, l2, nc, r) {
+        return Written::Refused(Refusal::Layout);
+    }
+    if !bits::fits(l1 * l2 * nc, row) {
+        return Written::Refused(Refusal::Packing);
+    }
+    let n = layouts::message_bytes(l1, l2, nc, r);
+    if out.len() < n {
+        return Written::Refused(Refusal::ShortTarget);
+    }
+    put_message(l1, l2, nc, r, row, out);
+    Written::Length(n)
+}

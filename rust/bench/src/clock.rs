@@ -1,0 +1,104 @@
+//! Turns of two things that do the same, and what they took.
+
+use std::process;
+use std::time::{Duration, Instant};
+
+/// Calls in one turn, timed together; and calls after it that are timed one by one.
+const TOGETHER: usize = 256;
+const ONE_BY_ONE: usize = 64;
+
+/// What one of the two took.
+struct Taken {
+    calls: usize,
+    together: Duration,
+    single: Vec<Duration>,
+}
+
+impl Taken {
+    fn new() -> Taken {
+        Taken { calls: 0, together: Duration::ZERO, single: Vec::new() }
+    }
+
+    /// One turn from input `first` on. Answers the total of what the calls answered.
+    fn turn(&mut self, first: usize, call: &mut dyn FnMut(usize) -> usize) -> usize {
+        let mut total: usize = 0;
+        let start = Instant::now();
+        for i in first..first + TOGETHER {
+            total = total.wrapping_add(call(i));
+        }
+        self.together += start.elapsed();
+        self.calls += TOGETHER;
+        for i in first..first + ONE_BY_ONE {
+            let start = Instant::now();
+            let answer = call(i);
+            self.single.push(start.elapsed());
+            total = total.wrapping_add(answer);
+        }
+        total
+    }
+
+    fn per_second(&self) -> f64 {
+        self.calls as f64 / self.together.as_secs_f64()
+    }
+
+    fn print(&mut self, name: &str) {
+        self.single.sort_unstable();
+        let at = |percent: usize| microseconds(self.single[(self.single.len() - 1) * percent / 100]);
+        let (p50, p99, worst) = (at(50), at(99), at(100));
+        let per_second = self.per_second();
+        println!("    {name:<8}{per_second:>12.0} /s   p50 {p50:>8.2} us   p99 {p99:>8.2} us   worst {worst:>9.2} us");
+    }
+}
+
+fn microseconds(time: Duration) -> f64 {
+    time.as_secs_f64() * 1e6
+}
+
+/// Lets the library and the peer take turns for about this time, and prints what they took. They get the same
+/// inputs, and what they answer must be the same.
+pub fn compare(
+    name: &str,
+    time: Duration,
+    mut library: impl FnMut(usize) -> usize,
+    mut peer: impl FnMut(usize) -> usize,
+) {
+    let (mut ours, mut theirs) = (Taken::new(), Taken::new());
+    let begin = Instant::now();
+    let mut round = 0;
+    // The first round warms caches and is not counted.
+    while round < 2 || begin.elapsed() < time {
+        let first = round * 7;
+        let totals = if round % 2 == 0 {
+            let total = ours.turn(first, &mut library);
+            (total, theirs.turn(first, &mut peer))
+        } else {
+            let total = theirs.turn(first, &mut peer);
+            (ours.turn(first, &mut library), total)
+        };
+        if totals.0 != totals.1 {
+            eprintln!("{name}: library and peer disagree");
+            process::exit(1);
+        }
+        if round == 0 {
+            ours = Taken::new();
+            theirs = Taken::new();
+        }
+        round += 1;
+    }
+    println!("  {name}");
+    ours.print("library");
+    theirs.print("peer");
+    println!("    library / peer: {:.3} of its calls per second", ours.per_second() / theirs.per_second());
+}
+
+/// How long one reading of the clock takes, in the middle of many.
+pub fn clock_reading() -> Duration {
+    let mut readings: Vec<Duration> = (0..10_001)
+        .map(|_| {
+            let start = Instant::now();
+            start.elapsed()
+        })
+        .collect();
+    readings.sort_unstable();
+    readings[readings.len() / 2]
+}
