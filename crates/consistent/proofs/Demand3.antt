@@ -10,7 +10,7 @@ use native.Mathlib.Omega.{arith}
 use lib.Dec.{eqb·suc-zero}
 use lib.ListN.{length, take, drop}
 use Rattle.refusal.specs.Refusal.{firstRefusal}
-use Rattle.bits.specs.Bits.{AllBits, pack, unpack}
+use Rattle.bits.specs.Bits.{pack, unpack}
 use Rattle.bits.proofs.Packing.{fits-pack}
 use Rattle.rows.specs.Deletion.{comesFrom}
 use Rattle.rows.specs.Order.{Mem, Row}
@@ -19,27 +19,22 @@ use Rattle.rows.proofs.Deletion.{comes-length, comes-bits}
 use Rattle.rows.proofs.Single.{at-most-one}
 use Rattle.message.specs.declared.Layout.{Layout}
 use Rattle.message.specs.Layout.{legal, rowBits, blockBits}
-use Rattle.message.specs.Message.{blockSums, stringSums, checks, message}
-use Rattle.message.specs.Encoding.{Encodable}
-use Rattle.message.specs.Read.{layoutOf, readBlockSums, messageRefusal}
-use Rattle.message.proofs.Messages.{reads-encoded, fit, encoded-fit}
+use Rattle.message.specs.Message.{blockSums, message}
+use Rattle.message.specs.Read.{layoutOf, readBlockSums}
+use Rattle.message.proofs.Messages.{fit}
+use Rattle.message.proofs.Roundtrip.{message-fit, message-reads}
 use Rattle.consistent.specs.Consistent.{mostLosses, bitsOf, consistent, theList}
 use Rattle.consistent.specs.List.{room, wanted, inputChecks, listRefusal, listAnswer, listSlice}
 use Rattle.consistent.proofs.Greedy.{comes-losses}
-use Rattle.consistent.proofs.Own.{own-encodable}
 use Rattle.consistent.proofs.Consistent.{of-consistent, is-consistent, list-exact}
 use Rattle.consistent.proofs.Blocks.{same-row}
 use Rattle.consistent.proofs.List.{wanted-packed, message-passed, input-passed, input-passes, answer-is, list-counts, list-writes}
 
 -- ---- "with none or one deleted it holds at most one row"
--- rows with the same message have the same block sums
-same-sums : (l : Layout) (x z : List ℕ) → Encodable l (blockSums l x) (stringSums l x) (checks l x) → Encodable l (blockSums l z) (stringSums l z) (checks l z)
-    → message l x ≡ message l z → blockSums l x ≡ blockSums l z
-unfolding message
-same-sums l x z p q e =
-    sym (reads-encoded l (blockSums l x) (stringSums l x) (checks l x) p .block-sums)
-    ∙ ap (readBlockSums l) e
-    ∙ reads-encoded l (blockSums l z) (stringSums l z) (checks l z) q .block-sums
+-- rows of one layout with the same message have the same block sums
+same-sums : (l : Layout) (x z : List ℕ) → legal l ≡ true → Row (rowBits l) x → Row (rowBits l) z → message l x ≡ message l z → blockSums l x ≡ blockSums l z
+same-sums l x z g r t e =
+    sym (message-reads l x g (r .1) (r .0) .block-sums) ∙ ap (readBlockSums l) e ∙ message-reads l z g (t .1) (t .0) .block-sums
 
 -- with none or one deleted, any two consistent rows are equal
 consistent-same : (s : List ℕ) (m : ℕ) (y x z : List ℕ) → legal (layoutOf s) ≡ true → bitsOf s - m ≤ 1 → Row (bitsOf s) x → Row (bitsOf s) z
@@ -49,7 +44,7 @@ consistent-same s m y x z g h r t p q =
     let l = layoutOf s in
     let c = of-consistent s m y x p in
     let d = of-consistent s m y z q in
-    let sums = same-sums l x z (own-encodable l x g (r .1)) (own-encodable l z g (t .1)) (c .own ∙ sym (d .own)) in
+    let sums = same-sums l x z g r t (c .own ∙ sym (d .own)) in
     let n = mul-assoc (l .l1) (l .l2) (l .nc) in
     same-row (l .l1) (blockBits l) x z y (r .1) (t .1) (comes-bits x (bitsOf s - m) y (c .comes) (r .1)) (r .0 ∙ n) (t .0 ∙ n) sums
     (omega (arith, comes-losses x (bitsOf s - m) y (c .comes))) (omega (arith, comes-losses z (bitsOf s - m) y (d .comes)))
@@ -75,11 +70,6 @@ one-at-most s row m slice h = go (listRefusal s row m slice) refl
 layout-own : (l : Layout) (x : List ℕ) → layoutOf (message l x) ≡ l
 unfolding layoutOf message
 layout-own l x = refl
-
--- and is fit
-own-fit : (l : Layout) (x : List ℕ) → legal l ≡ true → AllBits x → messageRefusal (message l x) ≡ 0
-unfolding message
-own-fit l x g a = encoded-fit l (blockSums l x) (stringSums l x) (checks l x) (own-encodable l x g a)
 
 -- a row is consistent with its own message and whatever deletions leave of it
 pub own-consistent : (l : Layout) (x : List ℕ) (k : ℕ) (y : List ℕ) → Row (rowBits l) x → comesFrom x k y ≡ true → consistent (message l x) (length y) y x ≡ true
@@ -107,7 +97,7 @@ own-listed l x k y slice g r most c h =
     let e : wanted s (pack y) (length y) ≡ theList s (length y) y = wanted-packed s y a in
     let m : length y ≤ bitsOf s = omega (arith, comes-length x k y c, r .0) in
     let d : bitsOf s - length y ≤ mostLosses = omega (arith, comes-length x k y c, r .0) in
-    let p : firstRefusal (inputChecks s (pack y) (length y)) ≡ 0 = input-passes s (pack y) (length y) (own-fit l x g (r .1)) m d (fits-pack y a) in
+    let p : firstRefusal (inputChecks s (pack y) (length y)) ≡ 0 = input-passes s (pack y) (length y) (message-fit l x g (r .1) (r .0)) m d (fits-pack y a) in
     let w : length (wanted s (pack y) (length y)) ≤ room s (length slice) = rw e h in
     record {
       counted = rw e at (list-counts s (pack y) (length y) slice p w);

@@ -2,7 +2,6 @@
 pub mod Greedy
 pub mod Rule
 pub mod Blocks
-pub mod Own
 pub mod Consistent
 pub mod List
 pub mod Demand3
