@@ -1,13 +1,13 @@
 -- Bits, the numbers that they spell, and digits. Assumes nothing.
 use mathlib.Core.Path.{_≡_, refl, sym, ap, ap₂, _∙_}
-use mathlib.Core.Bool.{Bool, true, false, _&&_, _||_, false≢true, true≢false}
+use mathlib.Core.Bool.{Bool, true, false, _&&_, _||_, false≢true, true≢false, and-assoc}
 use mathlib.Core.Logic.{_⊎_, inl, inr, ⊎-elim}
 use mathlib.Core.List.{List, [], _∷_, _++_, append-assoc}
 use Prim.Native.Nat.{ℕ, zero, suc, _+_, _-_, _*_, _/_, _%_, _^_, _<_, _≤_}
 use native.Mathlib.Nat.{pow-suc, add-zero, zero-add, add-mul, mul-assoc, mul-comm, mod-lt, mod-eq-of-lt, zero-mul, mul-one, mul-zero, zero-lt-suc, mul-add-div-right, mul-add-mod-self-right, mod-one, zero-div}
 use native.Mathlib.Numerals.{add-one}
 use native.Mathlib.Omega.{arith}
-use borrow.Author.Tests.{ltb-true, ltb-false, eq-eqb, eqb-true}
+use borrow.Author.Tests.{ltb-true, ltb-false, eq-eqb, ne-eqb, eqb-true}
 use lib.Dec.{ltb, eqb}
 use lib.Pow.{pow-pos, pow-mono, split}
 use lib.Arith.{digits-lt, digits-div, digits-mod, mod-mul}
@@ -34,6 +34,12 @@ both-right false b e = absurd (false≢true e)
 pub refuted : (b : Bool) → (b ≡ true → ⊥) → false ≡ b
 refuted true n = absurd (n refl)
 refuted false n = refl
+
+-- two tests that are true together are equal
+pub both-ways : (a b : Bool) → (a ≡ true → b ≡ true) → (b ≡ true → a ≡ true) → a ≡ b
+both-ways true b f g = sym (f refl)
+both-ways false true f g = g refl
+both-ways false false f g = refl
 
 pub neither-left : (a b : Bool) → (a || b) ≡ false → a ≡ false
 neither-left true b e = e
@@ -207,3 +213,24 @@ pub same-refl : (x : List ℕ) → same x x ≡ true
 unfolding same
 same-refl [] = refl
 same-refl (a ∷ x) = rw (eq-eqb a a refl) (same-refl x)
+
+-- comparing element by element
+pub same-next : (x y : List ℕ) (i : ℕ) → i < length x → i < length y → getD x i 0 ≡ getD y i 0 → same (drop (i + 1) x) (drop (i + 1) y) ≡ same (drop i x) (drop i y)
+unfolding same
+same-next x y i h k e = rw (drop-cons x i 0 h, drop-cons y i 0 k, add-one i, eq-eqb (getD x i 0) (getD y i 0) e) refl
+
+pub same-stop : (x y : List ℕ) (i : ℕ) → i < length x → i < length y → (getD x i 0 ≡ getD y i 0 → ⊥) → same (drop i x) (drop i y) ≡ false
+unfolding same
+same-stop x y i h k n = rw (drop-cons x i 0 h, drop-cons y i 0 k, ne-eqb (getD x i 0) (getD y i 0) n) refl
+
+pub same-end : (x y : List ℕ) (i : ℕ) → length x ≤ i → length y ≤ i → same (drop i x) (drop i y) ≡ true
+unfolding same
+same-end x y i h k = rw (drop-of-length-le x h, drop-of-length-le y k) refl
+
+-- comparing part by part
+pub same-append : (x y u v : List ℕ) → length x ≡ length y → same (x ++ u) (y ++ v) ≡ (same x y && same u v)
+unfolding same
+same-append [] [] u v e = refl
+same-append [] (b ∷ y) u v e = absurd (omega arith)
+same-append (a ∷ x) [] u v e = absurd (omega arith)
+same-append (a ∷ x) (b ∷ y) u v e = ap (λ (t : Bool). eqb a b && t) (same-append x y u v (omega arith)) ∙ sym (and-assoc (eqb a b) (same x y) (same u v))

@@ -6,3 +6,4 @@ pub mod Consistent
 pub mod List
 pub mod Demand3
 pub mod Steps
+pub mod Candidate

@@ -1,12 +1,14 @@
 // Which rows are consistent with a message and a received row, and the tests that a search makes of a candidate. Contracts cite
 // specs/Consistent.antt and specs/Greedy.antt; strings are unpacked, one byte a bit.
 ghost use mathlib.Core.Path.{_≡_};
-ghost use mathlib.Core.Bool.{_&&_};
-ghost use mathlib.Core.List.{[], _∷_};
-ghost use Prim.Native.Nat.{_+_, _-_, _*_, _≤_};
-ghost use lib.ListN.{length, drop};
-ghost use Rattle.bits.specs.Bits.{same, cut};
+ghost use mathlib.Core.Bool.{true, _&&_};
+ghost use mathlib.Core.List.{[], _∷_, _++_};
+ghost use Prim.Native.Nat.{_+_, _-_, _*_, _<_, _≤_};
+ghost use lib.ListN.{length, getD, drop};
+ghost use Rattle.bits.specs.Bits.{AllBits, same, cut};
 ghost use Rattle.rows.specs.Deletion.{comesFrom};
+ghost use Rattle.message.specs.Layout.{layout, legal as isLegal, rowBits};
+ghost use Rattle.message.specs.Message.{blockSums, stringSums, checks};
 ghost use Rattle.consistent.specs.Greedy.{eat, losses, table, used};
 
 // Where y goes on after a bit of x: one place further where the bit takes what stands at place j.
@@ -70,4 +72,31 @@ pub fn loses(x: &[u8], w: usize, y: &[u8], counts: &[u8]) -> bool
         return true;
     }
     false
+}
+
+// Sum k of a row: the block sums come first, then the chunk-string sums.
+fn sum_at(l1: usize, l2: usize, nc: usize, r: usize, x: &[u8], k: usize) -> usize
+    requires { ⌜ (isLegal (layout l1 l2 nc r) ≡ true) × (AllBits (now x) × ((length (now x) ≡ rowBits (layout l1 l2 nc r)) × (k < l1 + l2))) ⌝ }
+    ensures { λ s. ⌜ s ≡ getD (blockSums (layout l1 l2 nc r) (now (x .entry)) ++ stringSums (layout l1 l2 nc r) (now (x .entry))) k 0 ⌝ }
+{
+    if k < l1 {
+        return message::sums::block_sum(l1, l2, nc, r, x, k);
+    }
+    message::sums::string_sum(l1, l2, nc, r, x, k - l1)
+}
+
+// Whether these numbers are the sums of a row.
+fn sums_agree(l1: usize, l2: usize, nc: usize, r: usize, x: &[u8], numbers: &[u16]) -> bool
+    requires { ⌜ (isLegal (layout l1 l2 nc r) ≡ true) × (AllBits (now x) × ((length (now x) ≡ rowBits (layout l1 l2 nc r)) × (length (now numbers) ≡ l1 + l2))) ⌝ }
+    ensures { λ b. ⌜ b ≡ same (blockSums (layout l1 l2 nc r) (now (x .entry)) ++ stringSums (layout l1 l2 nc r) (now (x .entry))) (now (numbers .entry)) ⌝ }
+{
+    let mut k: usize = 0;
+    while k < numbers.len() {
+        let number = numbers[k] as usize;
+        if sum_at(l1, l2, nc, r, x, k) != number {
+            return false;
+        }
+        k += 1;
+    }
+    true
 }

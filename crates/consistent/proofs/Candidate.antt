@@ -1,0 +1,87 @@
+-- A candidate's numbers, compared with those of a message that was read. Assumes nothing.
+use mathlib.Core.Path.{_≡_, refl, sym, ap, _∙_}
+use mathlib.Core.Bool.{Bool, true, false, _&&_}
+use mathlib.Core.List.{List, _++_, append-assoc}
+use Prim.Native.Nat.{ℕ, _+_, _-_, _<_, _≤_}
+use native.Mathlib.Omega.{arith}
+use lib.ListN.{length, getD, take, drop, length-append, List·getD-append}
+use lib.Seq.{getD-append-add, take-at, drop-at}
+use Rattle.bits.specs.Bits.{AllBytes, same}
+use Rattle.bits.proofs.Laws.{both-ways, same-eq, same-refl}
+use Rattle.rows.specs.Order.{Row}
+use Rattle.message.specs.declared.Layout.{Layout}
+use Rattle.message.specs.Layout.{legal, rowBits}
+use Rattle.message.specs.Message.{blockSums, stringSums, checks, encode, message}
+use Rattle.message.specs.Read.{layoutOf, readBlockSums, readStringSums, readChecks, messageRefusal, numbersRead}
+use Rattle.message.proofs.Numbers.{block-count, string-count}
+use Rattle.message.proofs.Messages.{encode-read}
+use Rattle.message.proofs.Answers.{fit-named}
+use Rattle.message.proofs.Roundtrip.{message-reads}
+use Rattle.message.proofs.Cutting.{length-block-sums, length-string-sums, length-checks}
+use Rattle.consistent.specs.Consistent.{yields}
+
+-- ---- the sums by their places
+module _ (l : Layout) (x : List ℕ) where
+  pub sum-of-block : (k : ℕ) → k < l .l1 → getD (blockSums l x) k 0 ≡ getD (blockSums l x ++ stringSums l x) k 0
+  sum-of-block k h = sym (List·getD-append (blockSums l x) (stringSums l x) 0 k (omega (arith, length-block-sums l x)))
+
+  pub sum-of-string : (k : ℕ) → l .l1 ≤ k → getD (stringSums l x) (k - l .l1) 0 ≡ getD (blockSums l x ++ stringSums l x) k 0
+  sum-of-string k h =
+      let e : length (blockSums l x) + (k - l .l1) ≡ k = omega (arith, length-block-sums l x) in
+      sym (getD-append-add (blockSums l x) (stringSums l x) (k - l .l1) 0) ∙ ap (λ (n : ℕ). getD (blockSums l x ++ stringSums l x) n 0) e
+
+  pub length-sums : length (blockSums l x ++ stringSums l x) ≡ l .l1 + l .l2
+  length-sums = length-append (blockSums l x) (stringSums l x) ∙ omega (arith, length-block-sums l x, length-string-sums l x)
+
+-- ---- what yields a message
+-- two joined lists whose first parts are of one length are equal part by part
+part-by-part : (a b c d : List ℕ) → length a ≡ length c → a ++ b ≡ c ++ d → (a ≡ c) × (b ≡ d)
+part-by-part a b c d n e =
+    (sym (take-at a b (length c) n) ∙ ap (take (length c)) e ∙ take-at c d (length c) refl, sym (drop-at a b (length c) n) ∙ ap (drop (length c)) e ∙ drop-at c d (length c) refl)
+
+module _ (l : Layout) (x s : List ℕ) where
+  -- the numbers of the row, and those that are read of the message
+  abbrev own : List ℕ
+  own = blockSums l x ++ stringSums l x ++ checks l x
+
+  abbrev given : List ℕ
+  given = readBlockSums l s ++ readStringSums l s ++ readChecks l s
+
+  -- the row's own message has the row's numbers
+  numbers-of : legal l ≡ true → Row (rowBits l) x → message l x ≡ s → own ≡ given
+  numbers-of g r e =
+      let m = message-reads l x g (r .1) (r .0) in
+      let a : blockSums l x ≡ readBlockSums l s = sym (m .block-sums) ∙ ap (readBlockSums l) e in
+      let b : stringSums l x ≡ readStringSums l s = sym (m .string-sums) ∙ ap (readStringSums l) e in
+      let c : checks l x ≡ readChecks l s = sym (m .checks) ∙ ap (readChecks l) e in
+      rw (a, b, c) refl
+
+  -- and a row with the message's numbers has that message
+  of-numbers : own ≡ given → message l x ≡ encode l (readBlockSums l s) (readStringSums l s) (readChecks l s)
+  unfolding message
+  of-numbers e =
+      let n : length (blockSums l x) ≡ length (readBlockSums l s) = length-block-sums l x ∙ sym (block-count l s) in
+      let m : length (stringSums l x) ≡ length (readStringSums l s) = length-string-sums l x ∙ sym (string-count l s) in
+      let p = part-by-part (blockSums l x) (stringSums l x ++ checks l x) (readBlockSums l s) (readStringSums l s ++ readChecks l s) n (sym (append-assoc (blockSums l x) (stringSums l x) (checks l x)) ∙ e ∙ append-assoc (readBlockSums l s) (readStringSums l s) (readChecks l s)) in
+      let q = part-by-part (stringSums l x) (checks l x) (readStringSums l s) (readChecks l s) m (p .1) in
+      rw (p .0, q .0, q .1) refl
+
+  tested : AllBytes s → messageRefusal s ≡ 0 → layoutOf s ≡ l → Row (rowBits l) x → same (message l x) s ≡ same own given
+  tested b e k r =
+      both-ways (same (message l x) s) (same own given)
+      (λ h. ap (same own) (sym (numbers-of (fit-named s l e k .0) r (same-eq (message l x) s h))) ∙ same-refl own)
+      (λ h. ap (λ (t : List ℕ). same t s) (of-numbers (same-eq own given h) ∙ read-again) ∙ same-refl s)
+    where
+      read-again : encode l (readBlockSums l s) (readStringSums l s) (readChecks l s) ≡ s
+      read-again = ap (λ (m : Layout). encode m (readBlockSums m s) (readStringSums m s) (readChecks m s)) (sym k) ∙ encode-read s b e
+
+-- a row yields a fit message exactly when its sums and checks are the numbers that are read of it
+pub yields-numbers : (s x : List ℕ) → AllBytes s → messageRefusal s ≡ 0 → Row (rowBits (layoutOf s)) x
+    → yields s x ≡ same (blockSums (layoutOf s) x ++ stringSums (layoutOf s) x ++ checks (layoutOf s) x) (numbersRead s)
+yields-numbers s x b e r = yields-is ∙ tested (layoutOf s) x s b e refl r ∙ ap (same (own (layoutOf s) x s)) (sym numbers-are)
+  where
+    yields-is : yields s x ≡ same (message (layoutOf s) x) s
+    yields-is = unfold yields in refl
+
+    numbers-are : numbersRead s ≡ given (layoutOf s) x s
+    numbers-are = unfold numbersRead in refl

@@ -1,0 +1,89 @@
+use borrow.Author.Needs.{needs}
+use mathlib.Core.Path.{_≡_, refl, sym, ap, _∙_}
+use Rattle.consistent.proofs.Candidate.{length-sums}
+use Rattle.message.specs.Message.{blockSums, stringSums}
+use Rattle.message.specs.Layout.{layout}
+use Prim.Native.Nat.{ℕ, _+_, _-_, _<_, _≤_}
+use Rattle.bits.proofs.Laws.{same-next, same-stop, same-end}
+use Rattle.bits.specs.Bits.{same}
+use mathlib.Core.List.{List, _++_}
+use native.Mathlib.Omega.{arith}
+use lib.ListN.{length, getD, drop, length-append}
+use mathlib.Core.Bool.{true, false}
+use Rattle.consistent.proofs.sums_agree.Statement.{statement}
+use Rattle.consistent.proofs.sums_agree.Tie as tie
+
+abbrev Inv-loop : tie.InvT-loop
+Inv-loop l1 l2 nc r x numbers k₀ k = (k ≤ length numbers) × (same (drop k (blockSums (layout l1 l2 nc r) x ++ stringSums (layout l1 l2 nc r) x)) (drop k numbers) ≡ same (blockSums (layout l1 l2 nc r) x ++ stringSums (layout l1 l2 nc r) x) numbers)
+
+abbrev μ-loop : tie.MeasureT-loop
+μ-loop l1 l2 nc r x numbers k₀ k = length numbers - k
+
+-- the sums of the row, which are as many as the numbers
+abbrev sums : tie.Start Inv-loop μ-loop → List ℕ
+sums c =
+    let l = layout (c .args .l1) (c .args .l2) (c .args .nc) (c .args .r) in
+    blockSums l (c .args .x .now) ++ stringSums l (c .args .x .now)
+
+count : (c : tie.Start Inv-loop μ-loop) → length (sums c) ≡ length (c .args .numbers .now)
+count c = length-sums (layout (c .args .l1) (c .args .l2) (c .args .nc) (c .args .r)) (c .args .x .now) ∙ sym (c .pre .1 .1 .1)
+
+loop-holds : tie.Need-loop-holds Inv-loop μ-loop
+loop-holds c = (search needs, refl)
+
+mul-number : tie.Need-mul-number Inv-loop μ-loop
+mul-number c = search needs
+
+shared-slice-read-number : tie.Need-shared-slice-read-number Inv-loop μ-loop
+shared-slice-read-number c = search needs
+
+cast-number : tie.Need-cast-number Inv-loop μ-loop
+cast-number c = record { fits = omega (arith, c .shared-slice-known3 .given (c .before .before .loop .k)) }
+
+sum-at-requires : tie.Need-sum-at-requires Inv-loop μ-loop
+sum-at-requires c κs =
+    let s = c .before .before .before .before .before in
+    (s .pre .0, (s .pre .1 .0, (s .pre .1 .1 .0, omega (arith, s .pre .1 .1 .1))))
+
+returns : tie.Need-returns Inv-loop μ-loop
+returns c =
+    let s = c .before .before .before .before .before .before .before in
+    let a = s .args in
+    let p = c .before .before .before .before .loop in
+    sym (sym (p .inv .1) ∙ same-stop (sums s) (a .numbers .now) (p .k) (omega (arith, count s)) (omega arith) (λ e. c .if1 .taken (c .before .sum-at .ensures ∙ e)))
+
+add-k : tie.Need-add-k Inv-loop μ-loop
+add-k c = search needs
+
+loop-less : tie.Need-loop-less Inv-loop μ-loop
+loop-less c = search needs
+
+loop-again : tie.Need-loop-again Inv-loop μ-loop
+loop-again c =
+    let s = c .before .before .before .before .before .before .before in
+    let a = s .args in
+    let p = c .before .before .before .before .loop in
+    (omega arith, same-next (sums s) (a .numbers .now) (p .k) (omega (arith, count s)) (omega arith) (sym (c .before .sum-at .ensures) ∙ c .if1 .left) ∙ p .inv .1)
+
+returns-2 : tie.Need-returns-2 Inv-loop μ-loop
+returns-2 c =
+    let s = c .before .before .before .before in
+    let p = c .before .loop in
+    sym (sym (p .inv .1) ∙ same-end (sums s) (s .args .numbers .now) (p .k) (omega (arith, count s)) (omega arith))
+
+pub sums-agree-spec : {M : Type 1} → statement M
+sums-agree-spec =
+    tie.close
+    (tie.spec
+    Inv-loop
+    μ-loop
+    loop-holds
+    mul-number
+    shared-slice-read-number
+    cast-number
+    sum-at-requires
+    returns
+    add-k
+    loop-less
+    loop-again
+    returns-2)
