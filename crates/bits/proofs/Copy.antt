@@ -5,13 +5,17 @@ use Prim.Native.Nat.{ℕ, suc, _+_, _<_, _≤_}
 use native.Mathlib.Nat.{zero-add}
 use native.Mathlib.Numerals.{add-one, towards-suc}
 use lib.ListN.{length, getD, take, drop, set}
-use lib.Seq.{paste, paste-suc, sets-eq, take-at, drop-append-add, drop-drop}
+use lib.Seq.{paste, paste-suc, take-length, sets-eq, take-at, drop-append-add, drop-drop}
 
 -- a turn that stores element i of s at place at + i takes the copy of i elements to that of i + 1
 pub paste-next : (d : List ℕ) (at : ℕ) (s : List ℕ) (i : ℕ) → at + i < length d → i < length s → set (paste d at s i) (at + i) (getD s i 0) ≡ paste d at s (i + 1)
 paste-next d at s i h k = rw (add-one i) (paste-suc d at s i 0 h k)
 
--- the same at the start of the slice
+-- the whole list copied
+pub paste-whole : (o : List ℕ) (at : ℕ) (x : List ℕ) (i : ℕ) → i ≡ length x → paste o at x i ≡ take at o ++ x ++ drop (at + length x) o
+paste-whole o at x i e = rw (e, take-length x) refl
+
+-- a turn of a copy to the start of the slice
 pub front-next : (d s : List ℕ) (i : ℕ) → i < length d → i < length s → set (take i s ++ drop i d) i (getD s i 0) ≡ take (i + 1) s ++ drop (i + 1) d
 front-next d s i h k =
     let e : 0 + i ≡ i = zero-add i in

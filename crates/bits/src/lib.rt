@@ -16,6 +16,18 @@ pub fn wide(b: u8) -> usize
     b as usize
 }
 
+// Elements copied to a place of a slice.
+pub fn copy_to(part: &[u8], out: &mut [u8], at: usize)
+    requires { ⌜ at + length (now part) ≤ length (now out) ⌝ }
+    ensures { λ _. ⌜ now (out .exit) ≡ take at (now (out .entry)) ++ now (part .entry) ++ drop (at + length (now (part .entry))) (now (out .entry)) ⌝ }
+{
+    let mut i: usize = 0;
+    while i < part.len() {
+        out[at + i] = part[i];
+        i += 1;
+    }
+}
+
 // Bit i of packed bytes.
 fn bit_at(s: &[u8], i: usize) -> u8
     requires { ⌜ i < length (now s) * 8 ⌝ }

@@ -70,20 +70,6 @@ fn move_up(list: &mut [u8], from: usize, to: usize, w: usize)
     }
 }
 
-// A row is written at a place.
-fn write_row(list: &mut [u8], at: usize, x: &[u8])
-    requires { ⌜ at + length (now x) ≤ length (now list) ⌝ }
-    ensures { λ _. ⌜ now (list .exit) ≡ take at (now (list .entry))
-        ++ (now (x .entry) ++ drop (at + length (now (x .entry))) (now (list .entry))) ⌝ }
-{
-    let mut i: usize = 0;
-    while i < x.len() {
-        let b = x[i];
-        list[at + i] = b;
-        i += 1;
-    }
-}
-
 // A row goes to a place of the list slice, and what stands from there up to another place moves up by one row.
 fn put_row(list: &mut [u8], at: usize, to: usize, x: &[u8])
     requires { ⌜ (at ≤ to) × ((to + length (now x) ≤ length (now list)) × (1 ≤ length (now x))) ⌝ }
@@ -92,7 +78,7 @@ fn put_row(list: &mut [u8], at: usize, to: usize, x: &[u8])
 {
     let w = x.len();
     move_up(list, at, to, w);
-    write_row(list, at, x);
+    bits::copy_to(x, list, at);
 }
 
 // Adds the row x to the rows held: it goes to its place in the order, once; of a full list the last row is pushed out.

@@ -4,11 +4,7 @@ use mathlib.Core.List.{List, [], _∷_, _++_}
 use Prim.Native.Nat.{ℕ, suc, _+_, _-_, _≤_}
 use native.Mathlib.Omega.{arith}
 use lib.ListN.{length, getD, take, drop, set, length-append, length-drop, length-set}
-use lib.Seq.{paste, take-all, take-length, length-take-le, drop-cons, set-at, take-at, append-snoc, drop-drop, drop-append-add}
-
--- the whole string copied
-pub paste-whole : (o : List ℕ) (at : ℕ) (x : List ℕ) (i : ℕ) → i ≡ length x → paste o at x i ≡ take at o ++ x ++ drop (at + length x) o
-paste-whole o at x i e = rw (e, take-length x) refl
+use lib.Seq.{take-all, length-take-le, drop-cons, set-at, take-at, append-snoc, drop-drop, drop-append-add}
 
 module _ (x o : List ℕ) (at b : ℕ) (h : at ≤ length x) (k : length x + 1 ≤ length o) where
   -- after the part before the bit

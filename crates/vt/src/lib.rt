@@ -79,26 +79,14 @@ fn find_place(bits: &[u8], t: usize, count: usize) -> Place
     }
 }
 
-// A string copied to a place of a slice.
-fn copy_to(part: &[u8], out: &mut [u8], at: usize)
-    requires { ⌜ at + length (now part) ≤ length (now out) ⌝ }
-    ensures { λ _. ⌜ now (out .exit) ≡ take at (now (out .entry)) ++ now (part .entry) ++ drop (at + length (now (part .entry))) (now (out .entry)) ⌝ }
-{
-    let mut i: usize = 0;
-    while i < part.len() {
-        out[at + i] = part[i];
-        i += 1;
-    }
-}
-
 // A string with a bit put in at a place, at the start of a slice.
 fn put_in(bits: &[u8], at: usize, bit: u8, out: &mut [u8])
     requires { ⌜ (at ≤ length (now bits)) × (length (now bits) + 1 ≤ length (now out)) ⌝ }
     ensures { λ _. ⌜ now (out .exit) ≡ take at (now (bits .entry)) ++ (bit ∷ drop at (now (bits .entry))) ++ drop (length (now (bits .entry)) + 1) (now (out .entry)) ⌝ }
 {
-    copy_to(&bits[0..at], out, 0);
+    bits::copy_to(&bits[0..at], out, 0);
     out[at] = bit;
-    copy_to(&bits[at..], out, at + 1);
+    bits::copy_to(&bits[at..], out, at + 1);
 }
 
 // The string that the sum s and a string one bit short pick, one byte a bit, at the start of a slice.

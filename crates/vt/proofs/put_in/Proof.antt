@@ -6,9 +6,6 @@ use lib.ListN.{take, drop}
 use Rattle.vt.proofs.Copies.{first-part, second-part, whole-length, room}
 use Rattle.vt.proofs.put_in.Statement.{statement}
 use Rattle.vt.proofs.put_in.Tie as tie
-use Rattle.vt.proofs.put_in.Reads as reads
-use Rattle.vt.proofs.put_in.Lts as lts
-use Rattle.vt.proofs.copy_to.Reads as copy-to-reads
 
 sub-copy-to : tie.Need-sub-copy-to
 sub-copy-to c = search needs
@@ -39,9 +36,9 @@ add-copy-to c = search needs
 
 -- the place after the part before the bit, and the function's entry seen from there
 abbrev Half : Type 0
-Half = lts.After-copy-to (copy-to-reads.Asked, copy-to-reads.Learnt) reads.Pre reads.Post
+Half = tie.After-copy-to
 
-abbrev start : Half → lts.Start (copy-to-reads.Asked, copy-to-reads.Learnt) reads.Pre reads.Post
+abbrev start : Half → tie.Start
 start c = c .before .before .before .before .before
 
 -- the slice there

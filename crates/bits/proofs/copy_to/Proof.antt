@@ -1,14 +1,13 @@
--- `vt::copy_to` meets its contract. The loop's invariant: the slice is what it was, with the first i bits pasted in. Assumes nothing.
+-- `bits::copy_to` meets its contract. The loop's invariant: the slice is what it was, with the first i elements pasted in. Assumes nothing.
 use borrow.Author.Needs.{needs}
 use Prim.Native.Nat.{_+_, _-_, _<_, _≤_}
 use mathlib.Core.Path.{_≡_, _∙_}
 use native.Mathlib.Omega.{arith}
 use lib.ListN.{length, length-set}
 use lib.Seq.{paste, paste-zero}
-use Rattle.bits.proofs.Copy.{paste-next}
-use Rattle.vt.proofs.Copies.{paste-whole}
-use Rattle.vt.proofs.copy_to.Statement.{statement}
-use Rattle.vt.proofs.copy_to.Tie as tie
+use Rattle.bits.proofs.Copy.{paste-next, paste-whole}
+use Rattle.bits.proofs.copy_to.Statement.{statement}
+use Rattle.bits.proofs.copy_to.Tie as tie
 
 abbrev Inv-loop : tie.InvT-loop
 Inv-loop part out₀ at i₀ out i = (i ≤ length part) × ((length out ≡ length out₀) × (out ≡ paste out₀ at part i))
