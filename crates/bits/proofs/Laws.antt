@@ -1,18 +1,18 @@
 -- Bits, the numbers that they spell, and digits. Assumes nothing.
+use Prim.Native.Nat.{ℕ, zero, suc, _+_, _-_, _*_, _/_, _%_, _^_, _<_, _≤_}
 use mathlib.Core.Path.{_≡_, refl, sym, ap, ap₂, _∙_}
 use mathlib.Core.Bool.{Bool, true, false, _&&_, _||_, false≢true, true≢false, and-assoc}
 use mathlib.Core.Logic.{_⊎_, inl, inr, ⊎-elim}
-use mathlib.Core.List.{List, [], _∷_, _++_, append-assoc}
-use Prim.Native.Nat.{ℕ, zero, suc, _+_, _-_, _*_, _/_, _%_, _^_, _<_, _≤_}
-use native.Mathlib.Nat.{pow-suc, add-zero, zero-add, add-mul, mul-assoc, mul-comm, mod-lt, mod-eq-of-lt, zero-mul, mul-one, mul-zero, zero-lt-suc, mul-add-div-right, mul-add-mod-self-right, mod-one, zero-div}
+use mathlib.Core.List.{List, [], _∷_, _++_}
+use native.Mathlib.Nat.{pow-suc, add-zero, zero-add, add-mul, mul-assoc, mul-comm, mod-lt, mod-eq-of-lt, zero-mul, mul-one, mul-add-div-right, mul-add-mod-self-right, mod-one, zero-div}
 use native.Mathlib.Numerals.{add-one}
 use native.Mathlib.Omega.{arith}
 use borrow.Author.Tests.{ltb-true, ltb-false, eq-eqb, ne-eqb, eqb-true}
+use lib.Arith.{digits-lt, digits-div, mod-mul}
 use lib.Dec.{ltb, eqb}
-use lib.Pow.{pow-pos, pow-mono, split}
-use lib.Arith.{digits-lt, digits-div, digits-mod, mod-mul}
-use lib.ListN.{length, getD, take, drop, replicate, length-append, length-take, length-drop, List·getD-eq-default, drop-of-length-le}
-use lib.Seq.{drop-cons, getD-drop}
+use lib.ListN.{length, getD, take, drop, length-append, List·getD-eq-default, drop-of-length-le}
+use lib.Pow.{pow-pos, pow-mono}
+use lib.Seq.{drop-cons}
 use Rattle.bits.specs.Bits.{AllBits, number, digits, unpack, same}
 
 pub lt-or-ge : (a b : ℕ) → (a < b) ⊎ (b ≤ a)

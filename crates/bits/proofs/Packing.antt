@@ -1,15 +1,15 @@
 -- Packing and unpacking undo each other. Assumes nothing.
-use mathlib.Core.Path.{_≡_, refl, sym, ap, ap₂, _∙_}
-use mathlib.Core.Bool.{Bool, true, false, _&&_}
-use mathlib.Core.Logic.{_⊎_, inl, inr, ⊎-elim}
-use mathlib.Core.List.{List, [], _∷_, _++_, append-assoc}
 use Prim.Native.Nat.{ℕ, zero, suc, _+_, _-_, _*_, _/_, _%_, _^_, _<_, _≤_}
-use native.Mathlib.Nat.{zero-div, zero-mod, mod-eq-of-lt, div-eq-of-lt, zero-add, suc-add}
+use mathlib.Core.Path.{_≡_, refl, sym, ap, ap₂, _∙_}
+use mathlib.Core.Bool.{Bool, true, false}
+use mathlib.Core.Logic.{⊎-elim}
+use mathlib.Core.List.{List, [], _∷_, _++_, append-assoc}
+use native.Mathlib.Nat.{zero-div, mod-eq-of-lt, div-eq-of-lt, zero-add, suc-add}
 use native.Mathlib.Numerals.{add-one}
 use native.Mathlib.Omega.{arith}
 use borrow.Author.Tests.{eq-eqb, ne-eqb, eqb-true}
 use lib.Dec.{eqb}
-use lib.ListN.{length, getD, take, drop, set, length-append, length-take, length-drop, List·getD-append, List·getD-eq-default, drop-of-length-le}
+use lib.ListN.{length, getD, take, drop, set, List·getD-append, List·getD-eq-default, drop-of-length-le}
 use lib.Seq.{drop-cons, set-at, append-snoc, getD-drop, getD-take, getD-append-add, drop-drop, drop-nil, drop-at, take-at, take-append-add, take-add, length-take-le}
 use Rattle.bits.specs.Bits.{AllBits, AllBytes, number, digits, bytes, bytesFor, pack, unpack, blank, fits}
 use Rattle.bits.proofs.Copy.{part-next}

@@ -7,10 +7,10 @@ use lib.ListN.{length, take}
 use Rattle.refusal.specs.Refusal.{Answer}
 use Rattle.bits.specs.Bits.{unpack, same}
 use Rattle.vt.specs.Mend.{mended}
-use Rattle.message.specs.declared.Layout.{Layout}
 use Rattle.message.specs.Layout.{layout, rowBits}
 use Rattle.message.specs.Message.{blockSums, stringSums, checks, message, encode}
 use Rattle.message.specs.Read.{messageRefusal}
+use Rattle.message.specs.declared.Layout.{Layout}
 use Rattle.consistent.specs.List.{listAnswer, listSlice}
 
 -- a marked case: what is given, and what the paper says comes of it

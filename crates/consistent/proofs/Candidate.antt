@@ -1,23 +1,23 @@
 -- A candidate's numbers, compared with those of a message that was read. Assumes nothing.
-use mathlib.Core.Path.{_≡_, refl, sym, ap, _∙_}
-use mathlib.Core.Bool.{Bool, true, false, _&&_}
-use mathlib.Core.List.{List, _++_, append-assoc}
 use Prim.Native.Nat.{ℕ, _+_, _-_, _<_, _≤_}
+use mathlib.Core.Path.{_≡_, refl, sym, ap, _∙_}
+use mathlib.Core.Bool.{true}
+use mathlib.Core.List.{List, _++_, append-assoc}
 use native.Mathlib.Omega.{arith}
 use lib.ListN.{length, getD, take, drop, length-append, List·getD-append}
 use lib.Seq.{getD-append-add, take-at, drop-at}
 use Rattle.bits.specs.Bits.{AllBytes, same}
 use Rattle.bits.proofs.Laws.{both-ways, same-eq, same-refl}
 use Rattle.rows.specs.Order.{Row}
-use Rattle.message.specs.declared.Layout.{Layout}
 use Rattle.message.specs.Layout.{legal, rowBits}
 use Rattle.message.specs.Message.{blockSums, stringSums, checks, encode, message}
 use Rattle.message.specs.Read.{layoutOf, readBlockSums, readStringSums, readChecks, messageRefusal, numbersRead}
-use Rattle.message.proofs.Numbers.{block-count, string-count}
-use Rattle.message.proofs.Messages.{encode-read}
+use Rattle.message.specs.declared.Layout.{Layout}
 use Rattle.message.proofs.Answers.{fit-named}
+use Rattle.message.proofs.Cutting.{length-block-sums, length-string-sums}
+use Rattle.message.proofs.Messages.{encode-read}
+use Rattle.message.proofs.Numbers.{block-count, string-count}
 use Rattle.message.proofs.Roundtrip.{message-reads}
-use Rattle.message.proofs.Cutting.{length-block-sums, length-string-sums, length-checks}
 use Rattle.consistent.specs.Consistent.{yields}
 
 -- ---- the sums by their places

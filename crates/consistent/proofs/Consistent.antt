@@ -1,17 +1,17 @@
 -- What "consistent" says, part by part, and what the list holds. Assumes nothing.
+use Prim.Native.Nat.{ℕ, _-_}
 use mathlib.Core.Path.{_≡_, ap, _∙_}
 use mathlib.Core.Bool.{true, _&&_}
 use mathlib.Core.Logic.{_↔_}
 use mathlib.Core.List.{List}
-use Prim.Native.Nat.{ℕ, _-_}
 use borrow.Author.Tests.{eq-eqb, eqb-true}
 use lib.Dec.{eqb}
 use lib.ListN.{length}
 use Rattle.bits.specs.Bits.{same}
 use Rattle.bits.proofs.Laws.{both-left, both-right, same-eq, same-refl}
-use Rattle.rows.specs.Rows.{allRows}
 use Rattle.rows.specs.Deletion.{comesFrom}
 use Rattle.rows.specs.Order.{Mem, Ascending, Row}
+use Rattle.rows.specs.Rows.{allRows}
 use Rattle.rows.proofs.Order.{rows-ascending, keep-ascending, kept-row, row-kept}
 use Rattle.message.specs.Message.{message}
 use Rattle.message.specs.Read.{layoutOf}

@@ -1,10 +1,10 @@
 -- Demand 3, "the list is exact": the theorems that need no search. That the list holds exactly the consistent rows, in dictionary
 -- order and each once, is `list-exact` and `list-ascending` in Consistent.antt; here stand "with none or one deleted it holds at
 -- most one row" and "the row is listed whenever the list fits its slice". Assumes nothing.
+use Prim.Native.Nat.{ℕ, zero, suc, _-_, _≤_}
 use mathlib.Core.Path.{_≡_, refl, sym, ap, _∙_}
 use mathlib.Core.Bool.{true}
 use mathlib.Core.List.{List, _++_, map}
-use Prim.Native.Nat.{ℕ, zero, suc, _-_, _≤_}
 use native.Mathlib.Nat.{mul-assoc}
 use native.Mathlib.Omega.{arith}
 use lib.Dec.{eqb·suc-zero}
@@ -17,17 +17,17 @@ use Rattle.rows.specs.Order.{Mem, Row}
 use Rattle.rows.specs.Slice.{flat}
 use Rattle.rows.proofs.Deletion.{comes-length, comes-bits}
 use Rattle.rows.proofs.Single.{at-most-one}
-use Rattle.message.specs.declared.Layout.{Layout}
 use Rattle.message.specs.Layout.{legal, rowBits, blockBits}
 use Rattle.message.specs.Message.{blockSums, message}
 use Rattle.message.specs.Read.{layoutOf, readBlockSums}
+use Rattle.message.specs.declared.Layout.{Layout}
 use Rattle.message.proofs.Messages.{fit}
 use Rattle.message.proofs.Roundtrip.{message-fit, message-reads}
 use Rattle.consistent.specs.Consistent.{mostLosses, bitsOf, consistent, theList}
 use Rattle.consistent.specs.List.{room, wanted, inputChecks, listRefusal, listAnswer, listSlice}
-use Rattle.consistent.proofs.Greedy.{comes-losses}
-use Rattle.consistent.proofs.Consistent.{of-consistent, is-consistent, list-exact}
 use Rattle.consistent.proofs.Blocks.{same-row}
+use Rattle.consistent.proofs.Consistent.{of-consistent, is-consistent, list-exact}
+use Rattle.consistent.proofs.Greedy.{comes-losses}
 use Rattle.consistent.proofs.List.{wanted-packed, message-passed, input-passed, input-passes, answer-is, list-counts, list-writes}
 
 -- ---- "with none or one deleted it holds at most one row"

@@ -1,10 +1,10 @@
 -- The rule of the source (document 01, "Steps of the source"): "if the next nb bits have the block's sum, one loss there yields no
 -- row that zero losses don't also yield, so only zero and two or more are tried". It is a theorem on a row's own losses, and holds
 -- for a chunk inside its chunk-string just so. Assumes nothing.
+use Prim.Native.Nat.{ℕ, zero, suc, _-_, _<_, _≤_}
 use mathlib.Core.Path.{_≡_, refl, sym, ap, _∙_}
 use mathlib.Core.Bool.{true}
 use mathlib.Core.List.{List, [], _∷_, _++_, append-nil, append-assoc}
-use Prim.Native.Nat.{ℕ, zero, suc, _-_, _<_, _≤_}
 use native.Mathlib.Omega.{arith}
 use lib.ListN.{length, take, drop}
 use lib.Seq.{take-at, drop-at, length-take-le}
@@ -12,8 +12,8 @@ use Rattle.bits.specs.Bits.{AllBits}
 use Rattle.bits.proofs.Laws.{bits-append, bits-take}
 use Rattle.rows.specs.Deletion.{comesFrom}
 use Rattle.rows.proofs.Deletion.{One, here, there, one, one-passes}
-use Rattle.vt.specs.Sum.{sum}
 use Rattle.vt.specs.Mend.{mended}
+use Rattle.vt.specs.Sum.{sum}
 use Rattle.vt.proofs.Mending.{unique, mended-only}
 use Rattle.consistent.specs.Greedy.{losses}
 use Rattle.consistent.proofs.Greedy.{losses-most, piece, reads-whole}

@@ -5,8 +5,8 @@ use mathlib.Core.List.{List}
 use lib.Dec.{eqb}
 use lib.ListN.{length}
 use Rattle.bits.specs.Bits.{same}
-use Rattle.rows.specs.Rows.{allRows, keep}
 use Rattle.rows.specs.Deletion.{comesFrom}
+use Rattle.rows.specs.Rows.{allRows, keep}
 use Rattle.message.specs.Layout.{rowBits}
 use Rattle.message.specs.Message.{message}
 use Rattle.message.specs.Read.{layoutOf}

@@ -1,5 +1,4 @@
 -- What the structs of the C boundary say, as the operations' definitions number it.
-use Prim.Native.Nat.{ℕ}
 use Rattle.refusal.specs.Refusal.{Answer as NumberedAnswer}
 use Rattle.message.specs.Layout.{layout}
 use Rattle.message.specs.Read.{LayoutAnswer as NumberedLayout}

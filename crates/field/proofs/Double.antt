@@ -1,14 +1,14 @@
 -- The laws of doubling in the fields. Assumes nothing.
+use Prim.Native.Nat.{ℕ, zero, suc, _*_, _/_, _%_, _^_, _<_, _≤_}
 use mathlib.Core.Path.{_≡_, refl, sym, ap, ap₂, _∙_}
 use mathlib.Core.Bool.{Bool, cond}
-use Prim.Native.Nat.{ℕ, zero, suc, _*_, _/_, _%_, _^_, _<_, _≤_}
-use native.Mathlib.Nat.{div-eq-of-lt, div-eq-of-lt-le, div-lt-iff-lt-mul}
 use native.Mathlib.Decide.{decLt}
+use native.Mathlib.Nat.{div-eq-of-lt, div-eq-of-lt-le, div-lt-iff-lt-mul}
 use native.Mathlib.Omega.{arith}
+use borrow.Author.Tests.{lt-ltb, le-ltb}
 use lib.Bits.{bitXor, xor-lt, xor-shr, xor-zero-r, xor-self}
 use lib.Dec.{eqb}
 use lib.Pow.{pow-pos, pow-mono}
-use borrow.Author.Tests.{lt-ltb, le-ltb}
 use Rattle.field.specs.Field.{polynomial, Element, double, power}
 use Rattle.field.proofs.Xor.{digit, xor-twice, xor-cross, xor-same}
 

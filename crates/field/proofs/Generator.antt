@@ -1,18 +1,18 @@
 -- 2 generates each field: every element but 0 is a power of 2, and of one exponent only; so what holds of the powers holds of
 -- the elements. Assumes nothing.
+use Prim.Native.Nat.{ℕ, zero, suc, _+_, _-_, _^_, _<_, _≤_}
 use mathlib.Core.Path.{_≡_, sym, ap, ap₂, _∙_, subst}
 use mathlib.Core.Bool.{not}
-use Prim.Native.Nat.{ℕ, zero, suc, _+_, _-_, _^_, _<_, _≤_}
-use native.Mathlib.Nat.{add-zero}
 use native.Mathlib.Decide.{decLt}
+use native.Mathlib.Nat.{add-zero}
 use native.Mathlib.Omega.{arith}
 use lib.Dec.{T, T-not}
 use Rattle.field.specs.Field.{Element, double, power, times}
 use Rattle.field.specs.Tables.{doubles}
 use Rattle.field.proofs.Among.{has, has-at, at-has, all-in, all-in-has}
 use Rattle.field.proofs.Double.{each, power-element, power-nonzero}
-use Rattle.field.proofs.Times.{times-element, times-zero, times-of-zero, times-one, times-of-double, double-times, times-power, power-order, power-period}
 use Rattle.field.proofs.Powers.{doubles-at, length-doubles, powers-at}
+use Rattle.field.proofs.Times.{times-element, times-zero, times-of-zero, times-one, times-of-double, double-times, times-power, power-order, power-period}
 
 module _ (nc : ℕ) (lo : 3 ≤ nc) (hi : nc ≤ 8) where
   -- every element but 0 is among the powers, computed

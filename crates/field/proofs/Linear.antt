@@ -1,7 +1,7 @@
 -- The laws of the checks: their results are elements, and they are linear. Assumes nothing.
+use Prim.Native.Nat.{ℕ, zero, suc, _+_, _*_, _≤_}
 use mathlib.Core.Path.{_≡_, refl, sym, ap, ap₂, _∙_}
 use mathlib.Core.List.{List, [], _∷_, _++_}
-use Prim.Native.Nat.{ℕ, zero, suc, _+_, _*_, _≤_}
 use native.Mathlib.Nat.{add-zero}
 use native.Mathlib.Omega.{arith}
 use lib.Bits.{bitXor, xor-lt}
@@ -9,8 +9,8 @@ use lib.ListN.{length}
 use lib.Pow.{pow-pos}
 use Rattle.field.specs.Field.{Element, Elements, power, times, checkFrom, check}
 use Rattle.field.specs.Linear.{xorEach, Linear}
-use Rattle.field.proofs.Xor.{xor-assoc, xor-cross}
 use Rattle.field.proofs.Times.{times-element, times-of-xor}
+use Rattle.field.proofs.Xor.{xor-assoc, xor-cross}
 
 pub length-xorEach : (xs ys : List ℕ) → length xs ≡ length ys → length (xorEach xs ys) ≡ length xs
 unfolding xorEach

@@ -1,15 +1,15 @@
 -- One turn of the loop over the chunks. Assumes nothing.
+use Prim.Native.Nat.{ℕ, _+_, _*_, _<_, _≤_}
 use mathlib.Core.Path.{_≡_, refl, sym, ap, ap₂, _∙_}
 use mathlib.Core.List.{List}
-use Prim.Native.Nat.{ℕ, _+_, _*_, _<_, _≤_}
 use native.Mathlib.Nat.{mul-suc}
 use native.Mathlib.Numerals.{add-one}
 use lib.Bits.{bitXor, xor-zero-r}
 use lib.ListN.{length, getD, drop}
 use lib.Seq.{drop-cons, drop-length}
 use Rattle.field.specs.Field.{power, times, checkFrom, check}
-use Rattle.field.proofs.Xor.{xor-assoc}
 use Rattle.field.proofs.Times.{times-power}
+use Rattle.field.proofs.Xor.{xor-assoc}
 
 -- the exponent of the next chunk
 pub power-next : (nc : ℕ) → 3 ≤ nc → nc ≤ 8 → (i c e s : ℕ) → power nc e ≡ power nc (i * c) → power nc s ≡ power nc i

@@ -1,14 +1,14 @@
 -- The laws of the product: linear on both sides, and the powers of 2 add up. Assumes nothing.
-use mathlib.Core.Path.{_≡_, refl, sym, ap, ap₂, _∙_}
 use Prim.Native.Nat.{ℕ, zero, suc, _+_, _-_, _*_, _/_, _%_, _^_, _<_, _≤_}
+use mathlib.Core.Path.{_≡_, refl, sym, ap, ap₂, _∙_}
 use native.Mathlib.Nat.{pow-suc, zero-add, zero-mul, suc-mul, add-comm, add-assoc, div-add-mod'}
 use native.Mathlib.Omega.{arith}
 use lib.Arith.{bin-ind, lt-one}
 use lib.Bits.{bitXor, xor-lt, xor-zero-r, xor-shifted}
 use lib.Pow.{pow-pos}
 use Rattle.field.specs.Field.{polynomial, Element, double, power, timesDigits, times}
-use Rattle.field.proofs.Xor.{digit, last-digit, xor-half, xor-odd, xor-cross}
 use Rattle.field.proofs.Double.{each, pick, pick-xor, pick-of-xor, carry, carry-digit, double-small, double-carries, double-zero, double-xor, double-element, power-element}
+use Rattle.field.proofs.Xor.{digit, last-digit, xor-half, xor-odd, xor-cross}
 
 -- ---- the digits of the first factor
 

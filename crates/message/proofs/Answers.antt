@@ -1,21 +1,21 @@
 -- What reading answers, by what the checks of the message and the length of the target say. Assumes nothing.
-use mathlib.Core.Path.{_≡_, refl, sym, ap, _∙_}
-use mathlib.Core.Bool.{Bool, true, false, cond}
-use mathlib.Core.List.{List, [], _∷_, _++_}
 use Prim.Native.Nat.{ℕ, suc, _+_, _<_, _≤_}
+use mathlib.Core.Path.{_≡_, refl, sym, ap, _∙_}
+use mathlib.Core.Bool.{true, cond}
+use mathlib.Core.List.{List, [], _∷_, _++_}
 use native.Mathlib.Omega.{arith}
 use borrow.Author.Tests.{lt-ltb, le-ltb, eq-eqb, ne-eqb}
 use lib.Dec.{eqb, ltb, eqb·suc-zero}
 use lib.ListN.{length, drop, length-append}
+use Rattle.refusal.specs.Refusal.{numberOf, firstRefusal}
 use Rattle.refusal.specs.declared.Refusal.{Refusal}
-use Rattle.refusal.specs.Refusal.{numberOf, Check, firstRefusal}
 use Rattle.refusal.proofs.Laws.{Numbered, numbered, refused-before, passed-before}
-use Rattle.message.specs.declared.Layout.{Layout}
-use Rattle.message.specs.declared.Read.{Read}
-use Rattle.message.specs.declared.Read.the-variants.{Layout as Found, Refused}
 use Rattle.message.specs.Layout.{legal}
 use Rattle.message.specs.Message.{messageBytes}
 use Rattle.message.specs.Read.{LayoutAnswer, noLayout, readOf, layoutOf, messageChecks, messageRefusal, numbersRead, readBlockSums, readStringSums, readChecks, readRefusal, layoutAnswer, readTarget}
+use Rattle.message.specs.declared.Layout.{Layout}
+use Rattle.message.specs.declared.Read.the-variants.{Layout as Found, Refused}
+use Rattle.message.specs.declared.Read.{Read}
 use Rattle.message.proofs.Messages.{Fit, fit}
 use Rattle.message.proofs.Numbers.{block-count, string-count, check-count}
 

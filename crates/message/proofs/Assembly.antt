@@ -1,27 +1,27 @@
 -- The parts of a message put together: the chunks that the checks are taken of, the fields one after another, and the packed fields
 -- behind the head. Assumes nothing.
+use Prim.Native.Nat.{ℕ, _+_, _-_, _*_, _≤_}
 use mathlib.Core.Path.{_≡_, refl, sym, ap, _∙_}
 use mathlib.Core.Bool.{true}
 use mathlib.Core.List.{List, [], _++_, append-assoc, append-nil, flatMap, map}
-use Prim.Native.Nat.{ℕ, _+_, _-_, _*_, _≤_}
 use native.Mathlib.Omega.{arith}
-use lib.ListN.{length, take, drop, length-append, length-drop, drop-of-length-le}
-use lib.Seq.{take-at, drop-drop}
 use borrow.Rule.Slice.PartAt.{part-to-end}
 use borrow.Rule.Slice.PartMut.{putMid}
+use lib.ListN.{length, take, drop, length-append, length-drop, drop-of-length-le}
+use lib.Seq.{take-at, drop-drop}
 use Rattle.bits.specs.Bits.{AllBits, longest, number, digits, bytesFor, pack, unpack, fits}
+use Rattle.bits.proofs.Copy.{part-next}
 use Rattle.bits.proofs.Laws.{bits-take, bits-unpack}
 use Rattle.bits.proofs.Packing.{fits-length, length-string}
-use Rattle.bits.proofs.Copy.{part-next}
 use Rattle.field.specs.Field.{Elements, check}
-use Rattle.message.specs.declared.Layout.{Layout}
 use Rattle.message.specs.Layout.{legal, rowBits, blockBits, stringBits, numbers, chunks}
 use Rattle.message.specs.Message.{width, fieldsLength, messageBytes, blockSums, stringSums, checks, head, fieldBits, encode, message}
+use Rattle.message.specs.declared.Layout.{Layout}
+use Rattle.message.proofs.Cutting.{chunk-numbers, chunk-elements, length-block-sums, length-string-sums, length-checks}
+use Rattle.message.proofs.Fields.{width-most, length-flat, length-fields}
 use Rattle.message.proofs.Legal.{legal-bounds, sizes}
 use Rattle.message.proofs.Longest.{fields-high}
-use Rattle.message.proofs.Fields.{width-most, length-flat, length-fields}
 use Rattle.message.proofs.Messages.{bits-fields, length-field-bits}
-use Rattle.message.proofs.Cutting.{chunk-numbers, chunk-elements, length-block-sums, length-string-sums, length-checks}
 
 -- ---- the chunks that the checks are taken of
 -- the chunks of a row at the front of an array, lent

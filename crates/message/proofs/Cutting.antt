@@ -1,8 +1,8 @@
 -- How a row is cut into blocks, chunks and chunk-strings: how many pieces there are, how long each is and where it stands; and
 -- which sums they have. Assumes nothing.
+use Prim.Native.Nat.{ℕ, zero, suc, _+_, _*_, _^_, _<_, _≤_}
 use mathlib.Core.Path.{_≡_, refl, sym, ap, ap₂, _∙_}
 use mathlib.Core.List.{List, [], _∷_, _++_, flatMap, map}
-use Prim.Native.Nat.{ℕ, zero, suc, _+_, _*_, _^_, _<_, _≤_}
 use native.Mathlib.Nat.{add-comm, add-zero, zero-add, zero-mul, suc-mul, mul-comm, mul-assoc}
 use native.Mathlib.Numerals.{add-one}
 use native.Mathlib.Omega.{arith}
@@ -11,15 +11,15 @@ use lib.Pow.{pow-pos}
 use lib.Seq.{drop-cons, drop-drop, take-take, length-take-le}
 use Rattle.bits.specs.Bits.{cut, AllBits, number}
 use Rattle.bits.proofs.Laws.{bits-append, bits-take, bits-drop}
-use Rattle.vt.specs.Sum.{sum}
 use Rattle.field.specs.Field.{Elements, check}
-use Rattle.message.specs.declared.Layout.{Layout}
+use Rattle.vt.specs.Sum.{sum}
+use Rattle.message.specs.Encoding.{FitAll}
 use Rattle.message.specs.Layout.{rowBits, blockBits, stringBits, numbers, blocks, chunk, chunkString, chunkStrings, chunks}
 use Rattle.message.specs.Message.{blockSums, stringSums, checks}
-use Rattle.message.specs.Encoding.{FitAll}
 use Rattle.message.specs.Read.{fields}
-use Rattle.message.proofs.Positions.{sum-high}
+use Rattle.message.specs.declared.Layout.{Layout}
 use Rattle.message.proofs.Fields.{fields-fit, field-room}
+use Rattle.message.proofs.Positions.{sum-high}
 
 -- ---- pieces of one length
 pub length-cut : (n w : ℕ) (x : List ℕ) → length (cut n w x) ≡ n

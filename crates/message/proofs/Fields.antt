@@ -1,19 +1,19 @@
 -- Fields of k bits, one after another, and how many bits a number needs. Assumes nothing.
+use Prim.Native.Nat.{ℕ, zero, suc, _+_, _*_, _/_, _^_, _<_, _≤_}
 use mathlib.Core.Path.{_≡_, refl, sym, ap, ap₂, _∙_}
-use mathlib.Core.Bool.{Bool, true, false}
+use mathlib.Core.Bool.{true, false}
 use mathlib.Core.List.{List, [], _∷_, _++_, append-assoc, flatMap}
-use Prim.Native.Nat.{ℕ, zero, suc, _+_, _-_, _*_, _/_, _%_, _^_, _<_, _≤_}
+use native.Mathlib.Nat.{add-mul, one-mul, mul-le-mul-right, add-comm, suc-mul, zero-mul, pow-suc, mod-eq-of-lt}
 use native.Mathlib.Numerals.{add-one}
-use native.Mathlib.Nat.{add-mul, one-mul, mul-le-mul-right, add-comm, zero-add, add-zero, suc-mul, zero-mul, pow-suc, mod-eq-of-lt}
 use native.Mathlib.Omega.{arith}
 use borrow.Author.Tests.{lt-ltb, le-ltb, ltb-false}
 use lib.Dec.{ltb}
-use lib.ListN.{length, getD, take, drop, length-append, length-take, length-drop, drop-of-length-le}
-use lib.Seq.{drop-cons, drop-at, take-add, take-append-le, drop-drop, take-all}
+use lib.ListN.{length, getD, take, drop, length-append, length-drop, drop-of-length-le}
+use lib.Seq.{drop-cons, drop-at, take-add, drop-drop}
 use Rattle.bits.specs.Bits.{AllBits, number, digits}
 use Rattle.bits.proofs.Laws.{neither-left, neither-right, bits-digits, bits-append, bits-drop, length-digits, number-digits, number-lt, digits-number, fill}
-use Rattle.message.specs.Message.{halvings, width}
 use Rattle.message.specs.Encoding.{AtMost, FitAll}
+use Rattle.message.specs.Message.{halvings, width}
 use Rattle.message.specs.Read.{fields, someAbove}
 
 -- ---- as many bits as a number needs

@@ -1,9 +1,9 @@
 -- The mark and the version, byte by byte. Assumes nothing.
-use mathlib.Core.Path.{_≡_, refl}
-use mathlib.Core.Bool.{Bool, true, false, _&&_}
-use mathlib.Core.List.{List}
 use Prim.Native.Nat.{ℕ, _≤_}
-use borrow.Author.Tests.{leb-true, le-leb, eqb-true, eq-eqb}
+use mathlib.Core.Path.{_≡_}
+use mathlib.Core.Bool.{true, _&&_}
+use mathlib.Core.List.{List}
+use borrow.Author.Tests.{leb-true, le-leb, eqb-true}
 use lib.Dec.{eqb, leb}
 use lib.ListN.{length, getD}
 use Rattle.bits.proofs.Laws.{both-left, both-right}

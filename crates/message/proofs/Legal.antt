@@ -1,18 +1,16 @@
 -- What a legal layout bounds, and how a row is cut. Assumes nothing.
-use mathlib.Core.Path.{_≡_, refl, sym, ap, _∙_}
-use mathlib.Core.Bool.{Bool, true, false, _&&_, and-true}
-use mathlib.Core.List.{List, [], _∷_, _++_}
-use Prim.Native.Nat.{ℕ, zero, suc, _+_, _-_, _*_, _/_, _%_, _^_, _<_, _≤_}
-use native.Mathlib.Nat.{mul-le-mul, mul-le-mul-left, mul-le-mul-right, mul-one, one-mul, mul-comm, mul-assoc}
+use Prim.Native.Nat.{_-_, _*_, _^_, _≤_}
+use mathlib.Core.Path.{_≡_, sym}
+use mathlib.Core.Bool.{true, false, _&&_, and-true}
+use native.Mathlib.Nat.{mul-le-mul, mul-le-mul-left, mul-le-mul-right, mul-one, one-mul, mul-assoc}
 use native.Mathlib.Omega.{arith}
 use borrow.Author.Tests.{leb-true, le-leb}
 use lib.Dec.{leb}
-use lib.Pow.{pow-mono, pow-pos}
-use lib.ListN.{length, take, drop}
+use lib.Pow.{pow-mono}
 use Rattle.bits.specs.Bits.{longest}
 use Rattle.bits.proofs.Laws.{refuted, both-left, both-right}
-use Rattle.message.specs.declared.Layout.{Layout}
 use Rattle.message.specs.Layout.{legal, rowBits, blockBits, stringBits}
+use Rattle.message.specs.declared.Layout.{Layout}
 
 -- what "legal" says, number by number
 pub record Bounds (l : Layout) : Type 0 where

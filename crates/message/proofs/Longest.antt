@@ -1,19 +1,19 @@
 -- "The longest message has 154 bytes": one test, computed over all legal block and chunk counts of all six fields. Assumes nothing.
-use mathlib.Core.Path.{_≡_, refl, sym, ap, _∙_, subst}
-use mathlib.Core.Bool.{Bool, true, false, _&&_}
+use Prim.Native.Nat.{ℕ, zero, suc, _+_, _*_, _/_, _≤_}
+use mathlib.Core.Path.{_≡_, refl}
+use mathlib.Core.Bool.{Bool, true, _&&_}
 use mathlib.Core.Logic.{⊎-elim}
-use Prim.Native.Nat.{ℕ, zero, suc, _+_, _-_, _*_, _/_, _<_, _≤_}
+use mathlib.Core.List.{List}
 use native.Mathlib.Nat.{mul-le-mul-right, mul-comm, le-div-iff-mul-le}
 use native.Mathlib.Omega.{arith}
 use borrow.Author.Tests.{leb-true}
-use mathlib.Core.List.{List}
 use lib.Dec.{leb}
 use lib.ListN.{length, drop, length-drop}
 use Rattle.bits.specs.Bits.{bytesFor}
 use Rattle.bits.proofs.Laws.{lt-or-ge, both-left, both-right}
-use Rattle.message.specs.declared.Layout.{Layout}
 use Rattle.message.specs.Layout.{legal, blockBits, stringBits}
 use Rattle.message.specs.Message.{width, fieldsLength, messageBytes}
+use Rattle.message.specs.declared.Layout.{Layout}
 use Rattle.message.proofs.Fields.{width-most}
 use Rattle.message.proofs.Legal.{Bounds, Sizes, legal-bounds, sizes}
 

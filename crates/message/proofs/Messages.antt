@@ -1,27 +1,26 @@
 -- A message and what is read of it determine each other. Assumes nothing.
+use Prim.Native.Nat.{ℕ, zero, suc, _+_, _*_, _≤_}
 use mathlib.Core.Path.{_≡_, refl, sym, ap, ap₂, _∙_}
-use mathlib.Core.Bool.{Bool, true, false, not, _&&_, _||_}
+use mathlib.Core.Bool.{Bool, true, false, not, _||_}
 use mathlib.Core.Logic.{_↔_}
 use mathlib.Core.List.{List, [], _∷_, _++_, append-assoc, flatMap, map}
-use Prim.Native.Nat.{ℕ, zero, suc, _+_, _-_, _*_, _/_, _%_, _^_, _<_, _≤_}
-use native.Mathlib.Nat.{zero-add, add-zero, suc-mul, zero-mul, add-comm}
 use native.Mathlib.Omega.{arith}
-use borrow.Author.Tests.{le-leb, eq-eqb, ne-eqb, eqb-true, leb-true, not-false}
-use lib.Dec.{eqb, ltb, leb, eqb·suc-zero}
-use lib.ListN.{length, getD, take, drop, length-append, length-take, length-drop, take-append-drop}
-use lib.Seq.{drop-at, take-add, take-at, drop-cons, length-take-le, drop-drop}
-use Rattle.refusal.specs.Refusal.{Check, firstRefusal}
+use borrow.Author.Tests.{le-leb, eq-eqb, ne-eqb, eqb-true, not-false}
+use lib.Dec.{eqb}
+use lib.ListN.{length, getD, take, drop, length-append, length-drop, take-append-drop}
+use lib.Seq.{drop-at, take-add, drop-cons, drop-drop}
+use Rattle.refusal.specs.Refusal.{Check}
 use Rattle.refusal.proofs.Laws.{passed}
 use Rattle.bits.specs.Bits.{AllBits, AllBytes, digits, bytesFor, pack, unpack, blank, fits}
-use Rattle.bits.proofs.Laws.{both-left, both-right, neither-left, neither-right, bits-append, bits-unpack, bits-drop, length-unpack}
+use Rattle.bits.proofs.Laws.{neither-left, neither-right, bits-append, bits-unpack, bits-drop, length-unpack}
 use Rattle.bits.proofs.Packing.{bytes-drop, unpack-pack, pack-unpack, length-pack, fits-pack, fits-blank, fits-by}
-use Rattle.message.specs.declared.Layout.{Layout}
-use Rattle.message.specs.Layout.{legal, rowBits, blockBits, stringBits, numbers}
+use Rattle.message.specs.Encoding.{Encodable}
+use Rattle.message.specs.Layout.{legal, blockBits, stringBits, numbers}
 use Rattle.message.specs.Message.{width, fieldsLength, messageBytes, head, fieldBits, encode}
-use Rattle.message.specs.Encoding.{AtMost, FitAll, Encodable}
-use Rattle.message.specs.Read.{marked, versionOne, layoutOf, fields, body, readBlockSums, readStringSums, readChecks, someAbove, messageChecks, messageRefusal, noLayout, LayoutAnswer, layoutAnswer}
-use Rattle.message.proofs.Head.{Mark, mark, VersionOne, version}
+use Rattle.message.specs.Read.{marked, versionOne, layoutOf, body, readBlockSums, readStringSums, readChecks, someAbove, messageRefusal}
+use Rattle.message.specs.declared.Layout.{Layout}
 use Rattle.message.proofs.Fields.{fields-flat, flat-fields, length-flat, bits-flat, none-above, at-most, fit-width, fields-fit, length-fields}
+use Rattle.message.proofs.Head.{Mark, mark, VersionOne, version}
 
 -- ---- the bits of the fields
 module _ (l : Layout) (bs ss cs : List ℕ) where

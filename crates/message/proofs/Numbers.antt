@@ -1,17 +1,17 @@
 -- The numbers of a message, written one part after another to a slice o. Assumes nothing.
-use mathlib.Core.Path.{_≡_, refl, sym, ap, _∙_}
+use Prim.Native.Nat.{ℕ, _+_, _-_, _*_}
+use mathlib.Core.Path.{_≡_, refl, ap, _∙_}
 use mathlib.Core.List.{List, _++_}
-use Prim.Native.Nat.{ℕ, _+_, _-_, _*_, _≤_}
 use native.Mathlib.Nat.{zero-add}
 use native.Mathlib.Omega.{arith}
 use borrow.Rule.Slice.PartAt.{part-to-end}
 use lib.ListN.{length, take, drop, length-append}
 use Rattle.bits.specs.Bits.{unpack}
 use Rattle.bits.proofs.Copy.{part-next}
-use Rattle.message.specs.declared.Layout.{Layout}
 use Rattle.message.specs.Layout.{blockBits, stringBits}
 use Rattle.message.specs.Message.{width}
 use Rattle.message.specs.Read.{body, fields, readBlockSums, readStringSums, readChecks}
+use Rattle.message.specs.declared.Layout.{Layout}
 use Rattle.message.proofs.Fields.{length-fields}
 
 module _ (l : Layout) (s : List ℕ) where

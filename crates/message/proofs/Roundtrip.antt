@@ -1,21 +1,21 @@
 -- The message of a row can be read: what writing puts into it is what reading gets of it. Assumes nothing.
+use Prim.Native.Nat.{ℕ, suc, _^_, _<_, _≤_}
 use mathlib.Core.Path.{_≡_}
 use mathlib.Core.Bool.{true}
 use mathlib.Core.List.{List, [], _∷_, map}
-use Prim.Native.Nat.{ℕ, suc, _^_, _<_, _≤_}
 use native.Mathlib.Omega.{arith}
 use lib.ListN.{length, getD}
 use Rattle.bits.specs.Bits.{AllBits, number}
 use Rattle.field.specs.Field.{check}
 use Rattle.field.proofs.Linear.{check-element}
-use Rattle.message.specs.declared.Layout.{Layout}
+use Rattle.message.specs.Encoding.{AtMost, FitAll, Encodable}
 use Rattle.message.specs.Layout.{legal, rowBits, blockBits, stringBits, chunks}
 use Rattle.message.specs.Message.{messageBytes, blockSums, stringSums, checks, message}
-use Rattle.message.specs.Encoding.{AtMost, FitAll, Encodable}
 use Rattle.message.specs.Read.{messageRefusal}
+use Rattle.message.specs.declared.Layout.{Layout}
+use Rattle.message.proofs.Cutting.{each-number, length-block-sums, length-string-sums, length-checks, block-sum-low, string-sum-low, chunk-elements}
 use Rattle.message.proofs.Legal.{Bounds, legal-bounds}
 use Rattle.message.proofs.Messages.{ReadsAs, reads-encoded, encoded-fit, length-encode}
-use Rattle.message.proofs.Cutting.{each-number, length-block-sums, length-string-sums, length-checks, block-sum-low, string-sum-low, chunk-elements}
 
 -- ranges by places
 at-most-each : (w : ℕ) (vs : List ℕ) → ((i : ℕ) → i < length vs → getD vs i 0 ≤ w) → AtMost w vs

@@ -1,9 +1,9 @@
 -- What the functions that sum a row's blocks and chunk-strings ask: where a block or a chunk stands in the row, and what it adds.
 -- Assumes nothing.
+use Prim.Native.Nat.{ℕ, _+_, _-_, _*_, _%_, _<_, _≤_}
 use mathlib.Core.Path.{_≡_, refl, sym, ap, _∙_}
 use mathlib.Core.Bool.{true}
 use mathlib.Core.List.{List, _++_, flatMap}
-use Prim.Native.Nat.{ℕ, _+_, _-_, _*_, _%_, _<_, _≤_}
 use native.Mathlib.Nat.{zero-mul, mul-comm, mul-le-mul, le-trans, add-mul, one-mul}
 use native.Mathlib.Omega.{arith}
 use lib.ListN.{length, getD, take, drop, length-drop}
@@ -11,13 +11,13 @@ use lib.Seq.{length-take-le}
 use Rattle.bits.specs.Bits.{AllBits, longest}
 use Rattle.bits.proofs.Laws.{bits-take, bits-drop}
 use Rattle.vt.specs.Sum.{total, sum}
-use Rattle.message.specs.declared.Layout.{Layout}
 use Rattle.message.specs.Layout.{legal, rowBits, blockBits, stringBits, blocks, chunk, chunkString}
 use Rattle.message.specs.Message.{blockSums, stringSums}
+use Rattle.message.specs.declared.Layout.{Layout}
+use Rattle.message.proofs.Cutting.{joined-next, joined-end, length-blocks, block-sum-at, string-sum-at, chunk-at, block-room, chunk-room, length-block, length-chunk-string, bits-chunk-string}
 use Rattle.message.proofs.Fields.{field-room}
 use Rattle.message.proofs.Legal.{legal-bounds, Sizes, sizes}
 use Rattle.message.proofs.Positions.{total-append, total-high}
-use Rattle.message.proofs.Cutting.{joined-next, joined-end, length-blocks, block-sum-at, string-sum-at, chunk-at, block-room, chunk-room, length-block, length-chunk-string, bits-chunk-string}
 
 -- block i as a part of the row
 pub record Part (l : Layout) (x : List ℕ) (i : ℕ) : Type 0 where

@@ -1,16 +1,16 @@
 -- Which check of writing applies when, and what that means for the answer and the target. Assumes nothing.
+use Prim.Native.Nat.{ℕ, suc, _<_, _≤_}
 use mathlib.Core.Path.{_≡_, refl}
 use mathlib.Core.Bool.{true, false}
 use mathlib.Core.List.{List, _++_}
-use Prim.Native.Nat.{ℕ, suc, _<_, _≤_}
 use borrow.Author.Tests.{lt-ltb, le-ltb}
 use lib.Dec.{eqb·suc-zero}
 use lib.ListN.{length, take, drop}
 use Rattle.bits.specs.Bits.{unpack, fits}
-use Rattle.message.specs.declared.Layout.{Layout}
 use Rattle.message.specs.Layout.{legal, rowBits}
 use Rattle.message.specs.Message.{messageBytes, message}
 use Rattle.message.specs.Write.{writeRefusal, writeAnswer, writeTarget}
+use Rattle.message.specs.declared.Layout.{Layout}
 
 -- the checks in their order, each where none before it applies
 module _ (l : Layout) (p : List ℕ) (room : ℕ) where

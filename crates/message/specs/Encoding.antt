@@ -4,8 +4,8 @@ use mathlib.Core.Path.{_≡_}
 use mathlib.Core.Bool.{true}
 use mathlib.Core.List.{List, [], _∷_}
 use lib.ListN.{length}
-use Rattle.message.specs.declared.Layout.{Layout}
 use Rattle.message.specs.Layout.{legal, blockBits, stringBits}
+use Rattle.message.specs.declared.Layout.{Layout}
 
 -- every number of the list is at most w: "a sum above the length of its string" is refused
 abbrev pub AtMost : ℕ → List ℕ → Type 0

@@ -2,10 +2,10 @@
 use Prim.Native.Nat.{ℕ, zero, suc, _+_, _*_, _/_}
 use mathlib.Core.List.{List, [], _∷_, _++_, flatMap, map}
 use Rattle.bits.specs.Bits.{number, digits, bytesFor, pack}
-use Rattle.vt.specs.Sum.{sum}
 use Rattle.field.specs.Field.{check}
-use Rattle.message.specs.declared.Layout.{Layout}
+use Rattle.vt.specs.Sum.{sum}
 use Rattle.message.specs.Layout.{blockBits, stringBits, numbers, blocks, chunkStrings, chunks}
+use Rattle.message.specs.declared.Layout.{Layout}
 
 -- how often w can be halved, at most f times, before nothing is left
 unfoldable pub halvings : (f w : ℕ) → ℕ

@@ -1,16 +1,16 @@
 -- Reading a message (document 01, "The side message" and "Operations and their refusal table").
 use Prim.Native.Nat.{ℕ, zero, suc, _+_, _*_}
-use mathlib.Core.Bool.{Bool, true, false, not, cond, _&&_, _||_}
+use mathlib.Core.Bool.{Bool, false, not, cond, _&&_, _||_}
 use mathlib.Core.List.{List, [], _∷_, _++_}
 use lib.Dec.{eqb, ltb, leb}
 use lib.ListN.{length, getD, drop}
 use Rattle.refusal.specs.Refusal.{Check, numberOf, firstRefusal}
 use Rattle.bits.specs.Bits.{number, unpack, blank}
-use Rattle.message.specs.declared.Layout.{Layout}
-use Rattle.message.specs.declared.Read.{Read}
-use Rattle.message.specs.declared.Read.the-variants.{Layout as Found, Refused}
 use Rattle.message.specs.Layout.{legal, blockBits, stringBits}
 use Rattle.message.specs.Message.{width, fieldsLength, messageBytes}
+use Rattle.message.specs.declared.Layout.{Layout}
+use Rattle.message.specs.declared.Read.the-variants.{Layout as Found, Refused}
+use Rattle.message.specs.declared.Read.{Read}
 
 -- reading's answer as the papers number it: the refusal, 0 where there is none, and the layout, all 0 where there is none
 pub record LayoutAnswer : Type 0 where

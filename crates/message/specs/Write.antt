@@ -6,11 +6,11 @@ use lib.Dec.{eqb, ltb}
 use lib.ListN.{length, take, drop}
 use Rattle.refusal.specs.Refusal.{Answer, numberOf, firstRefusal}
 use Rattle.bits.specs.Bits.{unpack, fits}
-use Rattle.message.specs.declared.Layout.{Layout}
-use Rattle.message.specs.declared.Written.{Written}
-use Rattle.message.specs.declared.Written.the-variants.{Length, Refused}
 use Rattle.message.specs.Layout.{legal, rowBits}
 use Rattle.message.specs.Message.{messageBytes, message}
+use Rattle.message.specs.declared.Layout.{Layout}
+use Rattle.message.specs.declared.Written.the-variants.{Length, Refused}
+use Rattle.message.specs.declared.Written.{Written}
 
 -- the number and the value of each answer: "writing answers the message's length in bytes"
 abbrev pub writtenOf : Written → Answer

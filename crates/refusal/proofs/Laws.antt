@@ -1,12 +1,12 @@
 -- The first refusal of a list of checks. Assumes nothing.
-use mathlib.Core.Path.{_≡_, refl, _∙_}
+use Prim.Native.Nat.{_≤_}
+use mathlib.Core.Path.{_≡_, refl}
 use mathlib.Core.Bool.{Bool, true, false, cond}
 use mathlib.Core.List.{List, [], _∷_, _++_}
-use Prim.Native.Nat.{ℕ, _≤_}
 use native.Mathlib.Omega.{arith}
-use Rattle.refusal.specs.declared.Refusal.{Refusal}
-use Rattle.refusal.specs.declared.Refusal.the-variants.{NoMessage, Version, Layout, MessageLength, Sum, SpareBit, Losses, Packing, ListFull, ShortTarget}
 use Rattle.refusal.specs.Refusal.{numberOf, Check, firstRefusal}
+use Rattle.refusal.specs.declared.Refusal.the-variants.{NoMessage, Version, Layout, MessageLength, Sum, SpareBit, Losses, Packing, ListFull, ShortTarget}
+use Rattle.refusal.specs.declared.Refusal.{Refusal}
 
 -- each check has a number of the table
 abbrev pub Numbered : List Check → Type 0

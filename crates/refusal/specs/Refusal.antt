@@ -2,8 +2,8 @@
 use Prim.Native.Nat.{ℕ}
 use mathlib.Core.Bool.{Bool, cond}
 use mathlib.Core.List.{List, [], _∷_}
-use Rattle.refusal.specs.declared.Refusal.{Refusal}
 use Rattle.refusal.specs.declared.Refusal.the-variants.{NoMessage, Version, Layout, MessageLength, Sum, SpareBit, Losses, Packing, ListFull, ShortTarget}
+use Rattle.refusal.specs.declared.Refusal.{Refusal}
 
 -- the number that stands for a refusal in the column "Returned"
 abbrev pub numberOf : Refusal → ℕ

@@ -1,17 +1,17 @@
 -- The bounded ordered list: rows can be added in any order and in any parts, on a list that is already cut too. Assumes nothing.
+use Prim.Native.Nat.{ℕ, zero, suc, _<_, _≤_, Ordering, Ordering·lt, Ordering·eq, Ordering·gt}
 use mathlib.Core.Path.{_≡_, refl, sym, ap, _∙_, subst}
 use mathlib.Core.Bool.{Bool, true, false, _||_, false≢true}
 use mathlib.Core.Logic.{_⊎_, inl, inr, ⊎-elim}
 use mathlib.Core.List.{List, [], _∷_, _++_}
-use Prim.Native.Nat.{ℕ, zero, suc, _<_, _≤_, Ordering, Ordering·lt, Ordering·eq, Ordering·gt}
 use native.Mathlib.Omega.{arith}
 use borrow.Author.Tests.{ltb-true, ltb-false, lt-ltb, le-ltb}
 use lib.Dec.{ltb}
 use lib.ListN.{length, take, length-take}
 use lib.Seq.{take-all, take-at, take-take}
-use Rattle.rows.specs.Rows.{allRows, keep}
-use Rattle.rows.specs.Order.{Less, byOrder, order, Mem, Before, After, Ascending, Row}
 use Rattle.rows.specs.Held.{Held, none, insert, union, add, WellHeld, Known}
+use Rattle.rows.specs.Order.{Less, byOrder, order, Mem, Before, After, Ascending, Row}
+use Rattle.rows.specs.Rows.{allRows, keep}
 use Rattle.rows.proofs.Order.{less-trans, Compared, compared, answer, mem-before, mem-left, mem-right, mem-append, same-members, rows-ascending, keep-ascending, keep-complete, keep-sound, kept-row}
 
 -- ---- one row put in

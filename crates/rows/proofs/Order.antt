@@ -1,15 +1,15 @@
 -- Dictionary order: its laws; two ascending lists with the same members are the same list; the list of all rows is ascending and
 -- holds exactly the rows of n bits; what `keep` keeps. Assumes nothing.
+use Prim.Native.Nat.{ℕ, zero, suc, _<_, compare, Ordering, Ordering·lt, Ordering·eq, Ordering·gt}
 use mathlib.Core.Path.{_≡_, refl, sym, ap, _∙_, subst}
 use mathlib.Core.Bool.{Bool, true, false, cond}
 use mathlib.Core.Logic.{_⊎_, inl, inr, ⊎-elim}
 use mathlib.Core.List.{List, [], _∷_, _++_, map}
-use Prim.Native.Nat.{ℕ, zero, suc, _<_, compare, Ordering, Ordering·lt, Ordering·eq, Ordering·gt}
 use native.Mathlib.Omega.{arith}
 use borrow.Author.Tests.{leb-true, leb-false, eqb-true, eqb-false}
 use lib.Dec.{isLe, isEq}
-use Rattle.rows.specs.Rows.{allRows, keep}
 use Rattle.rows.specs.Order.{Less, byOrder, order, Mem, Before, After, Ascending, Row}
+use Rattle.rows.specs.Rows.{allRows, keep}
 
 -- ---- the order
 pub less-irrefl : (x : List ℕ) → Less x x → ⊥

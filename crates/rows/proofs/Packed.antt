@@ -1,22 +1,22 @@
 -- Packing keeps dictionary order, so what is held can be kept packed: adding packed rows is packing what is added. Assumes
 -- nothing.
+use Prim.Native.Nat.{ℕ, zero, suc, _+_, _*_, _^_, _<_, _≤_, compare, Ordering, Ordering·lt, Ordering·eq, Ordering·gt}
 use mathlib.Core.Path.{_≡_, refl, sym, ap, _∙_, subst}
 use mathlib.Core.Bool.{Bool, true, false, _||_}
 use mathlib.Core.Logic.{inl, inr, ⊎-elim}
 use mathlib.Core.List.{List, [], _∷_, _++_, map}
-use Prim.Native.Nat.{ℕ, zero, suc, _+_, _*_, _^_, _<_, _≤_, compare, Ordering, Ordering·lt, Ordering·eq, Ordering·gt}
 use native.Mathlib.Omega.{arith}
 use lib.Dec.{ltb}
 use lib.ListN.{length, take, drop, length-drop, length-map, take-append-drop}
 use Rattle.bits.specs.Bits.{cut, AllBits, number, bytes, bytesFor, pack, unpack}
 use Rattle.bits.proofs.Laws.{number-lt, bits-drop}
 use Rattle.bits.proofs.Packing.{length-pack, unpack-pack}
-use Rattle.rows.specs.Rows.{allRows, keep}
-use Rattle.rows.specs.Order.{byOrder, order, Mem, Before, Ascending, Row}
 use Rattle.rows.specs.Held.{Held, none, insert, union, add, WellHeld}
+use Rattle.rows.specs.Order.{byOrder, order, Mem, Before, Ascending, Row}
+use Rattle.rows.specs.Rows.{allRows, keep}
 use Rattle.rows.specs.Slice.{flat, heldIn, Written, packed, rowsIn}
-use Rattle.rows.proofs.Order.{ComparedN, compared-n, answer-n, order-same, order-less, answer}
 use Rattle.rows.proofs.Held.{insert-only, add-add, add-well, add-length, add-kept}
+use Rattle.rows.proofs.Order.{ComparedN, compared-n, answer-n, order-same, order-less, answer}
 use Rattle.rows.proofs.Slice.{Wide, length-cut, flat-cut, written-held, written-written}
 
 -- ---- packing keeps the order

@@ -1,13 +1,13 @@
 -- Where at most one row passes: the first row kept, and how many rows are kept. Assumes nothing.
+use Prim.Native.Nat.{ℕ, _≤_}
 use mathlib.Core.Path.{_≡_, refl, subst}
 use mathlib.Core.Bool.{Bool, true}
 use mathlib.Core.Logic.{inl, inr}
 use mathlib.Core.List.{List, [], _∷_}
-use Prim.Native.Nat.{ℕ, _≤_}
 use native.Mathlib.Omega.{arith}
 use lib.ListN.{length}
-use Rattle.rows.specs.Rows.{allRows, keep, firstOf}
 use Rattle.rows.specs.Order.{Less, Mem, Ascending, Row}
+use Rattle.rows.specs.Rows.{allRows, keep, firstOf}
 use Rattle.rows.proofs.Order.{less-irrefl, rows-ascending, keep-ascending, row-kept, kept-row}
 
 -- the first of a list that has x and nothing else

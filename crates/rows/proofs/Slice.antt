@@ -1,20 +1,20 @@
 -- Rows in a slice, and where a row goes. Assumes nothing.
+use Prim.Native.Nat.{ℕ, zero, suc, _+_, _*_, _-_, _<_, _≤_, compare, Ordering, Ordering·lt, Ordering·eq, Ordering·gt}
 use mathlib.Core.Path.{_≡_, refl, sym, ap, _∙_, subst}
 use mathlib.Core.Bool.{Bool}
 use mathlib.Core.Logic.{inl, inr}
 use mathlib.Core.List.{List, [], _∷_, _++_, append-assoc}
-use Prim.Native.Nat.{ℕ, zero, suc, _+_, _*_, _-_, _<_, _≤_, compare, Ordering, Ordering·lt, Ordering·eq, Ordering·gt}
 use native.Mathlib.Nat.{suc-mul, zero-mul, mul-le-mul-right}
 use native.Mathlib.Numerals.{add-one}
 use native.Mathlib.Omega.{arith}
 use lib.ListN.{length, take, drop, getD, set, length-append, length-drop, take-append-drop, drop-of-length-le, List·getD-append}
 use lib.Seq.{take-at, take-append-le, drop-at, drop-drop, take-take, take-add, take-suc, drop-cons, getD-take, set-at, append-snoc, length-take-le, drop-append-add}
-use Rattle.rows.specs.Order.{Less, byOrder, order, Mem, Ascending}
-use Rattle.rows.specs.Held.{Held, insert}
 use Rattle.bits.specs.Bits.{cut}
+use Rattle.rows.specs.Held.{Held, insert}
+use Rattle.rows.specs.Order.{Less, byOrder, order, Mem, Ascending}
 use Rattle.rows.specs.Slice.{flat, heldIn, Written, place}
-use Rattle.rows.proofs.Order.{less-trans, Compared, compared, answer, ComparedN, answer-n, order-same, mem-before}
 use Rattle.rows.proofs.Held.{insert-held}
+use Rattle.rows.proofs.Order.{less-trans, Compared, compared, answer, ComparedN, answer-n, order-same, mem-before}
 
 -- ---- the place of a row among ordered rows
 row-mem : (m : ℕ) (ys : List (List ℕ)) → m < length ys → Mem (getD ys m []) ys

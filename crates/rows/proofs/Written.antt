@@ -1,8 +1,8 @@
 -- What the list slice holds after a row was added: each way that the code takes writes what `add` says. Assumes nothing.
+use Prim.Native.Nat.{ℕ, suc, _+_, _*_, _-_, _<_, _≤_, Ordering·eq}
 use mathlib.Core.Path.{_≡_, refl, sym, ap, _∙_}
 use mathlib.Core.Bool.{Bool, true, false, _||_}
 use mathlib.Core.List.{List, [], _∷_, _++_, append-assoc}
-use Prim.Native.Nat.{ℕ, suc, _+_, _*_, _-_, _<_, _≤_, Ordering·eq}
 use native.Mathlib.Nat.{suc-mul, add-mul}
 use native.Mathlib.Numerals.{add-one}
 use native.Mathlib.Omega.{arith}
@@ -10,9 +10,9 @@ use borrow.Author.Tests.{lt-ltb, le-ltb}
 use lib.Dec.{ltb}
 use lib.ListN.{length, take, drop, getD, length-append, length-take, length-drop, take-append-drop}
 use lib.Seq.{take-all, take-at, take-append-add, length-take-le}
-use Rattle.rows.specs.Order.{byOrder, order, Ascending}
-use Rattle.rows.specs.Held.{Held, insert, union, add}
 use Rattle.bits.specs.Bits.{cut}
+use Rattle.rows.specs.Held.{Held, insert, union, add}
+use Rattle.rows.specs.Order.{byOrder, order, Ascending}
 use Rattle.rows.specs.Slice.{flat, heldIn, Written, place}
 use Rattle.rows.proofs.Held.{or-true, or-false}
 use Rattle.rows.proofs.Slice.{place-length, insert-there, insert-place, length-cut, cut-take, cut-drop, flat-cut, flat-append, OrderAt, order-at, answered-same, answered-not-same}

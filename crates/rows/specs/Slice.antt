@@ -1,13 +1,13 @@
 -- Rows in the list slice (document 01, "The list"): "the list slice holds them packed in dictionary order from its start, and
 -- its bytes beyond them are as at entry".
-use Prim.Native.Nat.{ℕ, zero, suc, _*_}
+use Prim.Native.Nat.{ℕ, suc, _*_}
 use mathlib.Core.Path.{_≡_}
 use mathlib.Core.Bool.{Bool}
 use mathlib.Core.List.{List, [], _∷_, _++_, map}
 use lib.ListN.{length, take, drop}
 use Rattle.bits.specs.Bits.{cut, bytesFor, pack, unpack}
-use Rattle.rows.specs.Order.{order, byOrder}
 use Rattle.rows.specs.Held.{Held}
+use Rattle.rows.specs.Order.{order, byOrder}
 
 -- rows written one after the other
 unfoldable pub flat : List (List ℕ) → List ℕ

@@ -1,15 +1,15 @@
 -- Two strings that give y by one deletion and whose deleted bits add the same to the total are equal: the deleted bit may have
 -- stood elsewhere, but only in the same run. Assumes nothing.
+use Prim.Native.Nat.{ℕ, zero, suc, _+_, _*_, _<_, _≤_}
 use mathlib.Core.Path.{_≡_, refl, sym, ap}
 use mathlib.Core.List.{List, _∷_}
-use Prim.Native.Nat.{ℕ, zero, suc, _+_, _*_, _<_, _≤_}
 use native.Mathlib.Nat.{mul-zero, mul-one}
 use native.Mathlib.Omega.{arith}
 use lib.ListN.{length}
 use Rattle.bits.specs.Bits.{AllBits}
 use Rattle.rows.proofs.Deletion.{One, here, there}
-use Rattle.vt.specs.Sum.{total}
 use Rattle.vt.specs.Ones.{ones}
+use Rattle.vt.specs.Sum.{total}
 use Rattle.vt.proofs.Totals.{total-up, ones-length}
 
 -- what the deleted bit adds to the total, where the first bit stands at position i

@@ -1,11 +1,11 @@
 -- Exactly one string of w bits has a given sum and gives the bits y by one deletion: `unique` says that there is at most one,
 -- `exists` that there is at least one, `mended-mends` and `mended-only` that `mended` is the one. The field calls it the
 -- correction of a single deletion. Assumes nothing.
+use Prim.Native.Nat.{ℕ, zero, suc, _+_, _-_, _%_, _<_, _≤_}
 use mathlib.Core.Path.{_≡_, refl, sym, ap, _∙_, subst}
 use mathlib.Core.Bool.{true}
 use mathlib.Core.Logic.{_⊎_, inl, inr, ⊎-elim}
 use mathlib.Core.List.{List, [], _∷_, _++_}
-use Prim.Native.Nat.{ℕ, zero, suc, _+_, _-_, _%_, _<_, _≤_}
 use native.Mathlib.Nat.{mod-eq-of-lt, mod-eq-sub-mod, mod-lt, mod-add-mod, add-mod-mod, add-mod-right}
 use native.Mathlib.Omega.{arith}
 use borrow.Author.Tests.{eq-eqb, eqb-true}
@@ -15,13 +15,13 @@ use Rattle.bits.specs.Bits.{AllBits}
 use Rattle.bits.proofs.Laws.{lt-or-ge, both-left, both-right}
 use Rattle.rows.specs.Deletion.{comesFrom}
 use Rattle.rows.specs.Order.{Row}
-use Rattle.rows.proofs.Single.{only-one}
 use Rattle.rows.proofs.Deletion.{One, here, there, one, one-passes, comes-length, comes-bits}
-use Rattle.vt.specs.Sum.{total, sum}
-use Rattle.vt.specs.Ones.{ones}
+use Rattle.rows.proofs.Single.{only-one}
 use Rattle.vt.specs.Mend.{mends, mended}
-use Rattle.vt.proofs.Totals.{place, reach-start}
+use Rattle.vt.specs.Ones.{ones}
+use Rattle.vt.specs.Sum.{total, sum}
 use Rattle.vt.proofs.Gain.{gain, total-gain, gain-top, same-gain}
+use Rattle.vt.proofs.Totals.{place, reach-start}
 
 -- x is a string of w bits with the sum s, and y comes from it by one deletion
 pub record Mends (w s : ℕ) (y x : List ℕ) : Type 0 where

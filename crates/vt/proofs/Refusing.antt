@@ -1,8 +1,8 @@
 -- Which check of mending applies when, and what that means for the target. Assumes nothing.
+use Prim.Native.Nat.{ℕ, _-_, _<_, _≤_}
 use mathlib.Core.Path.{_≡_, refl, sym, ap, _∙_}
 use mathlib.Core.Bool.{Bool, true, false, not, cond, _||_}
 use mathlib.Core.List.{List, [], _∷_, _++_}
-use Prim.Native.Nat.{ℕ, _-_, _<_, _≤_}
 use native.Mathlib.Omega.{arith}
 use borrow.Author.Tests.{lt-ltb, le-ltb, ltb-false, eq-eqb, ne-eqb}
 use lib.Dec.{ltb, eqb}
@@ -11,10 +11,10 @@ use Rattle.refusal.specs.Refusal.{Answer, numberOf, firstRefusal}
 use Rattle.refusal.specs.declared.Refusal.{Refusal}
 use Rattle.refusal.proofs.Laws.{numbered}
 use Rattle.bits.specs.Bits.{longest, bytesFor, pack, unpack, fits}
-use Rattle.vt.specs.Mend.{mended, mendRefusal, mendTarget}
-use Rattle.vt.specs.declared.Mended.{Mended}
-use Rattle.vt.specs.declared.Mended.the-variants.{Done, Refused}
 use Rattle.vt.specs.Answer.{answerOf}
+use Rattle.vt.specs.Mend.{mended, mendRefusal, mendTarget}
+use Rattle.vt.specs.declared.Mended.the-variants.{Done, Refused}
+use Rattle.vt.specs.declared.Mended.{Mended}
 
 -- the table of mending, with the test of the packing left as it is
 table : (w s : ℕ) (p : List ℕ) (room : ℕ)

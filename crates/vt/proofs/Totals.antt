@@ -1,10 +1,10 @@
 -- What a bit that is put into a string adds to the total of the positions of its ones: its own position where it is a one, and
 -- one for each one that it moves on. Assumes nothing.
+use Prim.Native.Nat.{ℕ, zero, suc, _+_, _*_, _<_, _≤_}
 use mathlib.Core.Path.{_≡_, refl}
 use mathlib.Core.Bool.{Bool, true, false}
 use mathlib.Core.Logic.{_⊎_, inl, inr, ⊎-elim}
 use mathlib.Core.List.{List, [], _∷_, _++_}
-use Prim.Native.Nat.{ℕ, zero, suc, _+_, _*_, _<_, _≤_}
 use native.Mathlib.Nat.{mul-zero, mul-one, suc-mul, add-zero, add-suc, suc-add}
 use native.Mathlib.Numerals.{add-one}
 use native.Mathlib.Omega.{arith}
@@ -14,8 +14,8 @@ use lib.ListN.{length, getD, take, drop, drop-of-length-le}
 use lib.Seq.{drop-cons}
 use Rattle.bits.specs.Bits.{AllBits}
 use Rattle.bits.proofs.Laws.{lt-or-ge}
-use Rattle.vt.specs.Sum.{total}
 use Rattle.vt.specs.Ones.{ones}
+use Rattle.vt.specs.Sum.{total}
 
 -- a bit times a number is at most the number
 pub times-bit : (k b : ℕ) → b < 2 → k * b ≤ k

@@ -5,10 +5,10 @@ use mathlib.Core.Bool.{Bool, not, _&&_, _||_, cond}
 use mathlib.Core.List.{List, [], _∷_, _++_}
 use lib.Dec.{eqb, ltb}
 use lib.ListN.{length, take, drop}
-use Rattle.refusal.specs.Refusal.{Answer, firstRefusal}
+use Rattle.refusal.specs.Refusal.{firstRefusal}
 use Rattle.bits.specs.Bits.{longest, bytesFor, pack, unpack, fits}
-use Rattle.rows.specs.Rows.{allRows, keep, firstOf}
 use Rattle.rows.specs.Deletion.{comesFrom}
+use Rattle.rows.specs.Rows.{allRows, keep, firstOf}
 use Rattle.vt.specs.Sum.{sum}
 
 -- x has the sum s, and y comes from it by one deletion

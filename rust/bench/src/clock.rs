@@ -54,12 +54,13 @@ fn microseconds(time: Duration) -> f64 {
     time.as_secs_f64() * 1e6
 }
 
-/// Lets the library and the peer take turns for about this time, and prints what they took. They get the same
-/// inputs, and what they answer must be the same.
+/// Lets the library and another implementation take turns for about this time, and prints what they took. They get
+/// the same inputs, and what they answer must be the same.
 pub fn compare(
     name: &str,
     time: Duration,
     mut library: impl FnMut(usize) -> usize,
+    other: &str,
     mut peer: impl FnMut(usize) -> usize,
 ) {
     let (mut ours, mut theirs) = (Taken::new(), Taken::new());
@@ -76,7 +77,7 @@ pub fn compare(
             (ours.turn(first, &mut library), total)
         };
         if totals.0 != totals.1 {
-            eprintln!("{name}: library and peer disagree");
+            eprintln!("{name}: library and {other} disagree");
             process::exit(1);
         }
         if round == 0 {
@@ -87,8 +88,8 @@ pub fn compare(
     }
     println!("  {name}");
     ours.print("library");
-    theirs.print("peer");
-    println!("    library / peer: {:.3} of its calls per second", ours.per_second() / theirs.per_second());
+    theirs.print(other);
+    println!("    the library takes {:.2} times as long as the {other}", theirs.per_second() / ours.per_second());
 }
 
 /// How long one reading of the clock takes, in the middle of many.

@@ -1,5 +1,5 @@
-//! Times the library beside the reference's fast peer, in one run and on the same inputs: how many calls a
-//! second, and how long the middle, the slow and the slowest call take.
+//! Times the library beside the reference's fast peer, and writing also beside its plain part, in one run and on
+//! the same inputs: how many calls a second, and how long the middle, the slow and the slowest call take.
 //!
 //! The two take turns, a few hundred calls each, so that whatever else the machine does hits both. Targets are
 //! lent again for each call and are not cleared before it. Usage: `bench [SECONDS]`, the time for each
@@ -56,12 +56,18 @@ fn write(layout: Layout, time: Duration) {
     let Layout { l1, l2, nc, r } = layout;
     let lent = dairyhour::Layout { l1, l2, nc, r };
     let (mut ours, mut theirs) = ([0; LONGEST_MESSAGE], [0; LONGEST_MESSAGE]);
-    compare(
-        "write",
-        time,
-        |i| dairyhour::write(lent, &rows[i % INPUTS], &mut ours).map_or(REFUSED, |length| last(&ours[..length])),
-        |i| peer_write(&layout, &rows[i % INPUTS], &mut theirs).map_or(REFUSED, |length| last(&theirs[..length])),
-    );
+    let mut library = |i: usize| {
+        let answer = dairyhour::write(lent, &rows[i % INPUTS], &mut ours);
+        answer.map_or(REFUSED, |length| last(&ours[..length]))
+    };
+    compare("write", time, &mut library, "peer", |i| {
+        let answer = peer_write(&layout, &rows[i % INPUTS], &mut theirs);
+        answer.map_or(REFUSED, |length| last(&theirs[..length]))
+    });
+    compare("write", time, &mut library, "plain", |i| {
+        let answer = reference::write(&layout, &rows[i % INPUTS], LONGEST_MESSAGE);
+        answer.map_or(REFUSED, |message| last(&message))
+    });
 }
 
 fn read(layout: Layout, time: Duration) {
@@ -74,6 +80,7 @@ fn read(layout: Layout, time: Duration) {
             let answer = dairyhour::read(&messages[i % INPUTS], &mut ours);
             answer.map_or(REFUSED, |layout| usize::from(ours[layout.l1]) + layout.l2)
         },
+        "peer",
         |i| {
             let answer = peer_read(&messages[i % INPUTS], &mut theirs);
             answer.map_or(REFUSED, |layout| usize::from(theirs[layout.l1]) + layout.l2)
@@ -93,6 +100,7 @@ fn mend(name: &str, w: usize, time: Duration) {
             let answer = dairyhour::mend(w, sums[i % INPUTS], &strings[i % INPUTS], &mut ours);
             answer.map_or(REFUSED, |_| last(&ours))
         },
+        "peer",
         |i| {
             let answer = peer_mend(w, sums[i % INPUTS], &strings[i % INPUTS], &mut theirs);
             answer.map_or(REFUSED, |_| last(&theirs))

@@ -1,6 +1,6 @@
 use borrow.Author.Needs.{needs}
-use Rattle.bits.proofs.Packing.{unpack-at}
 use mathlib.Core.Path.{sym}
+use Rattle.bits.proofs.Packing.{unpack-at}
 use Rattle.bits.proofs.bit_at.Statement.{statement}
 use Rattle.bits.proofs.bit_at.Tie as tie
 

@@ -1,14 +1,14 @@
 use borrow.Author.Needs.{needs}
-use Rattle.bits.proofs.Packing.{blank-next, blank-stop, blank-end, fits-by}
-use mathlib.Core.List.{List}
-use Rattle.bits.proofs.Laws.{length-unpack}
-use borrow.Author.Tests.{eq-eqb, ne-eqb}
-use Rattle.bits.specs.Bits.{unpack, blank, fits}
-use lib.ListN.{length, drop}
-use native.Mathlib.Omega.{arith}
+use Prim.Native.Nat.{ℕ, _-_, _*_, _≤_}
+use mathlib.Core.Path.{_≡_, refl, _∙_, sym}
 use mathlib.Core.Bool.{true, false}
-use mathlib.Core.Path.{_≡_, refl, _∙_, ap, sym}
-use Prim.Native.Nat.{ℕ, _+_, _-_, _*_, _/_, _%_, _^_, _<_, _≤_}
+use mathlib.Core.List.{List}
+use native.Mathlib.Omega.{arith}
+use borrow.Author.Tests.{ne-eqb}
+use lib.ListN.{length, drop}
+use Rattle.bits.specs.Bits.{unpack, blank, fits}
+use Rattle.bits.proofs.Laws.{length-unpack}
+use Rattle.bits.proofs.Packing.{blank-next, blank-stop, blank-end, fits-by}
 use Rattle.bits.proofs.fits.Statement.{statement}
 use Rattle.bits.proofs.fits.Tie as tie
 

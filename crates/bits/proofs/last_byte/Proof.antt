@@ -1,13 +1,13 @@
 use borrow.Author.Needs.{needs}
-use Rattle.bits.proofs.Laws.{bit-at, number-next, number-end, pow-next, pow-low}
-use Rattle.bits.specs.Bits.{number}
-use lib.ListN.{length, getD, drop, List·getD-eq-default}
-use native.Mathlib.Omega.{arith}
-use native.Mathlib.Nat.{add-zero, zero-mul, zero-add, mul-one}
-use mathlib.Core.List.{List}
-use mathlib.Core.Logic.{⊎-elim}
-use mathlib.Core.Path.{_≡_, refl, _∙_, ap, sym}
 use Prim.Native.Nat.{ℕ, _+_, _-_, _*_, _^_, _<_, _≤_}
+use mathlib.Core.Path.{_≡_, refl, _∙_, ap, sym}
+use mathlib.Core.Logic.{⊎-elim}
+use mathlib.Core.List.{List}
+use native.Mathlib.Nat.{add-zero, zero-mul, zero-add}
+use native.Mathlib.Omega.{arith}
+use lib.ListN.{getD, drop, List·getD-eq-default}
+use Rattle.bits.specs.Bits.{number}
+use Rattle.bits.proofs.Laws.{bit-at, number-next, number-end, pow-next, pow-low}
 use Rattle.bits.proofs.last_byte.Statement.{statement}
 use Rattle.bits.proofs.last_byte.Tie as tie
 

@@ -1,11 +1,11 @@
 use borrow.Author.Needs.{needs}
-use Rattle.bits.proofs.Packing.{packed-whole, packed-rest}
-use Rattle.bits.specs.Bits.{number, bytes}
-use lib.ListN.{length, set, drop}
-use native.Mathlib.Omega.{arith}
 use Prim.Native.Nat.{ℕ, _*_, _/_}
-use mathlib.Core.List.{List, _++_}
 use mathlib.Core.Path.{_≡_, refl, _∙_}
+use mathlib.Core.List.{List, _++_}
+use native.Mathlib.Omega.{arith}
+use lib.ListN.{length, set, drop}
+use Rattle.bits.specs.Bits.{number, bytes}
+use Rattle.bits.proofs.Packing.{packed-whole, packed-rest}
 use Rattle.bits.proofs.pack.Statement.{statement}
 use Rattle.bits.proofs.pack.Tie as tie
 

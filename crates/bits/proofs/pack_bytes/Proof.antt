@@ -1,13 +1,13 @@
 use borrow.Author.Needs.{needs}
+use Prim.Native.Nat.{ℕ, _-_, _≤_}
+use mathlib.Core.Path.{_≡_, refl, _∙_, sym}
+use mathlib.Core.List.{List, _++_}
+use native.Mathlib.Omega.{arith}
+use lib.ListN.{length, getD, take, drop, length-set}
+use lib.Seq.{take-all}
+use Rattle.bits.specs.Bits.{bytes}
 use Rattle.bits.proofs.Copy.{front-next}
 use Rattle.bits.proofs.Packing.{bytes-at, length-bytes}
-use Rattle.bits.specs.Bits.{bytes}
-use lib.Seq.{take-all}
-use lib.ListN.{length, getD, take, drop, set, length-set}
-use native.Mathlib.Omega.{arith}
-use mathlib.Core.List.{List, _++_}
-use mathlib.Core.Path.{_≡_, refl, _∙_, ap, sym}
-use Prim.Native.Nat.{ℕ, _+_, _-_, _*_, _<_, _≤_}
 use Rattle.bits.proofs.pack_bytes.Statement.{statement}
 use Rattle.bits.proofs.pack_bytes.Tie as tie
 

@@ -1,8 +1,8 @@
 use borrow.Author.Needs.{needs}
-use Rattle.bits.proofs.Packing.{all-unpacked}
-use native.Mathlib.Omega.{arith}
+use Prim.Native.Nat.{_*_, _/_}
 use mathlib.Core.Path.{_∙_}
-use Prim.Native.Nat.{ℕ, _*_, _/_}
+use native.Mathlib.Omega.{arith}
+use Rattle.bits.proofs.Packing.{all-unpacked}
 use Rattle.bits.proofs.unpack.Statement.{statement}
 use Rattle.bits.proofs.unpack.Tie as tie
 

@@ -1,12 +1,12 @@
 use borrow.Author.Needs.{needs}
-use Rattle.bits.proofs.Copy.{stored-eight}
-use Rattle.bits.specs.Bits.{digits}
+use Prim.Native.Nat.{ℕ, _+_, _/_, _%_}
+use mathlib.Core.Path.{_∙_, ap, sym}
 use mathlib.Core.List.{[], _∷_, _++_}
 use native.Mathlib.Nat.{div-one}
-use lib.ListN.{take, drop, length-set}
 use native.Mathlib.Omega.{arith}
-use mathlib.Core.Path.{_∙_, ap, sym}
-use Prim.Native.Nat.{ℕ, _+_, _/_, _%_}
+use lib.ListN.{take, drop, length-set}
+use Rattle.bits.specs.Bits.{digits}
+use Rattle.bits.proofs.Copy.{stored-eight}
 use Rattle.bits.proofs.unpack_byte.Statement.{statement}
 use Rattle.bits.proofs.unpack_byte.Tie as tie
 

@@ -1,11 +1,11 @@
 use borrow.Author.Needs.{needs}
-use Rattle.bits.proofs.Packing.{byte-unpacked}
-use Rattle.bits.specs.Bits.{unpack, digits}
-use lib.ListN.{length, getD, take, drop}
+use Prim.Native.Nat.{ℕ, _-_, _*_, _≤_}
+use mathlib.Core.Path.{_≡_, refl, _∙_, ap}
+use mathlib.Core.List.{_++_}
 use native.Mathlib.Omega.{arith}
-use mathlib.Core.List.{List, _++_}
-use mathlib.Core.Path.{_≡_, refl, _∙_, ap, sym}
-use Prim.Native.Nat.{ℕ, _+_, _-_, _*_, _<_, _≤_}
+use lib.ListN.{length, take, drop}
+use Rattle.bits.specs.Bits.{unpack}
+use Rattle.bits.proofs.Packing.{byte-unpacked}
 use Rattle.bits.proofs.unpack_bytes.Statement.{statement}
 use Rattle.bits.proofs.unpack_bytes.Tie as tie
 

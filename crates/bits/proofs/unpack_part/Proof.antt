@@ -1,13 +1,13 @@
 use borrow.Author.Needs.{needs}
+use Prim.Native.Nat.{ℕ, _-_, _≤_}
+use mathlib.Core.Path.{_≡_, refl, _∙_, ap, sym}
+use mathlib.Core.List.{List}
+use native.Mathlib.Omega.{arith}
+use lib.ListN.{length, getD, drop, length-set, length-drop}
+use lib.Seq.{paste, paste-zero, getD-drop}
+use Rattle.bits.specs.Bits.{unpack}
 use Rattle.bits.proofs.Copy.{paste-next}
 use Rattle.bits.proofs.Laws.{length-unpack}
-use Rattle.bits.specs.Bits.{unpack}
-use lib.Seq.{paste, paste-zero, getD-drop}
-use lib.ListN.{length, getD, take, drop, set, length-set, length-drop}
-use native.Mathlib.Omega.{arith}
-use mathlib.Core.List.{List, _++_}
-use mathlib.Core.Path.{_≡_, refl, _∙_, ap, sym}
-use Prim.Native.Nat.{ℕ, _+_, _-_, _*_, _/_, _<_, _≤_}
 use Rattle.bits.proofs.unpack_part.Statement.{statement}
 use Rattle.bits.proofs.unpack_part.Tie as tie
 

@@ -1,12 +1,11 @@
 use borrow.Author.Needs.{needs}
-use Rattle.bits.proofs.Laws.{bit-at, number-next, number-end, pow-next, pow-low}
-use Rattle.bits.specs.Bits.{number}
-use lib.ListN.{length, getD, drop}
-use native.Mathlib.Omega.{arith}
-use native.Mathlib.Nat.{add-zero, zero-mul, zero-add}
-use mathlib.Core.List.{List}
-use mathlib.Core.Path.{_≡_, refl, _∙_, ap, sym}
 use Prim.Native.Nat.{ℕ, _+_, _-_, _*_, _^_, _<_, _≤_}
+use mathlib.Core.Path.{_≡_, refl, _∙_, sym}
+use native.Mathlib.Nat.{add-zero, zero-mul, zero-add}
+use native.Mathlib.Omega.{arith}
+use lib.ListN.{drop}
+use Rattle.bits.specs.Bits.{number}
+use Rattle.bits.proofs.Laws.{bit-at, number-next, number-end, pow-next, pow-low}
 use Rattle.bits.proofs.whole_byte.Statement.{statement}
 use Rattle.bits.proofs.whole_byte.Tie as tie
 

@@ -1,6 +1,6 @@
 use borrow.Author.Needs.{needs}
-use Rattle.consistent.proofs.Steps.{bit-past, bit-other, bit-takes}
 use native.Mathlib.Omega.{arith}
+use Rattle.consistent.proofs.Steps.{bit-past, bit-other, bit-takes}
 use Rattle.consistent.proofs.after_bit.Statement.{statement}
 use Rattle.consistent.proofs.after_bit.Tie as tie
 

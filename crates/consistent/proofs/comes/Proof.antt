@@ -1,8 +1,8 @@
 use borrow.Author.Needs.{needs}
-use Rattle.consistent.proofs.Steps.{comes-used, comes-not}
-use lib.ListN.{length, drop, drop-of-length-le, length-drop}
+use mathlib.Core.Path.{_∙_, sym, ap}
 use native.Mathlib.Omega.{arith}
-use mathlib.Core.Path.{_≡_, _∙_, sym, ap}
+use lib.ListN.{length, drop-of-length-le, length-drop}
+use Rattle.consistent.proofs.Steps.{comes-used, comes-not}
 use Rattle.consistent.proofs.comes.Statement.{statement}
 use Rattle.consistent.proofs.comes.Tie as tie
 

@@ -1,15 +1,14 @@
 use borrow.Author.Needs.{needs}
-use Rattle.message.proofs.Fields.{field-room}
-use borrow.Author.Tests.{eq-eqb, ne-eqb}
-use native.Mathlib.Nat.{zero-mul}
-use Rattle.consistent.proofs.Steps.{loseAll, piece-next, piece-stop, pieces-end, piece-found}
-use Rattle.consistent.specs.Greedy.{eat, losses}
-use lib.ListN.{length, getD, take, drop}
-use native.Mathlib.Omega.{arith}
-use mathlib.Core.List.{List}
-use mathlib.Core.Path.{_≡_, refl, sym, ap, _∙_}
-use lib.Dec.{eqb}
 use Prim.Native.Nat.{ℕ, _+_, _-_, _*_, _≤_}
+use mathlib.Core.Path.{_≡_, refl, sym, ap, _∙_}
+use native.Mathlib.Nat.{zero-mul}
+use native.Mathlib.Omega.{arith}
+use borrow.Author.Tests.{eq-eqb, ne-eqb}
+use lib.Dec.{eqb}
+use lib.ListN.{length, take, drop}
+use Rattle.message.proofs.Fields.{field-room}
+use Rattle.consistent.specs.Greedy.{eat, losses}
+use Rattle.consistent.proofs.Steps.{loseAll, piece-next, piece-stop, pieces-end, piece-found}
 use Rattle.consistent.proofs.loses.Statement.{statement}
 use Rattle.consistent.proofs.loses.Tie as tie
 

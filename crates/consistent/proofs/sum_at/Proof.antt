@@ -1,8 +1,8 @@
 use borrow.Author.Needs.{needs}
-use Rattle.consistent.proofs.Candidate.{sum-of-block, sum-of-string}
-use Rattle.message.specs.Layout.{layout}
-use native.Mathlib.Omega.{arith}
 use mathlib.Core.Path.{_∙_}
+use native.Mathlib.Omega.{arith}
+use Rattle.message.specs.Layout.{layout}
+use Rattle.consistent.proofs.Candidate.{sum-of-block, sum-of-string}
 use Rattle.consistent.proofs.sum_at.Statement.{statement}
 use Rattle.consistent.proofs.sum_at.Tie as tie
 

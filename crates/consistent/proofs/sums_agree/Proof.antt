@@ -1,15 +1,14 @@
 use borrow.Author.Needs.{needs}
-use mathlib.Core.Path.{_≡_, refl, sym, ap, _∙_}
-use Rattle.consistent.proofs.Candidate.{length-sums}
-use Rattle.message.specs.Message.{blockSums, stringSums}
-use Rattle.message.specs.Layout.{layout}
-use Prim.Native.Nat.{ℕ, _+_, _-_, _<_, _≤_}
-use Rattle.bits.proofs.Laws.{same-next, same-stop, same-end}
-use Rattle.bits.specs.Bits.{same}
+use Prim.Native.Nat.{ℕ, _-_, _≤_}
+use mathlib.Core.Path.{_≡_, refl, sym, _∙_}
 use mathlib.Core.List.{List, _++_}
 use native.Mathlib.Omega.{arith}
-use lib.ListN.{length, getD, drop, length-append}
-use mathlib.Core.Bool.{true, false}
+use lib.ListN.{length, drop}
+use Rattle.bits.specs.Bits.{same}
+use Rattle.bits.proofs.Laws.{same-next, same-stop, same-end}
+use Rattle.message.specs.Layout.{layout}
+use Rattle.message.specs.Message.{blockSums, stringSums}
+use Rattle.consistent.proofs.Candidate.{length-sums}
 use Rattle.consistent.proofs.sums_agree.Statement.{statement}
 use Rattle.consistent.proofs.sums_agree.Tie as tie
 

@@ -1,11 +1,11 @@
 use borrow.Author.Needs.{needs}
-use Rattle.consistent.proofs.Steps.{bit-next, bits-end}
-use Rattle.consistent.specs.Greedy.{eat, losses}
-use lib.ListN.{length, drop}
-use native.Mathlib.Omega.{arith}
-use native.Mathlib.Nat.{add-zero, zero-add}
+use Prim.Native.Nat.{_+_, _-_, _≤_}
 use mathlib.Core.Path.{_≡_, refl, sym, _∙_}
-use Prim.Native.Nat.{ℕ, _+_, _-_, _≤_}
+use native.Mathlib.Nat.{add-zero, zero-add}
+use native.Mathlib.Omega.{arith}
+use lib.ListN.{length, drop}
+use Rattle.consistent.specs.Greedy.{eat, losses}
+use Rattle.consistent.proofs.Steps.{bit-next, bits-end}
 use Rattle.consistent.proofs.taken.Statement.{statement}
 use Rattle.consistent.proofs.taken.Tie as tie
 

@@ -1,7 +1,7 @@
 use borrow.Author.Needs.{needs}
+use mathlib.Core.Path.{sym, ap, _∙_}
 use Rattle.vt.specs.Answer.{answerOf}
 use Rattle.dairyhour.proofs.Refusing.{refusedBy}
-use mathlib.Core.Path.{sym, ap, _∙_}
 use Rattle.dairyhour.proofs.dh_mend.Statement.{statement}
 use Rattle.dairyhour.proofs.dh_mend.Tie as tie
 

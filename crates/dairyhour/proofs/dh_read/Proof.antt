@@ -1,7 +1,7 @@
 use borrow.Author.Needs.{needs}
+use mathlib.Core.Path.{sym, ap, _∙_}
 use Rattle.message.specs.Read.{readOf}
 use Rattle.dairyhour.proofs.Refusing.{layoutRefusedBy}
-use mathlib.Core.Path.{sym, ap, _∙_}
 use Rattle.dairyhour.proofs.dh_read.Statement.{statement}
 use Rattle.dairyhour.proofs.dh_read.Tie as tie
 

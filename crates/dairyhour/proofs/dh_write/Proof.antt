@@ -1,7 +1,7 @@
 use borrow.Author.Needs.{needs}
-use Rattle.dairyhour.proofs.Refusing.{refusedBy}
-use Rattle.message.specs.Write.{writtenOf}
 use mathlib.Core.Path.{sym, ap, _∙_}
+use Rattle.message.specs.Write.{writtenOf}
+use Rattle.dairyhour.proofs.Refusing.{refusedBy}
 use Rattle.dairyhour.proofs.dh_write.Statement.{statement}
 use Rattle.dairyhour.proofs.dh_write.Tie as tie
 

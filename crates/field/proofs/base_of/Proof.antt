@@ -1,6 +1,6 @@
 -- `field::base_of` meets its contract: the starts, counted from the number of powers.
-use native.Mathlib.Omega.{arith}
 use borrow.Author.Needs.{needs}
+use native.Mathlib.Omega.{arith}
 use Rattle.field.proofs.Powers.{start-at}
 use Rattle.field.proofs.base_of.Statement.{statement}
 use Rattle.field.proofs.base_of.Tie as tie

@@ -1,10 +1,10 @@
 -- `field::check` meets its contract. The loop's invariant: 2 ^ exponent is the factor of chunk c, and the sum with the check of the
 -- chunks that are left is the whole check.
+use borrow.Author.Needs.{needs}
 use Prim.Native.Nat.{ℕ, _+_, _-_, _*_, _^_, _≤_, _<_}
 use mathlib.Core.Path.{_≡_, sym, ap, _∙_}
 use native.Mathlib.Nat.{mul-zero}
 use native.Mathlib.Omega.{arith}
-use borrow.Author.Needs.{needs}
 use lib.Bits.{bitXor}
 use lib.ListN.{length, getD, drop}
 use Rattle.field.specs.Field.{power, times, checkFrom, check}

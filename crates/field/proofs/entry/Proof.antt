@@ -1,7 +1,7 @@
 -- `field::entry` meets its contract: what the table holds at the entry that is read.
+use borrow.Author.Needs.{needs}
 use Prim.Native.Nat.{_+_, _<_}
 use native.Mathlib.Omega.{arith}
-use borrow.Author.Needs.{needs}
 use Rattle.field.proofs.Powers.{in-table, table-at}
 use Rattle.field.proofs.entry.Statement.{statement}
 use Rattle.field.proofs.entry.Tie as tie

@@ -1,8 +1,8 @@
 -- `field::fill_logs` meets its contract. The loop's invariant: the logs of the first e powers are written.
+use borrow.Author.Needs.{needs}
 use Prim.Native.Nat.{ℕ, _-_, _^_, _≤_}
 use mathlib.Core.Path.{_≡_, sym, ap, _∙_, subst}
 use native.Mathlib.Omega.{arith}
-use borrow.Author.Needs.{needs}
 use lib.ListN.{length}
 use Rattle.field.specs.Tables.{withLogs, Logs}
 use Rattle.field.proofs.Double.{size-high, power-element}

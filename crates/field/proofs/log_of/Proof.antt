@@ -1,7 +1,7 @@
 -- `field::log_of` meets its contract: what the list of logs holds.
+use borrow.Author.Needs.{needs}
 use Prim.Native.Nat.{ℕ}
 use mathlib.Core.Path.{ap, _∙_}
-use borrow.Author.Needs.{needs}
 use lib.ListN.{getD}
 use Rattle.field.specs.Field.{power}
 use Rattle.field.proofs.log_of.Statement.{statement}

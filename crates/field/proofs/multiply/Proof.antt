@@ -1,7 +1,7 @@
 -- `field::multiply` meets its contract: the first factor is a power of 2, or 0.
+use borrow.Author.Needs.{needs}
 use Prim.Native.Nat.{ℕ}
 use mathlib.Core.Path.{sym, ap, _∙_}
-use borrow.Author.Needs.{needs}
 use Rattle.field.specs.Field.{times}
 use Rattle.field.proofs.Times.{times-zero}
 use Rattle.field.proofs.multiply.Statement.{statement}

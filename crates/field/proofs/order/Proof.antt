@@ -1,6 +1,6 @@
 -- `field::order` meets its contract: 1 shifted by at most 8 places keeps its digit.
-use native.Mathlib.Omega.{arith}
 use borrow.Author.Needs.{needs}
+use native.Mathlib.Omega.{arith}
 use Rattle.field.proofs.Double.{size-low, size-high}
 use Rattle.field.proofs.order.Statement.{statement}
 use Rattle.field.proofs.order.Tie as tie

@@ -1,8 +1,8 @@
 -- `field::reduce` meets its contract: the powers come round.
+use borrow.Author.Needs.{needs}
 use Prim.Native.Nat.{ℕ, _+_, _-_, _^_}
 use mathlib.Core.Path.{_≡_, sym, ap, _∙_}
 use native.Mathlib.Omega.{arith}
-use borrow.Author.Needs.{needs}
 use Rattle.field.specs.Field.{power}
 use Rattle.field.proofs.Times.{power-period}
 use Rattle.field.proofs.reduce.Statement.{statement}

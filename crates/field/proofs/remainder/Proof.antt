@@ -1,9 +1,9 @@
 -- `field::remainder` meets its contract: the powers come round.
+use borrow.Author.Needs.{needs}
 use Prim.Native.Nat.{ℕ, _%_, _<_}
 use mathlib.Core.Path.{ap, _∙_}
 use native.Mathlib.Nat.{mod-lt}
 use native.Mathlib.Omega.{arith}
-use borrow.Author.Needs.{needs}
 use Rattle.field.specs.Field.{power}
 use Rattle.field.proofs.Double.{size-low}
 use Rattle.field.proofs.Times.{power-mod}

@@ -1,6 +1,6 @@
 -- `field::shift` meets its contract: exponents add up.
-use mathlib.Core.Path.{sym, ap, _∙_}
 use borrow.Author.Needs.{needs}
+use mathlib.Core.Path.{sym, ap, _∙_}
 use Rattle.field.specs.Field.{power, times}
 use Rattle.field.proofs.Times.{times-of-zero, times-power}
 use Rattle.field.proofs.shift.Statement.{statement}

@@ -4,9 +4,9 @@ use borrow.Author.Needs.{needs}
 use Prim.Native.Nat.{ℕ, _+_, _*_, _-_, _<_, _≤_}
 use mathlib.Core.Logic.{⊎-elim}
 use native.Mathlib.Omega.{arith}
-use mir.Val.{Fits}
-use mir.Syntax.{w64}
 use lib.ListN.{length}
+use mir.Syntax.{w64}
+use mir.Val.{Fits}
 use Rattle.rows.proofs.Slice.{rows-le, row-fits, place-count}
 use Rattle.rows.proofs.Written.{Absent, present, absent-other, absent-end, written-repeat, written-room, written-full, written-after}
 use Rattle.rows.proofs.insert.Statement.{statement}

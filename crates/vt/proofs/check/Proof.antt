@@ -1,14 +1,14 @@
 -- `vt::check` meets its contract: at each return the checks before it do not apply. Assumes nothing.
 use borrow.Author.Needs.{needs}
-use borrow.Author.Tests.{not-true, not-false}
 use mathlib.Core.Path.{refl, sym, _∙_}
 use native.Mathlib.Omega.{arith}
+use borrow.Author.Tests.{not-true, not-false}
+use Rattle.bits.proofs.fits.Reads as fits-reads
 use Rattle.vt.proofs.Refusing.{too-short, too-long, no-sum, not-packed, no-room, none}
+use Rattle.vt.proofs.check.Lts as lts
+use Rattle.vt.proofs.check.Reads as reads
 use Rattle.vt.proofs.check.Statement.{statement}
 use Rattle.vt.proofs.check.Tie as tie
-use Rattle.vt.proofs.check.Reads as reads
-use Rattle.vt.proofs.check.Lts as lts
-use Rattle.bits.proofs.fits.Reads as fits-reads
 
 -- the place after the test of the packing, and the function's entry seen from there
 abbrev Tested : Type 0

@@ -4,12 +4,12 @@ use mathlib.Core.Path.{_≡_}
 use lib.ListN.{length}
 use Rattle.vt.specs.Mend.{mendRefusal}
 use Rattle.vt.proofs.Refusing.{admitted, done-number, refused-number, target-done, target-refused}
+use Rattle.vt.proofs.check.Reads as check-reads
+use Rattle.vt.proofs.mend.Lts as lts
+use Rattle.vt.proofs.mend.Reads as reads
+use Rattle.vt.proofs.mend_packed.Reads as mend-packed-reads
 use Rattle.vt.proofs.mend.Statement.{statement}
 use Rattle.vt.proofs.mend.Tie as tie
-use Rattle.vt.proofs.mend.Reads as reads
-use Rattle.vt.proofs.mend.Lts as lts
-use Rattle.vt.proofs.check.Reads as check-reads
-use Rattle.vt.proofs.mend_packed.Reads as mend-packed-reads
 
 check-requires : tie.Need-check-requires
 check-requires c κs = search needs

@@ -8,13 +8,13 @@ use lib.ListN.{length, take, drop}
 use Rattle.vt.specs.Sum.{total}
 use Rattle.vt.proofs.Copies.{whole-length}
 use Rattle.vt.proofs.Mending.{lack, lack-fits, lack-small, puts, starts-mended}
-use Rattle.vt.proofs.mend_bits.Statement.{statement}
-use Rattle.vt.proofs.mend_bits.Tie as tie
-use Rattle.vt.proofs.mend_bits.Reads as reads
-use Rattle.vt.proofs.mend_bits.Lts as lts
 use Rattle.vt.proofs.find_place.Reads as find-place-reads
+use Rattle.vt.proofs.mend_bits.Lts as lts
+use Rattle.vt.proofs.mend_bits.Reads as reads
 use Rattle.vt.proofs.put_in.Reads as put-in-reads
 use Rattle.vt.proofs.weigh.Reads as weigh-reads
+use Rattle.vt.proofs.mend_bits.Statement.{statement}
+use Rattle.vt.proofs.mend_bits.Tie as tie
 
 weigh-requires : tie.Need-weigh-requires
 weigh-requires c κs = search needs

@@ -6,15 +6,15 @@ use mathlib.Core.List.{List}
 use native.Mathlib.Omega.{arith}
 use lib.ListN.{length, take}
 use Rattle.bits.specs.Bits.{unpack}
-use Rattle.vt.specs.Mend.{mended}
-use Rattle.vt.proofs.Packed.{enough, front-held, asks, front-mended, asks-packing, packed}
-use Rattle.vt.proofs.mend_packed.Statement.{statement}
-use Rattle.vt.proofs.mend_packed.Tie as tie
-use Rattle.vt.proofs.mend_packed.Reads as reads
-use Rattle.vt.proofs.mend_packed.Lts as lts
 use Rattle.bits.proofs.pack.Reads as pack-reads
 use Rattle.bits.proofs.unpack.Reads as unpack-reads
+use Rattle.vt.specs.Mend.{mended}
+use Rattle.vt.proofs.Packed.{enough, front-held, asks, front-mended, asks-packing, packed}
 use Rattle.vt.proofs.mend_bits.Reads as mend-bits-reads
+use Rattle.vt.proofs.mend_packed.Lts as lts
+use Rattle.vt.proofs.mend_packed.Reads as reads
+use Rattle.vt.proofs.mend_packed.Statement.{statement}
+use Rattle.vt.proofs.mend_packed.Tie as tie
 
 sub-n : tie.Need-sub-n
 sub-n c = search needs

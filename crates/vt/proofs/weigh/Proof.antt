@@ -7,13 +7,13 @@ use native.Mathlib.Nat.{zero-add}
 use native.Mathlib.Omega.{arith}
 use lib.ListN.{length, getD, drop}
 use Rattle.bits.proofs.Laws.{bit-at}
-use Rattle.vt.specs.Sum.{total as totalOf}
 use Rattle.vt.specs.Ones.{ones as onesOf}
+use Rattle.vt.specs.Sum.{total as totalOf}
 use Rattle.vt.proofs.Totals.{times-bit, total-next, ones-next, total-end, ones-end}
+use Rattle.vt.proofs.weigh.Lts as lts
+use Rattle.vt.proofs.weigh.Reads as reads
 use Rattle.vt.proofs.weigh.Statement.{statement}
 use Rattle.vt.proofs.weigh.Tie as tie
-use Rattle.vt.proofs.weigh.Reads as reads
-use Rattle.vt.proofs.weigh.Lts as lts
 
 abbrev Inv-loop : tie.InvT-loop
 Inv-loop bits total₀ ones₀ i₀ total ones i =

@@ -1,13 +1,12 @@
 use borrow.Author.Needs.{needs}
+use Prim.Native.Nat.{ℕ, _+_, _-_, _/_, _%_, _^_, _≤_}
+use mathlib.Core.Path.{_≡_, refl, _∙_, sym}
+use native.Mathlib.Omega.{arith}
+use lib.ListN.{length, getD, take, length-set}
+use lib.Seq.{paste, paste-zero, take-all}
+use Rattle.bits.specs.Bits.{digits}
 use Rattle.bits.proofs.Copy.{paste-next}
 use Rattle.bits.proofs.Laws.{digits-at, length-digits}
-use Rattle.bits.specs.Bits.{digits}
-use lib.Seq.{paste, paste-zero, take-length, take-all}
-use lib.ListN.{length, getD, take, drop, set, length-set}
-use native.Mathlib.Omega.{arith}
-use mathlib.Core.List.{List, _++_}
-use mathlib.Core.Path.{_≡_, refl, _∙_, ap, sym}
-use Prim.Native.Nat.{ℕ, _+_, _-_, _*_, _/_, _%_, _^_, _<_, _≤_}
 use Rattle.bits.proofs.BitCursor.put.Statement.{statement}
 use Rattle.bits.proofs.BitCursor.put.Tie as tie
 

@@ -1,13 +1,12 @@
 use borrow.Author.Needs.{needs}
-use Rattle.bits.proofs.Laws.{bit-at, bits-unpack, number-next, number-end, pow-next}
-use Rattle.bits.specs.Bits.{number, unpack}
-use lib.ListN.{getD, drop}
-use lib.Pow.{pow-mono}
-use native.Mathlib.Omega.{arith}
+use Prim.Native.Nat.{_+_, _-_, _*_, _^_, _<_, _≤_}
+use mathlib.Core.Path.{_≡_, refl, _∙_, sym}
 use native.Mathlib.Nat.{add-zero, zero-mul, zero-add}
-use mathlib.Core.List.{List}
-use mathlib.Core.Path.{_≡_, refl, _∙_, ap, sym}
-use Prim.Native.Nat.{ℕ, _+_, _-_, _*_, _^_, _<_, _≤_}
+use native.Mathlib.Omega.{arith}
+use lib.ListN.{drop}
+use lib.Pow.{pow-mono}
+use Rattle.bits.specs.Bits.{number, unpack}
+use Rattle.bits.proofs.Laws.{bit-at, bits-unpack, number-next, number-end, pow-next}
 use Rattle.bits.proofs.BitCursor.take.Statement.{statement}
 use Rattle.bits.proofs.BitCursor.take.Tie as tie
 

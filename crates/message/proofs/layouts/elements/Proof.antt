@@ -1,9 +1,9 @@
 use borrow.Author.Needs.{needs}
-use lib.Pow.{pow-lt}
+use Prim.Native.Nat.{ℕ, _^_, _<_}
+use mathlib.Core.Path.{_∙_}
 use native.Mathlib.Nat.{one-mul, mod-eq-of-lt}
 use native.Mathlib.Omega.{arith}
-use Prim.Native.Nat.{ℕ, _^_, _*_, _<_}
-use mathlib.Core.Path.{_≡_, _∙_, ap}
+use lib.Pow.{pow-lt}
 use Rattle.message.proofs.layouts.elements.Statement.{statement}
 use Rattle.message.proofs.layouts.elements.Tie as tie
 

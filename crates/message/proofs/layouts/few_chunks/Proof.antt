@@ -1,10 +1,10 @@
 use borrow.Author.Needs.{needs}
-use lib.Pow.{pow-mono, pow-pos}
-use borrow.Author.Tests.{lt-leb, le-leb}
+use Prim.Native.Nat.{_-_, _*_, _^_, _≤_}
+use mathlib.Core.Path.{sym}
 use native.Mathlib.Nat.{mul-le-mul, mul-le-mul-left, mul-le-mul-right, mul-one, one-mul}
 use native.Mathlib.Omega.{arith}
-use Prim.Native.Nat.{ℕ, _-_, _*_, _^_, _<_, _≤_}
-use mathlib.Core.Path.{_≡_, sym}
+use borrow.Author.Tests.{lt-leb, le-leb}
+use lib.Pow.{pow-mono, pow-pos}
 use Rattle.message.proofs.layouts.few_chunks.Statement.{statement}
 use Rattle.message.proofs.layouts.few_chunks.Tie as tie
 

@@ -1,12 +1,10 @@
-use borrow.Author.Needs.{needs}
-use Rattle.message.proofs.Longest.{fields-high}
-use Rattle.message.proofs.Legal.{Bounds, Sizes, legal-bounds, sizes}
-use Rattle.message.specs.Message.{width, fieldsLength}
-use Rattle.message.specs.Layout.{layout}
-use native.Mathlib.Nat.{mul-le-mul}
-use native.Mathlib.Omega.{arith}
-use Prim.Native.Nat.{ℕ, _+_, _-_, _*_, _^_, _<_, _≤_}
+use Prim.Native.Nat.{_+_, _*_, _≤_}
 use mathlib.Core.Path.{_≡_, refl}
+use native.Mathlib.Omega.{arith}
+use Rattle.message.specs.Layout.{layout}
+use Rattle.message.specs.Message.{width, fieldsLength}
+use Rattle.message.proofs.Legal.{Sizes, legal-bounds, sizes}
+use Rattle.message.proofs.Longest.{fields-high}
 use Rattle.message.proofs.layouts.fields_length.Statement.{statement}
 use Rattle.message.proofs.layouts.fields_length.Tie as tie
 

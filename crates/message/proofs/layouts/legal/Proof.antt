@@ -1,8 +1,8 @@
 use borrow.Author.Needs.{needs}
-use Rattle.message.proofs.Legal.{illegal, legal-by-chunks}
-use Rattle.message.specs.Layout.{layout}
-use native.Mathlib.Omega.{arith}
 use mathlib.Core.Path.{_∙_}
+use native.Mathlib.Omega.{arith}
+use Rattle.message.specs.Layout.{layout}
+use Rattle.message.proofs.Legal.{illegal, legal-by-chunks}
 use Rattle.message.proofs.layouts.legal.Statement.{statement}
 use Rattle.message.proofs.layouts.legal.Tie as tie
 

@@ -1,8 +1,8 @@
 use borrow.Author.Needs.{needs}
-use Rattle.message.proofs.Longest.{fields-high}
-use Rattle.message.specs.Message.{messageBytes}
-use Rattle.message.specs.Layout.{layout}
 use native.Mathlib.Omega.{arith}
+use Rattle.message.specs.Layout.{layout}
+use Rattle.message.specs.Message.{messageBytes}
+use Rattle.message.proofs.Longest.{fields-high}
 use Rattle.message.proofs.layouts.message_bytes.Statement.{statement}
 use Rattle.message.proofs.layouts.message_bytes.Tie as tie
 

@@ -1,10 +1,10 @@
 use borrow.Author.Needs.{needs}
-use Rattle.message.proofs.Fields.{width-zero, width-half, width-most}
-use Rattle.message.specs.Message.{width}
-use native.Mathlib.Omega.{arith}
+use Prim.Native.Nat.{_+_, _≤_}
+use mathlib.Core.Path.{_≡_, ap, _∙_}
 use native.Mathlib.Nat.{zero-add}
-use Prim.Native.Nat.{ℕ, suc, _+_, _/_, _≤_, _<_}
-use mathlib.Core.Path.{_≡_, refl, sym, ap, _∙_}
+use native.Mathlib.Omega.{arith}
+use Rattle.message.specs.Message.{width}
+use Rattle.message.proofs.Fields.{width-zero, width-half, width-most}
 use Rattle.message.proofs.layouts.width.Statement.{statement}
 use Rattle.message.proofs.layouts.width.Tie as tie
 

@@ -1,15 +1,15 @@
 use borrow.Author.Needs.{needs}
-use Rattle.message.proofs.Answers.{refused-answer}
-use Rattle.message.proofs.Messages.{refused-1, refused-2}
-use Rattle.message.proofs.Head.{Mark, mark}
-use Rattle.message.specs.Read.{marked, versionOne, layoutOf, messageRefusal}
-use lib.ListN.{length}
-use borrow.Author.Tests.{not-true, not-false}
-use native.Mathlib.Omega.{arith}
 use Prim.Native.Nat.{ℕ, _≤_}
+use mathlib.Core.Path.{_≡_, refl, sym, _∙_}
+use mathlib.Core.Bool.{true}
 use mathlib.Core.List.{List}
-use mathlib.Core.Bool.{true, false}
-use mathlib.Core.Path.{_≡_, refl, sym, ap, _∙_}
+use native.Mathlib.Omega.{arith}
+use borrow.Author.Tests.{not-true, not-false}
+use lib.ListN.{length}
+use Rattle.message.specs.Read.{marked, layoutOf, messageRefusal}
+use Rattle.message.proofs.Answers.{refused-answer}
+use Rattle.message.proofs.Head.{mark}
+use Rattle.message.proofs.Messages.{refused-1, refused-2}
 use Rattle.message.proofs.reading.check.Statement.{statement}
 use Rattle.message.proofs.reading.check.Tie as tie
 

@@ -1,16 +1,16 @@
 use borrow.Author.Needs.{needs}
-use Rattle.message.proofs.Answers.{refused-answer, fit-answer}
-use Rattle.message.proofs.Messages.{refused-1, refused-2, refused-3, refused-4, refused-5, refused-6, refused-not}
+use Prim.Native.Nat.{ℕ}
+use mathlib.Core.Path.{_≡_, sym, _∙_}
+use mathlib.Core.Bool.{true}
+use mathlib.Core.List.{List}
+use borrow.Author.Tests.{not-true, not-false}
 use lib.ListN.{length}
 use Rattle.message.specs.Layout.{layout, legal}
 use Rattle.message.specs.Message.{messageBytes}
 use Rattle.message.specs.Read.{messageRefusal}
 use Rattle.message.specs.declared.Layout.{Layout}
-use borrow.Author.Tests.{not-true, not-false}
-use Prim.Native.Nat.{ℕ}
-use mathlib.Core.List.{List}
-use mathlib.Core.Bool.{true, false}
-use mathlib.Core.Path.{_≡_, sym, _∙_}
+use Rattle.message.proofs.Answers.{refused-answer, fit-answer}
+use Rattle.message.proofs.Messages.{refused-3, refused-4, refused-5, refused-6, refused-not}
 use Rattle.message.proofs.reading.check_layout.Statement.{statement}
 use Rattle.message.proofs.reading.check_layout.Tie as tie
 

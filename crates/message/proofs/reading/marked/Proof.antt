@@ -1,10 +1,10 @@
 use borrow.Author.Needs.{needs}
-use Rattle.message.proofs.Head.{Mark, mark, is-marked}
-use Rattle.bits.proofs.Laws.{refuted}
-use Rattle.message.specs.Read.{marked}
 use Prim.Native.Nat.{ℕ}
 use mathlib.Core.List.{List}
 use native.Mathlib.Omega.{arith}
+use Rattle.bits.proofs.Laws.{refuted}
+use Rattle.message.specs.Read.{marked}
+use Rattle.message.proofs.Head.{mark, is-marked}
 use Rattle.message.proofs.reading.marked.Statement.{statement}
 use Rattle.message.proofs.reading.marked.Tie as tie
 

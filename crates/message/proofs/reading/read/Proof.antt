@@ -1,16 +1,16 @@
 use borrow.Author.Needs.{needs}
-use Rattle.message.proofs.Answers.{found, not-found, fit-named, refused-answer, fit-answer, refuses-message, refuses-target, refuses-nothing, untouched, numbers-count, numbers-written}
-use Rattle.message.proofs.Legal.{Bounds, Sizes, legal-bounds, sizes}
-use Rattle.message.specs.Read.{layoutOf, messageRefusal, readRefusal, numbersRead, layoutAnswer}
-use Rattle.message.specs.Message.{messageBytes}
-use Rattle.message.specs.Layout.{legal}
-use Rattle.message.specs.declared.Layout.{Layout}
-use lib.ListN.{length, drop}
-use native.Mathlib.Omega.{arith}
-use mathlib.Core.List.{List, _++_}
+use Prim.Native.Nat.{ℕ, _+_, _≤_}
+use mathlib.Core.Path.{_≡_, sym, ap, _∙_}
 use mathlib.Core.Bool.{true}
-use mathlib.Core.Path.{_≡_, refl, sym, ap, _∙_}
-use Prim.Native.Nat.{ℕ, _+_, _≤_, _<_}
+use mathlib.Core.List.{List}
+use native.Mathlib.Omega.{arith}
+use lib.ListN.{length}
+use Rattle.message.specs.Layout.{legal}
+use Rattle.message.specs.Message.{messageBytes}
+use Rattle.message.specs.Read.{layoutOf, messageRefusal, readRefusal, layoutAnswer}
+use Rattle.message.specs.declared.Layout.{Layout}
+use Rattle.message.proofs.Answers.{found, not-found, fit-named, refused-answer, fit-answer, refuses-message, refuses-target, refuses-nothing, untouched, numbers-count, numbers-written}
+use Rattle.message.proofs.Legal.{legal-bounds, sizes}
 use Rattle.message.proofs.reading.read.Statement.{statement}
 use Rattle.message.proofs.reading.read.Tie as tie
 

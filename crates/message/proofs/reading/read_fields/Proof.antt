@@ -1,15 +1,15 @@
 use borrow.Author.Needs.{needs}
-use Rattle.bits.specs.Bits.{number, unpack}
+use Prim.Native.Nat.{ℕ, _+_, _-_, _*_, _≤_}
+use mathlib.Core.Path.{_≡_, refl, ap, _∙_}
+use mathlib.Core.List.{List}
 use native.Mathlib.Nat.{zero-mul, add-zero}
-use Rattle.message.proofs.Fields.{length-fields, field-value, field-room, field-step}
-use Rattle.message.specs.Read.{fields}
-use Rattle.bits.proofs.Copy.{paste-next}
-use lib.Seq.{paste, paste-zero, take-all}
-use lib.ListN.{length, getD, take, drop, set, length-set}
 use native.Mathlib.Omega.{arith}
-use mathlib.Core.List.{List, _++_}
-use mathlib.Core.Path.{_≡_, refl, sym, ap, _∙_}
-use Prim.Native.Nat.{ℕ, suc, _+_, _-_, _*_, _<_, _≤_}
+use lib.ListN.{length, getD, take, drop, length-set}
+use lib.Seq.{paste, paste-zero, take-all}
+use Rattle.bits.specs.Bits.{number, unpack}
+use Rattle.bits.proofs.Copy.{paste-next}
+use Rattle.message.specs.Read.{fields}
+use Rattle.message.proofs.Fields.{length-fields, field-value, field-room, field-step}
 use Rattle.message.proofs.reading.read_fields.Statement.{statement}
 use Rattle.message.proofs.reading.read_fields.Tie as tie
 

@@ -1,21 +1,18 @@
 use borrow.Author.Needs.{needs}
-use Rattle.message.proofs.Numbers.{block-count, string-count, block-written, string-written, check-written}
-use Rattle.message.proofs.Longest.{Rest, after-head}
-use Rattle.message.proofs.Legal.{Bounds, Sizes, sizes, legal-bounds}
-use Rattle.message.proofs.Fields.{length-fields}
-use Rattle.message.specs.Read.{body, fields, readBlockSums, readStringSums, readChecks}
-use Rattle.message.specs.Message.{width, fieldsLength, messageBytes}
-use Rattle.message.specs.Layout.{layout, legal, blockBits, stringBits}
-use Rattle.message.specs.declared.Layout.{Layout}
-use Rattle.bits.proofs.Copy.{part-next}
-use Rattle.bits.specs.Bits.{unpack}
-use lib.ListN.{length, take, drop, length-append, length-drop}
-use borrow.Rule.Slice.PartAt.{part-to-end}
+use Prim.Native.Nat.{_+_, _-_, _*_, _≤_}
+use mathlib.Core.Path.{_≡_, ap, _∙_}
+use mathlib.Core.List.{_++_}
 use native.Mathlib.Nat.{zero-add}
 use native.Mathlib.Omega.{arith}
-use mathlib.Core.List.{List, _++_}
-use mathlib.Core.Path.{_≡_, refl, sym, ap, _∙_}
-use Prim.Native.Nat.{ℕ, _+_, _-_, _*_, _≤_}
+use borrow.Rule.Slice.PartAt.{part-to-end}
+use lib.ListN.{length, take, drop}
+use Rattle.message.specs.Layout.{layout}
+use Rattle.message.specs.Message.{width}
+use Rattle.message.specs.Read.{readBlockSums, readStringSums}
+use Rattle.message.specs.declared.Layout.{Layout}
+use Rattle.message.proofs.Legal.{Sizes, sizes, legal-bounds}
+use Rattle.message.proofs.Longest.{Rest, after-head}
+use Rattle.message.proofs.Numbers.{block-written, string-written, check-written}
 use Rattle.message.proofs.reading.read_numbers.Statement.{statement}
 use Rattle.message.proofs.reading.read_numbers.Tie as tie
 

@@ -1,13 +1,12 @@
 use borrow.Author.Needs.{needs}
-use Rattle.bits.specs.Bits.{number, unpack}
-use lib.ListN.{length, getD, drop}
-use Rattle.message.proofs.Fields.{length-fields, field-value, field-room, field-step, above-next, above-stop, above-end}
-use Rattle.message.specs.Read.{fields, someAbove}
-use native.Mathlib.Omega.{arith}
+use Prim.Native.Nat.{ℕ, _+_, _-_, _*_, _≤_}
+use mathlib.Core.Path.{_≡_, sym, ap, _∙_}
 use mathlib.Core.List.{List}
-use mathlib.Core.Bool.{true, false}
-use mathlib.Core.Path.{_≡_, refl, sym, ap, _∙_}
-use Prim.Native.Nat.{ℕ, suc, _+_, _-_, _*_, _<_, _≤_}
+use native.Mathlib.Omega.{arith}
+use lib.ListN.{length, getD, drop}
+use Rattle.bits.specs.Bits.{number, unpack}
+use Rattle.message.specs.Read.{fields, someAbove}
+use Rattle.message.proofs.Fields.{length-fields, field-value, field-room, field-step, above-next, above-stop, above-end}
 use Rattle.message.proofs.reading.some_above.Statement.{statement}
 use Rattle.message.proofs.reading.some_above.Tie as tie
 

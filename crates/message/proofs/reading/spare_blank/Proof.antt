@@ -1,17 +1,17 @@
 use borrow.Author.Needs.{needs}
-use borrow.Rule.Slice.PartAt.{part-to-end}
-use Rattle.message.proofs.Longest.{Rest, after-head}
-use Rattle.bits.proofs.Packing.{fits-by}
-use Rattle.bits.specs.Bits.{bytesFor, unpack, blank}
-use Rattle.message.specs.Read.{body}
-use Rattle.message.specs.Message.{fieldsLength, messageBytes}
-use Rattle.message.specs.Layout.{layout, legal}
-use Rattle.message.specs.declared.Layout.{Layout}
-use lib.ListN.{length, drop, length-drop}
-use native.Mathlib.Omega.{arith}
+use Prim.Native.Nat.{ℕ}
+use mathlib.Core.Path.{refl, sym, _∙_}
 use mathlib.Core.List.{List}
-use mathlib.Core.Path.{_≡_, refl, sym, _∙_}
-use Prim.Native.Nat.{ℕ, _+_, _*_, _≤_}
+use native.Mathlib.Omega.{arith}
+use borrow.Rule.Slice.PartAt.{part-to-end}
+use lib.ListN.{drop}
+use Rattle.bits.specs.Bits.{unpack, blank}
+use Rattle.bits.proofs.Packing.{fits-by}
+use Rattle.message.specs.Layout.{layout}
+use Rattle.message.specs.Message.{fieldsLength}
+use Rattle.message.specs.Read.{body}
+use Rattle.message.specs.declared.Layout.{Layout}
+use Rattle.message.proofs.Longest.{Rest, after-head}
 use Rattle.message.proofs.reading.spare_blank.Statement.{statement}
 use Rattle.message.proofs.reading.spare_blank.Tie as tie
 

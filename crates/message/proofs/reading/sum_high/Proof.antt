@@ -1,19 +1,15 @@
 use borrow.Author.Needs.{needs}
-use Rattle.message.proofs.Longest.{Rest, after-head}
-use Rattle.message.proofs.Legal.{Sizes, sizes, legal-bounds}
-use Rattle.message.specs.Read.{body, fields, readBlockSums, readStringSums, someAbove}
-use Rattle.message.specs.Message.{width, fieldsLength, messageBytes}
-use Rattle.message.specs.Layout.{layout, legal, blockBits, stringBits}
-use Rattle.message.specs.declared.Layout.{Layout}
-use Rattle.bits.specs.Bits.{unpack}
-use lib.ListN.{length, take, drop}
-use borrow.Rule.Slice.PartAt.{part-to-end}
+use Prim.Native.Nat.{ℕ, _*_}
+use mathlib.Core.Path.{_≡_, refl, sym, ap, _∙_}
 use native.Mathlib.Nat.{zero-add}
 use native.Mathlib.Omega.{arith}
-use mathlib.Core.List.{List}
-use mathlib.Core.Bool.{Bool, true, false, _||_}
-use mathlib.Core.Path.{_≡_, refl, sym, ap, _∙_}
-use Prim.Native.Nat.{ℕ, _+_, _-_, _*_, _≤_}
+use borrow.Rule.Slice.PartAt.{part-to-end}
+use Rattle.message.specs.Layout.{layout, blockBits}
+use Rattle.message.specs.Message.{width}
+use Rattle.message.specs.Read.{body, readBlockSums, readStringSums, someAbove}
+use Rattle.message.specs.declared.Layout.{Layout}
+use Rattle.message.proofs.Legal.{Sizes, sizes, legal-bounds}
+use Rattle.message.proofs.Longest.{Rest, after-head}
 use Rattle.message.proofs.reading.sum_high.Statement.{statement}
 use Rattle.message.proofs.reading.sum_high.Tie as tie
 

@@ -1,9 +1,9 @@
 use borrow.Author.Needs.{needs}
-use Rattle.message.proofs.Head.{VersionOne, version, is-version}
-use Rattle.bits.proofs.Laws.{refuted}
-use Rattle.message.specs.Read.{versionOne}
 use Prim.Native.Nat.{ℕ}
 use mathlib.Core.List.{List}
+use Rattle.bits.proofs.Laws.{refuted}
+use Rattle.message.specs.Read.{versionOne}
+use Rattle.message.proofs.Head.{version, is-version}
 use Rattle.message.proofs.reading.version_one.Statement.{statement}
 use Rattle.message.proofs.reading.version_one.Tie as tie
 

@@ -1,10 +1,10 @@
 -- `message::sums::block_sum` meets its contract: the block is a part of the row. Assumes nothing.
 use borrow.Author.Needs.{needs}
+use mathlib.Core.Path.{_∙_}
+use native.Mathlib.Omega.{arith}
 use Rattle.vt.specs.Sum.{sum}
 use Rattle.message.specs.Layout.{layout}
 use Rattle.message.proofs.Turns.{Part, block-part}
-use native.Mathlib.Omega.{arith}
-use mathlib.Core.Path.{_∙_}
 use Rattle.message.proofs.sums.block_sum.Statement.{statement}
 use Rattle.message.proofs.sums.block_sum.Tie as tie
 

@@ -1,18 +1,18 @@
 -- `message::sums::fill_chunks` meets its contract. The loop's invariant: the slice starts with the numbers of the first i chunks.
 -- Assumes nothing.
 use borrow.Author.Needs.{needs}
+use Prim.Native.Nat.{ℕ, _+_, _-_, _*_, _≤_}
+use mathlib.Core.Path.{_≡_, refl, sym, _∙_}
+use mathlib.Core.List.{List, _++_}
+use native.Mathlib.Omega.{arith}
+use lib.ListN.{length, getD, take, drop, length-set}
+use lib.Seq.{take-all}
 use Rattle.bits.proofs.Copy.{front-next}
 use Rattle.message.specs.Layout.{layout}
 use Rattle.message.specs.Read.{fields}
-use Rattle.message.proofs.Legal.{Bounds, Sizes, legal-bounds, sizes}
-use Rattle.message.proofs.Fields.{fields-at, length-fields, field-room}
 use Rattle.message.proofs.Cutting.{chunk-numbers}
-use lib.ListN.{length, getD, take, drop, length-set}
-use lib.Seq.{take-all}
-use native.Mathlib.Omega.{arith}
-use mathlib.Core.List.{List, _++_}
-use mathlib.Core.Path.{_≡_, refl, sym, _∙_}
-use Prim.Native.Nat.{ℕ, _+_, _-_, _*_, _≤_}
+use Rattle.message.proofs.Fields.{fields-at, length-fields, field-room}
+use Rattle.message.proofs.Legal.{Bounds, Sizes, legal-bounds, sizes}
 use Rattle.message.proofs.sums.fill_chunks.Statement.{statement}
 use Rattle.message.proofs.sums.fill_chunks.Tie as tie
 

@@ -1,14 +1,14 @@
 -- `message::sums::number_at` meets its contract. The loop's invariant: the bits read so far, and those to come, spell the number.
 -- Assumes nothing.
 use borrow.Author.Needs.{needs}
-use Rattle.bits.proofs.Laws.{bit-at, number-next, number-end, pow-next}
-use Rattle.bits.specs.Bits.{number}
+use Prim.Native.Nat.{_+_, _-_, _*_, _^_, _<_, _≤_}
+use mathlib.Core.Path.{_≡_, refl, sym, _∙_}
+use native.Mathlib.Nat.{add-zero, zero-mul, zero-add}
+use native.Mathlib.Omega.{arith}
 use lib.ListN.{getD, drop}
 use lib.Pow.{pow-mono}
-use native.Mathlib.Omega.{arith}
-use native.Mathlib.Nat.{add-zero, zero-mul, zero-add}
-use mathlib.Core.Path.{_≡_, refl, sym, _∙_}
-use Prim.Native.Nat.{_+_, _-_, _*_, _^_, _<_, _≤_}
+use Rattle.bits.specs.Bits.{number}
+use Rattle.bits.proofs.Laws.{bit-at, number-next, number-end, pow-next}
 use Rattle.message.proofs.sums.number_at.Statement.{statement}
 use Rattle.message.proofs.sums.number_at.Tie as tie
 

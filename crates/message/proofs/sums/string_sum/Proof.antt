@@ -1,15 +1,15 @@
 -- `message::sums::string_sum` meets its contract. The loop's invariant: what is added so far and the rest of the chunk-string make its
 -- whole total. Assumes nothing.
 use borrow.Author.Needs.{needs}
+use Prim.Native.Nat.{ℕ, _+_, _-_, _*_, _%_, _≤_}
+use mathlib.Core.Path.{_≡_, ap, _∙_}
+use native.Mathlib.Nat.{zero-add}
+use native.Mathlib.Omega.{arith}
 use Rattle.vt.specs.Sum.{total}
-use Rattle.message.specs.declared.Layout.{Layout}
 use Rattle.message.specs.Layout.{layout, chunkString}
+use Rattle.message.specs.declared.Layout.{Layout}
 use Rattle.message.proofs.Legal.{Sizes, legal-bounds, sizes}
 use Rattle.message.proofs.Turns.{stringFrom, Turn, string-turn, string-start, string-end, string-high, string-sum}
-use native.Mathlib.Omega.{arith}
-use native.Mathlib.Nat.{zero-add}
-use mathlib.Core.Path.{_≡_, ap, _∙_}
-use Prim.Native.Nat.{ℕ, _+_, _-_, _*_, _%_, _≤_}
 use Rattle.message.proofs.sums.string_sum.Statement.{statement}
 use Rattle.message.proofs.sums.string_sum.Tie as tie
 

@@ -1,15 +1,15 @@
 -- `message::sums::total_from` meets its contract. The loop's invariant: what is added so far and what is left are the whole total.
 -- Assumes nothing.
 use borrow.Author.Needs.{needs}
+use Prim.Native.Nat.{_+_, _-_, _*_, _≤_}
+use mathlib.Core.Path.{_≡_, refl}
+use native.Mathlib.Nat.{add-zero, zero-add}
+use native.Mathlib.Omega.{arith}
+use lib.ListN.{length, getD, drop}
 use Rattle.bits.proofs.Laws.{bit-at}
 use Rattle.vt.specs.Sum.{total}
 use Rattle.vt.proofs.Totals.{times-bit, total-end}
 use Rattle.message.proofs.Positions.{total-step}
-use lib.ListN.{length, getD, drop}
-use native.Mathlib.Omega.{arith}
-use native.Mathlib.Nat.{add-zero, zero-add}
-use mathlib.Core.Path.{_≡_, refl}
-use Prim.Native.Nat.{_+_, _-_, _*_, _≤_}
 use Rattle.message.proofs.sums.total_from.Statement.{statement}
 use Rattle.message.proofs.sums.total_from.Tie as tie
 

@@ -1,12 +1,12 @@
 -- `message::writing::copy` meets its contract. The loop's invariant: the first i bytes are copied. Assumes nothing.
 use borrow.Author.Needs.{needs}
-use Rattle.bits.proofs.Copy.{front-next}
-use lib.ListN.{length, getD, take, drop, length-set}
-use lib.Seq.{take-all}
-use native.Mathlib.Omega.{arith}
-use mathlib.Core.List.{_++_}
+use Prim.Native.Nat.{_-_, _<_, _≤_}
 use mathlib.Core.Path.{_≡_, refl, _∙_}
-use Prim.Native.Nat.{ℕ, _-_, _<_, _≤_}
+use mathlib.Core.List.{_++_}
+use native.Mathlib.Omega.{arith}
+use lib.ListN.{length, take, drop, length-set}
+use lib.Seq.{take-all}
+use Rattle.bits.proofs.Copy.{front-next}
 use Rattle.message.proofs.writing.copy.Statement.{statement}
 use Rattle.message.proofs.writing.copy.Tie as tie
 

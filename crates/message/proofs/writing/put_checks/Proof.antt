@@ -1,15 +1,15 @@
 -- `message::writing::put_checks` meets its contract. The loop's invariant: the first i checks are placed, and the cursor is behind them.
 -- Assumes nothing.
 use borrow.Author.Needs.{needs}
+use Prim.Native.Nat.{ℕ, _-_, _≤_}
+use mathlib.Core.Path.{_≡_, sym, _∙_}
+use mathlib.Core.List.{List, map}
+use native.Mathlib.Omega.{arith}
+use lib.ListN.{length, length-map}
 use Rattle.field.specs.Field.{check}
 use Rattle.message.specs.Layout.{numbers}
 use Rattle.message.proofs.Cutting.{length-numbers, each-number}
 use Rattle.message.proofs.Placing.{Placed, placed-start, placed-room, placed-next, placed-end}
-use lib.ListN.{length, length-map}
-use native.Mathlib.Omega.{arith}
-use mathlib.Core.List.{List, map}
-use mathlib.Core.Path.{_≡_, sym, _∙_}
-use Prim.Native.Nat.{ℕ, _-_, _≤_}
 use Rattle.message.proofs.writing.put_checks.Statement.{statement}
 use Rattle.message.proofs.writing.put_checks.Tie as tie
 

@@ -1,11 +1,11 @@
 -- `message::writing::put_fields` meets its contract: block sums, chunk-string sums and checks stand one after another. Assumes nothing.
 use borrow.Author.Needs.{needs}
-use Rattle.message.specs.declared.Layout.{Layout}
-use Rattle.message.specs.Layout.{layout}
-use Rattle.message.proofs.Legal.{Sizes, legal-bounds, sizes}
-use Rattle.message.proofs.Assembly.{Stage, blockPart, stringPart, block-room, block-stage, string-room, string-stage, check-room, check-stage}
-use native.Mathlib.Omega.{arith}
 use mathlib.Core.List.{_++_}
+use native.Mathlib.Omega.{arith}
+use Rattle.message.specs.Layout.{layout}
+use Rattle.message.specs.declared.Layout.{Layout}
+use Rattle.message.proofs.Assembly.{Stage, blockPart, stringPart, block-room, block-stage, string-room, string-stage, check-room, check-stage}
+use Rattle.message.proofs.Legal.{Sizes, legal-bounds, sizes}
 use Rattle.message.proofs.writing.put_fields.Statement.{statement}
 use Rattle.message.proofs.writing.put_fields.Tie as tie
 

@@ -1,9 +1,9 @@
 -- `message::writing::put_head` meets its contract: the copied bytes are the head. Assumes nothing.
 use borrow.Author.Needs.{needs}
+use native.Mathlib.Omega.{arith}
 use Rattle.message.specs.Layout.{layout}
 use Rattle.message.specs.Message.{head}
 use Rattle.message.proofs.Legal.{Bounds, legal-bounds, sizes}
-use native.Mathlib.Omega.{arith}
 use Rattle.message.proofs.writing.put_head.Statement.{statement}
 use Rattle.message.proofs.writing.put_head.Tie as tie
 

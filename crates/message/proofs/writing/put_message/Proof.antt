@@ -1,16 +1,16 @@
 -- `message::writing::put_message` meets its contract: what the local arrays and the target hold on the way is said in Assembly.
 -- Assumes nothing.
 use borrow.Author.Needs.{needs}
-use Rattle.message.specs.declared.Layout.{Layout}
+use Prim.Native.Nat.{ℕ, _-_, _≤_}
+use mathlib.Core.Path.{_≡_}
+use mathlib.Core.List.{List}
+use native.Mathlib.Omega.{arith}
+use lib.ListN.{length, take}
 use Rattle.message.specs.Layout.{layout, rowBits}
+use Rattle.message.specs.declared.Layout.{Layout}
+use Rattle.message.proofs.Assembly.{held, fieldsOf, enough, row-lent, row-asks, head-room, fields-lent, body-room, pack-asks, assembled}
 use Rattle.message.proofs.Legal.{Sizes, legal-bounds, sizes}
 use Rattle.message.proofs.Longest.{fields-high}
-use Rattle.message.proofs.Assembly.{held, fieldsOf, enough, row-lent, row-asks, head-room, fields-lent, body-room, pack-asks, assembled}
-use lib.ListN.{length, take}
-use native.Mathlib.Omega.{arith}
-use mathlib.Core.List.{List}
-use mathlib.Core.Path.{_≡_}
-use Prim.Native.Nat.{ℕ, _-_, _≤_}
 use Rattle.message.proofs.writing.put_message.Statement.{statement}
 use Rattle.message.proofs.writing.put_message.Tie as tie
 

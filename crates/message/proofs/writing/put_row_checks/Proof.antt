@@ -1,15 +1,15 @@
 -- `message::writing::put_row_checks` meets its contract: the checks are taken of the row's chunks. Assumes nothing.
 use borrow.Author.Needs.{needs}
+use Prim.Native.Nat.{ℕ, _+_, _*_, _≤_}
+use mathlib.Core.Path.{ap, _∙_}
+use mathlib.Core.List.{List, _++_, flatMap}
+use native.Mathlib.Omega.{arith}
+use lib.ListN.{take, drop}
 use Rattle.bits.specs.Bits.{digits}
 use Rattle.field.proofs.Double.{size-high}
 use Rattle.message.specs.Layout.{layout}
-use Rattle.message.proofs.Legal.{Bounds, legal-bounds, sizes}
 use Rattle.message.proofs.Assembly.{chunks-elements, chunks-checks}
-use lib.ListN.{take, drop}
-use native.Mathlib.Omega.{arith}
-use mathlib.Core.List.{List, _++_, flatMap}
-use mathlib.Core.Path.{ap, _∙_}
-use Prim.Native.Nat.{ℕ, _+_, _*_, _≤_}
+use Rattle.message.proofs.Legal.{Bounds, legal-bounds, sizes}
 use Rattle.message.proofs.writing.put_row_checks.Statement.{statement}
 use Rattle.message.proofs.writing.put_row_checks.Tie as tie
 

@@ -1,17 +1,17 @@
 -- `message::writing::put_string_sums` meets its contract. The loop's invariant: the first j sums are placed, and the cursor is behind them.
 -- Assumes nothing.
 use borrow.Author.Needs.{needs}
-use Rattle.message.specs.declared.Layout.{Layout}
+use Prim.Native.Nat.{ℕ, _-_, _≤_}
+use mathlib.Core.Path.{_≡_}
+use mathlib.Core.List.{List}
+use native.Mathlib.Omega.{arith}
+use lib.ListN.{length}
 use Rattle.message.specs.Layout.{layout}
 use Rattle.message.specs.Message.{stringSums}
-use Rattle.message.proofs.Legal.{legal-bounds, sizes}
+use Rattle.message.specs.declared.Layout.{Layout}
 use Rattle.message.proofs.Cutting.{length-string-sums, string-sum-low}
+use Rattle.message.proofs.Legal.{legal-bounds, sizes}
 use Rattle.message.proofs.Placing.{Placed, placed-start, placed-room, placed-next, placed-end}
-use lib.ListN.{length}
-use native.Mathlib.Omega.{arith}
-use mathlib.Core.List.{List}
-use mathlib.Core.Path.{_≡_}
-use Prim.Native.Nat.{ℕ, _-_, _≤_}
 use Rattle.message.proofs.writing.put_string_sums.Statement.{statement}
 use Rattle.message.proofs.writing.put_string_sums.Tie as tie
 

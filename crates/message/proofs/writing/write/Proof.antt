@@ -1,15 +1,15 @@
 -- `message::writing::write` meets its contract: at each return the checks before it do not apply. Assumes nothing.
 use borrow.Author.Needs.{needs}
-use Rattle.bits.specs.Bits.{fits}
-use Rattle.message.specs.declared.Layout.{Layout}
-use Rattle.message.specs.Layout.{layout, legal, rowBits}
-use Rattle.message.proofs.Legal.{Sizes, legal-bounds, sizes}
-use Rattle.message.proofs.Writes.{refused-layout, refused-packing, refused-target, not-refused, refused, written}
+use mathlib.Core.Path.{_≡_, sym, _∙_}
+use mathlib.Core.Bool.{true}
+use native.Mathlib.Omega.{arith}
 use borrow.Author.Tests.{not-true, not-false}
 use lib.ListN.{length}
-use native.Mathlib.Omega.{arith}
-use mathlib.Core.Bool.{true}
-use mathlib.Core.Path.{_≡_, sym, _∙_}
+use Rattle.bits.specs.Bits.{fits}
+use Rattle.message.specs.Layout.{layout, legal, rowBits}
+use Rattle.message.specs.declared.Layout.{Layout}
+use Rattle.message.proofs.Legal.{Sizes, legal-bounds, sizes}
+use Rattle.message.proofs.Writes.{refused-layout, refused-packing, refused-target, not-refused, refused, written}
 use Rattle.message.proofs.writing.write.Statement.{statement}
 use Rattle.message.proofs.writing.write.Tie as tie
 
