@@ -6,4 +6,4 @@ pub mod Linear
 mod Among
 mod Powers
 mod Logs
-mod Steps
+mod Terms

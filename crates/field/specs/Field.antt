@@ -2,6 +2,7 @@
 -- below 2 ^ nc, its binary digits the coefficients of a polynomial over two elements; the sum of two is their exclusive or.
 -- The checks are those of a Reed-Solomon code.
 use Prim.Native.Nat.{ℕ, zero, suc, _-_, _*_, _/_, _%_, _^_, _<_}
+use mathlib.Core.Path.{_≡_}
 use mathlib.Core.Bool.{cond}
 use mathlib.Core.List.{List, [], _∷_}
 use lib.Bits.{bitXor}
@@ -51,3 +52,7 @@ checkFrom nc i c (x ∷ xs) = bitXor (times nc (power nc (i * c)) x) (checkFrom 
 unfoldable pub check : (nc i : ℕ) → List ℕ → ℕ
 unfolding checkFrom
 check nc i xs = checkFrom nc i 0 xs
+
+-- the first r of the numbers vs are the checks of the chunks xs, in order
+abbrev pub Checks : (nc r : ℕ) (xs vs : List ℕ) → Type 0
+Checks nc r xs vs = (i : ℕ) → i < r → getD vs i 0 ≡ check nc i xs

@@ -1,10 +1,11 @@
 // The fields of 2 ^ nc elements, nc from 3 to 8: the table of the powers of 2, the product through logs, and the checks of a
-// row's chunks. The contracts cite specs/Field.antt and specs/Tables.antt.
+// row's chunks. The contracts cite specs/Field.antt, specs/Tables.antt and specs/Exponents.antt.
 ghost use mathlib.Core.Path.{_≡_};
 ghost use Prim.Native.Nat.{_+_, _-_, _*_, _^_, _<_, _≤_};
-ghost use lib.ListN.{length};
-ghost use Rattle.field.specs.Field.{Element, Elements, power, times, check as checkOf};
+ghost use lib.ListN.{length, getD};
+ghost use Rattle.field.specs.Field.{Element, Elements, power, times, Checks};
 ghost use Rattle.field.specs.Tables.{powers, start, withLogs, Logs};
+ghost use Rattle.field.specs.Exponents.{named, sumNamed, Names};
 
 // The powers of 2 of the six fields one after another, 2 ^ nc - 1 for each.
 const POWERS: [u8; 498] = [
@@ -565,14 +566,6 @@ fn reduce(nc: usize, e: usize) -> usize
     if e < n { e } else { e - n }
 }
 
-// The same of any exponent.
-fn remainder(nc: usize, e: usize) -> usize
-    requires { ⌜ (3 ≤ nc) × (nc ≤ 8) ⌝ }
-    ensures { λ r. ⌜ (r + 1 < 2 ^ nc) × (power nc r ≡ power nc e) ⌝ }
-{
-    e % order(nc)
-}
-
 // Writes the log of each element but 0 at the element's place, and nothing else.
 pub fn fill_logs(nc: usize, logs: &mut [u8])
     requires { ⌜ (3 ≤ nc) × (nc ≤ 8) × (2 ^ nc ≤ length (now logs)) ⌝ }
@@ -621,20 +614,90 @@ pub fn multiply(nc: usize, logs: &[u8], a: u8, b: u8) -> u8
     shift(&t, nc, logs, e, b)
 }
 
-// Check i of the chunks: the exponent of chunk c's factor 2 ^ (i * c) is carried along, reduced by one subtraction a step.
-pub fn check(nc: usize, i: usize, logs: &[u8], chunks: &[u8]) -> u8
-    requires { ⌜ (3 ≤ nc) × (nc ≤ 8) × Logs nc (now logs) × Elements nc (now chunks) ⌝ }
-    ensures { λ r. ⌜ r ≡ checkOf nc i (now (chunks .entry)) ⌝ }
+// The exponent of an element: 2 ^ nc - 1 stands for that of 0, which has none.
+fn exponent_of(nc: usize, logs: &[u8], x: u8) -> u8
+    requires { ⌜ (3 ≤ nc) × (nc ≤ 8) × Logs nc (now logs) × Element nc x ⌝ }
+    ensures { λ r. ⌜ (r < 2 ^ nc) × (named nc r ≡ x) ⌝ }
 {
-    let t = table();
-    let step = remainder(nc, i);
-    let mut sum: u8 = 0;
-    let mut exponent: usize = 0;
+    if x == 0 {
+        return order(nc) as u8;
+    }
+    log_of(nc, logs, x) as u8
+}
+
+// The element that an exponent names.
+fn element_of(t: &[u8; 498], nc: usize, e: u8) -> u8
+    requires { ⌜ (now t ≡ powers) × (3 ≤ nc) × (nc ≤ 8) ⌝ }
+    ensures { λ r. ⌜ r ≡ named nc e ⌝ }
+{
+    let d = wide(e);
+    if d < order(nc) { entry(t, nc, d) } else { 0 }
+}
+
+// The exponent of 2 to the power c, times the element that e names. All bytes, so that a loop of it is done many at a time.
+fn raise(nc: usize, e: u8, c: u8) -> u8
+    requires { ⌜ (3 ≤ nc) × (nc ≤ 8) × (e < 2 ^ nc) × (c + 1 < 2 ^ nc) ⌝ }
+    ensures { λ r. ⌜ (r < 2 ^ nc) × (named nc r ≡ times nc (power nc c) (named nc e)) ⌝ }
+{
+    let n = order(nc) as u8;
+    if e == n {
+        return n;
+    }
+    let d = n - c;
+    if e < d { e + c } else { e - d }
+}
+
+// The exponents of elements at the start of a slice.
+fn fill_exponents(nc: usize, logs: &[u8], xs: &[u8], es: &mut [u8])
+    requires { ⌜ (3 ≤ nc) × (nc ≤ 8) × Logs nc (now logs) × Elements nc (now xs) × (length (now xs) ≤ length (now es)) ⌝ }
+    ensures { λ _. ⌜ Names nc (length (now (xs .entry))) (now (es .exit)) (λ c. getD (now (xs .entry)) c 0) ⌝ }
+{
     let mut c: usize = 0;
-    while c < chunks.len() {
-        sum ^= shift(&t, nc, logs, exponent, chunks[c]);
-        exponent = reduce(nc, exponent + step);
+    while c < xs.len() {
+        es[c] = exponent_of(nc, logs, xs[c]);
         c += 1;
     }
-    sum
+}
+
+// The first n exponents of one check's terms made those of the next check's.
+fn raise_all(nc: usize, n: usize, es: &mut [u8])
+    requires { ⌜ (3 ≤ nc) × (nc ≤ 8) × (n < 2 ^ nc) × (n ≤ length (now es)) × ((c : _) → c < n → getD (now es) c 0 < 2 ^ nc) ⌝ }
+    ensures { λ _. ⌜ Names nc n (now (es .exit)) (λ c. times nc (power nc c) (named nc (getD (now (es .entry)) c 0))) ⌝ }
+{
+    let mut c: usize = 0;
+    while c < n {
+        es[c] = raise(nc, es[c], c as u8);
+        c += 1;
+    }
+}
+
+// The field sum of the elements that exponents name.
+fn sum(t: &[u8; 498], nc: usize, es: &[u8]) -> u8
+    requires { ⌜ (now t ≡ powers) × (3 ≤ nc) × (nc ≤ 8) ⌝ }
+    ensures { λ r. ⌜ r ≡ sumNamed nc (now (es .entry)) ⌝ }
+{
+    let mut s: u8 = 0;
+    let mut c: usize = 0;
+    while c < es.len() {
+        s ^= element_of(t, nc, es[c]);
+        c += 1;
+    }
+    s
+}
+
+// The first r checks of the chunks, at the start of a slice: the exponents of all terms of a check are made those of the next.
+pub fn checks(nc: usize, r: usize, logs: &[u8], chunks: &[u8], out: &mut [u8])
+    requires { ⌜ ((3 ≤ nc) × (nc ≤ 8) × Logs nc (now logs) × Elements nc (now chunks)) × ((length (now chunks) < 2 ^ nc) × (r ≤ length (now out))) ⌝ }
+    ensures { λ _. ⌜ Checks nc r (now (chunks .entry)) (now (out .exit)) ⌝ }
+{
+    let t = table();
+    let n = chunks.len();
+    let mut es: [u8; 255] = [0; 255];
+    fill_exponents(nc, logs, chunks, &mut es);
+    let mut i: usize = 0;
+    while i < r {
+        out[i] = sum(&t, nc, &es[0..n]);
+        raise_all(nc, n, &mut es);
+        i += 1;
+    }
 }

@@ -1,6 +1,6 @@
--- The parts of a message put together: the chunks that the checks are taken of, the fields one after another, and the packed fields
+-- The parts of a message put together: the checks of the chunks, the fields one after another, and the packed fields
 -- behind the head. Assumes nothing.
-use Prim.Native.Nat.{ℕ, _+_, _-_, _*_, _≤_}
+use Prim.Native.Nat.{ℕ, _+_, _-_, _*_, _<_, _≤_}
 use mathlib.Core.Path.{_≡_, refl, sym, ap, _∙_}
 use mathlib.Core.Bool.{true}
 use mathlib.Core.List.{List, [], _++_, append-assoc, append-nil, flatMap, map}
@@ -8,16 +8,16 @@ use native.Mathlib.Omega.{arith}
 use borrow.Rule.Slice.PartAt.{part-to-end}
 use borrow.Rule.Slice.PartMut.{putMid}
 use lib.ListN.{length, take, drop, length-append, length-drop, drop-of-length-le}
-use lib.Seq.{take-at, drop-drop}
+use lib.Seq.{take-at, drop-drop, ext-getD, getD-take, length-take-le}
 use Rattle.bits.specs.Bits.{AllBits, longest, number, digits, bytesFor, pack, unpack, fits}
 use Rattle.bits.proofs.Copy.{part-next}
 use Rattle.bits.proofs.Laws.{bits-take, bits-unpack}
 use Rattle.bits.proofs.Packing.{fits-length, length-string}
-use Rattle.field.specs.Field.{Elements, check}
-use Rattle.message.specs.Layout.{legal, rowBits, blockBits, stringBits, numbers, chunks}
+use Rattle.field.specs.Field.{Elements, check, Checks}
+use Rattle.message.specs.Layout.{legal, rowBits, blockBits, stringBits, chunks}
 use Rattle.message.specs.Message.{width, fieldsLength, messageBytes, blockSums, stringSums, checks, head, fieldBits, encode, message}
 use Rattle.message.specs.declared.Layout.{Layout}
-use Rattle.message.proofs.Cutting.{chunk-numbers, chunk-elements, length-block-sums, length-string-sums, length-checks}
+use Rattle.message.proofs.Cutting.{each-number, chunk-numbers, chunk-elements, length-block-sums, length-string-sums, length-checks}
 use Rattle.message.proofs.Fields.{width-most, length-flat, length-fields}
 use Rattle.message.proofs.Legal.{legal-bounds, sizes}
 use Rattle.message.proofs.Longest.{fields-high}
@@ -34,9 +34,19 @@ module _ (l : Layout) (x : List ℕ) (a : AllBits x) (q z : List ℕ) (e : q ≡
   pub chunks-elements : Elements (l .nc) (take (l .l1 * l .l2 - 0) q)
   chunks-elements = rw chunks-lent (chunk-elements l x a)
 
-  pub chunks-checks : map (λ (i : ℕ). check (l .nc) i (take (l .l1 * l .l2 - 0) q)) (numbers 0 (l .r)) ≡ checks l x
+  pub length-lent : length (take (l .l1 * l .l2 - 0) q) ≡ l .l1 * l .l2
+  length-lent = ap length (chunks-lent ∙ chunk-numbers l x) ∙ length-fields (l .l1 * l .l2) (l .nc) x
+
+  -- the checks that are taken of them, at the front of an array, lent
+  pub checks-lent : (vs : List ℕ) → l .r ≤ length vs → Checks (l .nc) (l .r) (take (l .l1 * l .l2 - 0) q) vs → take (l .r - 0) vs ≡ checks l x
   unfolding checks
-  chunks-checks = rw chunks-lent refl
+  checks-lent vs h f =
+      let m : l .r - 0 ≡ l .r = omega arith in
+      let k : length (take (l .r) vs) ≡ l .r = length-take-le (l .r) vs h in
+      let g : ℕ → ℕ = λ i. check (l .nc) i (map (number (l .nc)) (chunks l x)) in
+      rw m
+      (ext-getD 0 (take (l .r) vs) (checks l x) (k ∙ sym (length-checks l x))
+      (λ i n. let b : i < l .r = omega arith in getD-take (l .r) vs i 0 b ∙ f i b ∙ ap (check (l .nc) i) chunks-lent ∙ sym (each-number g (l .r) i b)))
 
 -- ---- parts that are written one after another to the start of a slice d
 -- the slice b starts with p, and n is the place behind it

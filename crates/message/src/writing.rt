@@ -7,13 +7,11 @@ use bits::BitCursor;
 use refusal::Refusal;
 ghost use mathlib.Core.Path.{_≡_};
 ghost use mathlib.Core.Bool.{true};
-ghost use mathlib.Core.List.{_++_, map, flatMap};
+ghost use mathlib.Core.List.{_++_, flatMap};
 ghost use Prim.Native.Nat.{_+_, _*_, _≤_};
 ghost use lib.ListN.{length, take, drop};
 ghost use Rattle.bits.specs.Bits.{AllBits, digits, unpack as unpacked, fits};
-ghost use Rattle.field.specs.Field.{Elements, check};
-ghost use Rattle.field.specs.Tables.{Logs};
-ghost use Rattle.message.specs.Layout.{layout, legal as isLegal, rowBits, numbers};
+ghost use Rattle.message.specs.Layout.{layout, legal as isLegal, rowBits};
 ghost use Rattle.message.specs.Message.{width, fieldsLength, messageBytes, blockSums, stringSums, checks, head, fieldBits, message};
 ghost use Rattle.message.specs.Write.{writtenOf, writeAnswer, writeTarget};
 
@@ -71,17 +69,16 @@ fn put_string_sums(
     c
 }
 
-// The first r checks of chunks as fields of nc bits at a cursor.
-fn put_checks(nc: usize, r: usize, logs: &[u8], chunks: &[u8], start: BitCursor, bits: &mut [u8])
-    requires { ⌜ ((3 ≤ nc) × (nc ≤ 8) × Logs nc (now logs) × Elements nc (now chunks)) × (start .at + r * nc ≤ length (now bits)) ⌝ }
+// Checks as fields of nc bits at a cursor.
+fn put_checks(nc: usize, values: &[u8], start: BitCursor, bits: &mut [u8])
+    requires { ⌜ (nc ≤ 16) × (start .at + length (now values) * nc ≤ length (now bits)) ⌝ }
     ensures { λ _. ⌜ now (bits .exit) ≡ take (start .at) (now (bits .entry))
-        ++ flatMap (digits nc) (map (λ i. check nc i (now (chunks .entry))) (numbers 0 r)) ++ drop (start .at + r * nc) (now (bits .entry)) ⌝ }
+        ++ flatMap (digits nc) (now (values .entry)) ++ drop (start .at + length (now (values .entry)) * nc) (now (bits .entry)) ⌝ }
 {
     let mut c = start;
     let mut i: usize = 0;
-    while i < r {
-        let value = field::check(nc, i, logs, chunks) as u16;
-        let next = c.put(bits, nc, value);
+    while i < values.len() {
+        let next = c.put(bits, nc, values[i] as u16);
         c = next;
         i += 1;
     }
@@ -107,7 +104,9 @@ fn put_row_checks(
     let mut chunks: [u8; 255] = [0; 255];
     sums::fill_chunks(l1, l2, nc, r, row, &mut chunks);
     let n = l1 * l2;
-    put_checks(nc, r, &logs, &chunks[0..n], start, bits);
+    let mut values: [u8; 16] = [0; 16];
+    field::checks(nc, r, &logs, &chunks[0..n], &mut values);
+    put_checks(nc, &values[0..r], start, bits);
 }
 
 // The fields of a row's message, one byte a bit, at the start of a slice.

@@ -1,14 +1,14 @@
 -- `message::writing::put_row_checks` meets its contract: the checks are taken of the row's chunks. Assumes nothing.
 use borrow.Author.Needs.{needs}
-use Prim.Native.Nat.{ℕ, _+_, _*_, _≤_}
-use mathlib.Core.Path.{ap, _∙_}
-use mathlib.Core.List.{List, _++_, flatMap}
+use Prim.Native.Nat.{_-_, _*_, _≤_}
+use mathlib.Core.Path.{_≡_, refl, _∙_}
 use native.Mathlib.Omega.{arith}
-use lib.ListN.{take, drop}
-use Rattle.bits.specs.Bits.{digits}
-use Rattle.field.proofs.Double.{size-high}
+use lib.ListN.{length, take}
+use Rattle.field.proofs.Double.{size-low, size-high}
 use Rattle.message.specs.Layout.{layout}
-use Rattle.message.proofs.Assembly.{chunks-elements, chunks-checks}
+use Rattle.message.specs.Message.{checks}
+use Rattle.message.proofs.Assembly.{chunks-elements, length-lent, checks-lent}
+use Rattle.message.proofs.Cutting.{length-checks}
 use Rattle.message.proofs.Legal.{Bounds, legal-bounds, sizes}
 use Rattle.message.proofs.writing.put_row_checks.Statement.{statement}
 use Rattle.message.proofs.writing.put_row_checks.Tie as tie
@@ -38,8 +38,31 @@ fill-chunks-requires c κs =
 mul-n : tie.Need-mul-n
 mul-n c = omega (arith, few (c .before .before .before .before .before .before .before .before))
 
-slice-aggregate-put-checks : tie.Need-slice-aggregate-put-checks
-slice-aggregate-put-checks c = search needs
+slice-aggregate-checks : tie.Need-slice-aggregate-checks
+slice-aggregate-checks c = search needs
+
+sub-checks : tie.Need-sub-checks
+sub-checks c = search needs
+
+part-checks-start : tie.Need-part-checks-start
+part-checks-start c = search needs
+
+part-checks-end : tie.Need-part-checks-end
+part-checks-end c = omega (arith, few (c .before .before .before .before .before .before .before .before .before .before))
+
+slice-aggregate-checks-2 : tie.Need-slice-aggregate-checks-2
+slice-aggregate-checks-2 c = search needs
+
+checks-requires : tie.Need-checks-requires
+checks-requires c κs =
+    let s = c .before .before .before .before .before .before .before .before .before .before .before .before in
+    let a = s .args in
+    let b = bounds s in
+    let f = c .before .before .before .before .before .fill-chunks .ensures in
+    let l = layout (a .l1) (a .l2) (a .nc) (a .r) in
+    let x = a .row .now in
+    let bits = s .pre .0 .1 .0 in
+    ((b .nc-low, b .nc-high, c .before .before .before .before .before .before .before .before .fill-logs .ensures .1, chunks-elements l x bits _ _ f), (omega (arith, length-lent l x bits _ _ f, b .chunks-high, size-low (a .nc) (b .nc-low)), b .r-high))
 
 sub-put-checks : tie.Need-sub-put-checks
 sub-put-checks c = search needs
@@ -48,32 +71,37 @@ part-put-checks-start : tie.Need-part-put-checks-start
 part-put-checks-start c = search needs
 
 part-put-checks-end : tie.Need-part-put-checks-end
-part-put-checks-end c = omega (arith, few (c .before .before .before .before .before .before .before .before .before .before))
+part-put-checks-end c = omega (arith, bounds (c .before .before .before .before .before .before .before .before .before .before .before .before .before .before .before) .r-high)
 
--- what the function is given, seen from where the chunks are filled in
-abbrev start : tie.After-fill-chunks → tie.Start
-start c = c .before .before .before .before .before .before .before
+-- what the function is given, seen from where the checks are filled in
+abbrev start : tie.After-checks → tie.Start
+start c = c .before .before .before .before .before .before .before .before .before .before .before .before .before
+
+-- the checks that are put
+values : (c : tie.After-checks) → take (start c .args .r - 0) (c .checks .last .1 .1 .1 .1 .0) ≡ checks (layout (start c .args .l1) (start c .args .l2) (start c .args .nc) (start c .args .r)) (start c .args .row .now)
+values c =
+    let s = start c in
+    let a = s .args in
+    let l : length (c .checks .last .1 .1 .1 .1 .0) ≡ 16 = search needs in
+    checks-lent (layout (a .l1) (a .l2) (a .nc) (a .r)) (a .row .now) (s .pre .0 .1 .0) _ _ (c .before .before .before .before .before .before .fill-chunks .ensures) _ (omega (arith, bounds s .r-high)) (c .checks .ensures)
 
 put-checks-requires : tie.Need-put-checks-requires
 put-checks-requires c κs =
-    let f = c .before .before .before .before .before in
-    let s = start f in
+    let k = c .before .before .before .before in
+    let s = start k in
     let a = s .args in
     let b = bounds s in
-    ((b .nc-low, b .nc-high, f .before .before .before .fill-logs .ensures .1, chunks-elements (layout (a .l1) (a .l2) (a .nc) (a .r)) (a .row .now) (s .pre .0 .1 .0) _ _ (f .fill-chunks .ensures)), s .pre .1)
+    (omega (arith, b .nc-high), rw (values k, length-checks (layout (a .l1) (a .l2) (a .nc) (a .r)) (a .row .now)) (s .pre .1))
 
 same-length : tie.Need-same-length
 same-length c = search needs
 
 returns : tie.Need-returns
 returns c =
-    let q = c .before .before .put-checks in
-    let f = c .before .before .before .before .before .before .before .before in
-    let s = start f in
-    let a = s .args in
-    q .ensures
-    ∙ ap (λ (v : List ℕ). take (a .start .at) (a .bits .now) ++ flatMap (digits (a .nc)) v ++ drop (a .start .at + a .r * a .nc) (a .bits .now))
-    (chunks-checks (layout (a .l1) (a .l2) (a .nc) (a .r)) (a .row .now) (s .pre .0 .1 .0) _ _ (f .fill-chunks .ensures))
+    let k = c .before .before .before .before .before .before .before in
+    let a = start k .args in
+    let n = length-checks (layout (a .l1) (a .l2) (a .nc) (a .r)) (a .row .now) in
+    c .before .before .put-checks .ensures ∙ rw (values k, n) refl
 
 pub put-row-checks-spec : {M : Type 1} → statement M
 put-row-checks-spec =
@@ -84,7 +112,12 @@ put-row-checks-spec =
     slice-aggregate-fill-chunks
     fill-chunks-requires
     mul-n
-    slice-aggregate-put-checks
+    slice-aggregate-checks
+    sub-checks
+    part-checks-start
+    part-checks-end
+    slice-aggregate-checks-2
+    checks-requires
     sub-put-checks
     part-put-checks-start
     part-put-checks-end
