@@ -1,13 +1,16 @@
 -- A candidate's numbers, compared with those of a message that was read. Assumes nothing.
 use Prim.Native.Nat.{ℕ, _+_, _-_, _<_, _≤_}
 use mathlib.Core.Path.{_≡_, refl, sym, ap, _∙_}
-use mathlib.Core.Bool.{true}
+use mathlib.Core.Bool.{Bool, true, false, _&&_}
 use mathlib.Core.List.{List, _++_, append-assoc}
 use native.Mathlib.Omega.{arith}
-use lib.ListN.{length, getD, take, drop, length-append, List·getD-append}
-use lib.Seq.{getD-append-add, take-at, drop-at}
+use borrow.Author.Tests.{eq-eqb}
+use borrow.Rule.Slice.PartAt.{part-to-end}
+use lib.ListN.{length, getD, take, drop, length-append, take-append-drop, List·getD-append}
+use lib.Seq.{getD-append-add, take-at, drop-at, length-take-le}
 use Rattle.bits.specs.Bits.{AllBytes, same}
-use Rattle.bits.proofs.Laws.{both-ways, same-eq, same-refl}
+use Rattle.bits.proofs.Laws.{both-ways, same-eq, same-refl, same-append}
+use Rattle.rows.specs.Deletion.{comesFrom}
 use Rattle.rows.specs.Order.{Row}
 use Rattle.message.specs.Layout.{legal, rowBits}
 use Rattle.message.specs.Message.{blockSums, stringSums, checks, encode, message}
@@ -18,7 +21,7 @@ use Rattle.message.proofs.Cutting.{length-block-sums, length-string-sums}
 use Rattle.message.proofs.Messages.{encode-read}
 use Rattle.message.proofs.Numbers.{block-count, string-count}
 use Rattle.message.proofs.Roundtrip.{message-reads}
-use Rattle.consistent.specs.Consistent.{yields}
+use Rattle.consistent.specs.Consistent.{bitsOf, yields, consistent, candidate}
 
 -- ---- the sums by their places
 module _ (l : Layout) (x : List ℕ) where
@@ -85,3 +88,48 @@ yields-numbers s x b e r = yields-is ∙ tested (layoutOf s) x s b e refl r ∙ 
 
     numbers-are : numbersRead s ≡ given (layoutOf s) x s
     numbers-are = unfold numbersRead in refl
+
+-- ---- the numbers in two parts, as the code has them
+module _ (l : Layout) (x numbers : List ℕ) (h : length numbers ≡ l .l1 + l .l2 + l .r) where
+  -- all numbers of the row, and of these the sums
+  abbrev all : List ℕ
+  all = blockSums l x ++ stringSums l x ++ checks l x
+
+  abbrev sums : List ℕ
+  sums = blockSums l x ++ stringSums l x
+
+  in-parts : same all numbers ≡ (same sums (take (l .l1 + l .l2) numbers) && same (checks l x) (drop (l .l1 + l .l2) numbers))
+  in-parts =
+      let n : length (take (l .l1 + l .l2) numbers) ≡ l .l1 + l .l2 = length-take-le (l .l1 + l .l2) numbers (omega arith) in
+      ap (same all) (sym (take-append-drop (l .l1 + l .l2) numbers)) ∙ same-append sums (take (l .l1 + l .l2) numbers) (checks l x) (drop (l .l1 + l .l2) numbers) (length-sums l x ∙ sym n)
+
+  front : take (l .l1 + l .l2 - 0) (drop 0 numbers) ≡ take (l .l1 + l .l2) numbers
+  front =
+      let e : l .l1 + l .l2 - 0 ≡ l .l1 + l .l2 = omega arith in
+      ap (λ (n : ℕ). take n numbers) e
+
+  -- other sums settle it
+  pub sums-differ : same sums (take (l .l1 + l .l2 - 0) (drop 0 numbers)) ≡ false → false ≡ same all numbers
+  sums-differ e = sym (in-parts ∙ ap (λ (b : Bool). b && same (checks l x) (drop (l .l1 + l .l2) numbers)) (ap (same sums) (sym front) ∙ e))
+
+  -- where the sums are the same, the checks decide
+  pub sums-same : same sums (take (l .l1 + l .l2 - 0) (drop 0 numbers)) ≡ true → same (checks l x) (take (length numbers - (l .l1 + l .l2)) (drop (l .l1 + l .l2) numbers)) ≡ same all numbers
+  sums-same e =
+      ap (same (checks l x)) (part-to-end numbers (l .l1 + l .l2))
+      ∙ sym (in-parts ∙ ap (λ (b : Bool). b && same (checks l x) (drop (l .l1 + l .l2) numbers)) (ap (same sums) (sym front) ∙ e))
+
+-- ---- the whole test
+-- for a fit message, its numbers and a row of its length, the test of a candidate is that of the definition
+pub candidate-is : (s y x : List ℕ) → AllBytes s → messageRefusal s ≡ 0 → Row (bitsOf s) x → candidate (layoutOf s) (numbersRead s) y x ≡ consistent s (length y) y x
+unfolding candidate consistent
+candidate-is s y x b e r =
+    rw (eq-eqb (length x) (bitsOf s) (r .0), ← r .0, yields-numbers s x b e r) refl
+
+-- the two parts of the test
+pub comes-not-candidate : (l : Layout) (numbers y x : List ℕ) → comesFrom x (length x - length y) y ≡ false → false ≡ candidate l numbers y x
+unfolding candidate
+comes-not-candidate l numbers y x e = rw e refl
+
+pub comes-candidate : (l : Layout) (numbers y x : List ℕ) → comesFrom x (length x - length y) y ≡ true → same (blockSums l x ++ stringSums l x ++ checks l x) numbers ≡ candidate l numbers y x
+unfolding candidate
+comes-candidate l numbers y x e = rw e refl

@@ -9,6 +9,7 @@ ghost use Rattle.bits.specs.Bits.{AllBits, same, cut};
 ghost use Rattle.rows.specs.Deletion.{comesFrom};
 ghost use Rattle.message.specs.Layout.{layout, legal as isLegal, rowBits};
 ghost use Rattle.message.specs.Message.{blockSums, stringSums, checks};
+ghost use Rattle.consistent.specs.Consistent.{candidate};
 ghost use Rattle.consistent.specs.Greedy.{eat, losses, table, used};
 
 // Where y goes on after a bit of x: one place further where the bit takes what stands at place j.
@@ -99,4 +100,61 @@ fn sums_agree(l1: usize, l2: usize, nc: usize, r: usize, x: &[u8], numbers: &[u1
         k += 1;
     }
     true
+}
+
+// Whether bytes are these numbers, one by one.
+fn equal(values: &[u8], numbers: &[u16]) -> bool
+    requires { ⌜ length (now values) ≡ length (now numbers) ⌝ }
+    ensures { λ b. ⌜ b ≡ same (now (values .entry)) (now (numbers .entry)) ⌝ }
+{
+    let mut i: usize = 0;
+    while i < numbers.len() {
+        if values[i] as u16 != numbers[i] {
+            return false;
+        }
+        i += 1;
+    }
+    true
+}
+
+// Whether these numbers are the checks of a row.
+fn checks_agree(l1: usize, l2: usize, nc: usize, r: usize, x: &[u8], numbers: &[u16]) -> bool
+    requires { ⌜ (isLegal (layout l1 l2 nc r) ≡ true) × (AllBits (now x) × ((length (now x) ≡ rowBits (layout l1 l2 nc r)) × (length (now numbers) ≡ r))) ⌝ }
+    ensures { λ b. ⌜ b ≡ same (checks (layout l1 l2 nc r) (now (x .entry))) (now (numbers .entry)) ⌝ }
+{
+    let mut values: [u8; 16] = [0; 16];
+    message::sums::fill_checks(l1, l2, nc, r, x, &mut values);
+    equal(&values[0..r], numbers)
+}
+
+// Whether these numbers, as they are read of a message, are the sums and the checks of a row: the row yields that message.
+pub fn agrees(l1: usize, l2: usize, nc: usize, r: usize, x: &[u8], numbers: &[u16]) -> bool
+    requires { ⌜ (isLegal (layout l1 l2 nc r) ≡ true) × (AllBits (now x) × ((length (now x) ≡ rowBits (layout l1 l2 nc r)) × (length (now numbers) ≡ l1 + l2 + r))) ⌝ }
+    ensures { λ b. ⌜ b ≡ same (blockSums (layout l1 l2 nc r) (now (x .entry)) ++ stringSums (layout l1 l2 nc r) (now (x .entry))
+        ++ checks (layout l1 l2 nc r) (now (x .entry))) (now (numbers .entry)) ⌝ }
+{
+    let n = l1 + l2;
+    if !sums_agree(l1, l2, nc, r, x, &numbers[0..n]) {
+        return false;
+    }
+    checks_agree(l1, l2, nc, r, x, &numbers[n..])
+}
+
+// Whether a candidate is consistent with the received row y and the numbers of a message.
+pub fn is_consistent(
+    l1: usize,
+    l2: usize,
+    nc: usize,
+    r: usize,
+    x: &[u8],
+    y: &[u8],
+    numbers: &[u16],
+) -> bool
+    requires { ⌜ (isLegal (layout l1 l2 nc r) ≡ true) × (AllBits (now x) × ((length (now x) ≡ rowBits (layout l1 l2 nc r)) × (length (now numbers) ≡ l1 + l2 + r))) ⌝ }
+    ensures { λ b. ⌜ b ≡ candidate (layout l1 l2 nc r) (now (numbers .entry)) (now (y .entry)) (now (x .entry)) ⌝ }
+{
+    if !comes(x, y) {
+        return false;
+    }
+    agrees(l1, l2, nc, r, x, numbers)
 }

@@ -38,15 +38,13 @@ module _ (l : Layout) (x : List ℕ) (a : AllBits x) (q z : List ℕ) (e : q ≡
   length-lent = ap length (chunks-lent ∙ chunk-numbers l x) ∙ length-fields (l .l1 * l .l2) (l .nc) x
 
   -- the checks that are taken of them, at the front of an array, lent
-  pub checks-lent : (vs : List ℕ) → l .r ≤ length vs → Checks (l .nc) (l .r) (take (l .l1 * l .l2 - 0) q) vs → take (l .r - 0) vs ≡ checks l x
+  pub checks-lent : (vs : List ℕ) → l .r ≤ length vs → Checks (l .nc) (l .r) (take (l .l1 * l .l2 - 0) q) vs → take (l .r) vs ≡ checks l x
   unfolding checks
   checks-lent vs h f =
-      let m : l .r - 0 ≡ l .r = omega arith in
       let k : length (take (l .r) vs) ≡ l .r = length-take-le (l .r) vs h in
       let g : ℕ → ℕ = λ i. check (l .nc) i (map (number (l .nc)) (chunks l x)) in
-      rw m
-      (ext-getD 0 (take (l .r) vs) (checks l x) (k ∙ sym (length-checks l x))
-      (λ i n. let b : i < l .r = omega arith in getD-take (l .r) vs i 0 b ∙ f i b ∙ ap (check (l .nc) i) chunks-lent ∙ sym (each-number g (l .r) i b)))
+      ext-getD 0 (take (l .r) vs) (checks l x) (k ∙ sym (length-checks l x))
+      (λ i n. let b : i < l .r = omega arith in getD-take (l .r) vs i 0 b ∙ f i b ∙ ap (check (l .nc) i) chunks-lent ∙ sym (each-number g (l .r) i b))
 
 -- ---- parts that are written one after another to the start of a slice d
 -- the slice b starts with p, and n is the place behind it

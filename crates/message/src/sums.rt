@@ -3,11 +3,11 @@ ghost use mathlib.Core.Path.{_≡_};
 ghost use mathlib.Core.Bool.{true};
 ghost use mathlib.Core.List.{_++_, map};
 ghost use Prim.Native.Nat.{_+_, _*_, _<_, _≤_};
-ghost use lib.ListN.{length, getD, drop};
+ghost use lib.ListN.{length, getD, take, drop};
 ghost use Rattle.bits.specs.Bits.{AllBits, longest, number};
 ghost use Rattle.vt.specs.Sum.{total};
 ghost use Rattle.message.specs.Layout.{layout, legal as isLegal, rowBits, chunks};
-ghost use Rattle.message.specs.Message.{blockSums, stringSums};
+ghost use Rattle.message.specs.Message.{blockSums, stringSums, checks};
 
 // The total of the positions of the ones, where the first bit stands at a position.
 fn total_from(bits: &[u8], first: usize) -> usize
@@ -76,4 +76,17 @@ pub fn fill_chunks(l1: usize, l2: usize, nc: usize, r: usize, row: &[u8], out: &
         out[i] = number_at(row, i * nc, nc);
         i += 1;
     }
+}
+
+// The checks of a row at the start of a slice; what stands behind them is free.
+pub fn fill_checks(l1: usize, l2: usize, nc: usize, r: usize, row: &[u8], out: &mut [u8])
+    requires { ⌜ (isLegal (layout l1 l2 nc r) ≡ true) × (AllBits (now row) × ((length (now row) ≡ rowBits (layout l1 l2 nc r)) × (r ≤ length (now out)))) ⌝ }
+    ensures { λ _. ⌜ take r (now (out .exit)) ≡ checks (layout l1 l2 nc r) (now (row .entry)) ⌝ }
+{
+    let mut logs: [u8; 256] = [0; 256];
+    field::fill_logs(nc, &mut logs);
+    let mut chunks: [u8; 255] = [0; 255];
+    fill_chunks(l1, l2, nc, r, row, &mut chunks);
+    let n = l1 * l2;
+    field::checks(nc, r, &logs, &chunks[0..n], out);
 }

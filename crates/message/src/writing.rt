@@ -99,13 +99,8 @@ fn put_row_checks(
     ensures { λ _. ⌜ now (bits .exit) ≡ take (start .at) (now (bits .entry))
         ++ flatMap (digits nc) (checks (layout l1 l2 nc r) (now (row .entry))) ++ drop (start .at + r * nc) (now (bits .entry)) ⌝ }
 {
-    let mut logs: [u8; 256] = [0; 256];
-    field::fill_logs(nc, &mut logs);
-    let mut chunks: [u8; 255] = [0; 255];
-    sums::fill_chunks(l1, l2, nc, r, row, &mut chunks);
-    let n = l1 * l2;
     let mut values: [u8; 16] = [0; 16];
-    field::checks(nc, r, &logs, &chunks[0..n], &mut values);
+    sums::fill_checks(l1, l2, nc, r, row, &mut values);
     put_checks(nc, &values[0..r], start, bits);
 }
 
