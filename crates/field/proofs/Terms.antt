@@ -12,7 +12,7 @@ use borrow.Author.Tests.{lt-ltb, le-ltb}
 use lib.Bits.{bitXor, xor-zero-r}
 use lib.ListN.{length, getD, set, take, drop}
 use lib.Seq.{drop-cons, drop-length, getD-set-same, getD-set-other, getD-take, length-take-le}
-use Rattle.field.specs.Exponents.{named, sumNamed, Names}
+use Rattle.field.specs.Exponents.{named, AllNamed, Names, sumAt}
 use Rattle.field.specs.Field.{Elements, power, times, checkFrom, check}
 use Rattle.field.proofs.Double.{power-element}
 use Rattle.field.proofs.Generator.{times-assoc}
@@ -48,14 +48,14 @@ names-next nc n es f q h v l e =
     }
 
 -- the sum of those that are left, taken apart at the first
-pub sum-next : (nc c s x : ℕ) (es : List ℕ) → c < length es → x ≡ named nc (getD es c 0)
-    → bitXor (bitXor s x) (sumNamed nc (drop (c + 1) es)) ≡ bitXor s (sumNamed nc (drop c es))
-unfolding sumNamed
-sum-next nc c s x es h e = xor-assoc s x (sumNamed nc (drop (c + 1) es)) ∙ rw (e, drop-cons es c 0 h, add-one c) refl
+pub sum-next : (p : List ℕ) (c s x : ℕ) (es : List ℕ) → c < length es → x ≡ getD p (getD es c 0) 0
+    → bitXor (bitXor s x) (sumAt p (drop (c + 1) es)) ≡ bitXor s (sumAt p (drop c es))
+unfolding sumAt
+sum-next p c s x es h e = xor-assoc s x (sumAt p (drop (c + 1) es)) ∙ rw (e, drop-cons es c 0 h, add-one c) refl
 
-pub sum-none : (nc c s : ℕ) (es : List ℕ) → c ≡ length es → bitXor s (sumNamed nc (drop c es)) ≡ s
-unfolding sumNamed
-sum-none nc c s es e = rw (e, drop-length es) (xor-zero-r s)
+pub sum-none : (p : List ℕ) (c s : ℕ) (es : List ℕ) → c ≡ length es → bitXor s (sumAt p (drop c es)) ≡ s
+unfolding sumAt
+sum-none p c s es e = rw (e, drop-length es) (xor-zero-r s)
 
 -- ---- terms
 
@@ -63,24 +63,26 @@ sum-none nc c s es e = rw (e, drop-length es) (xor-zero-r s)
 abbrev pub term : (nc i : ℕ) (xs : List ℕ) (c : ℕ) → ℕ
 term nc i xs c = times nc (power nc (i * c)) (getD xs c 0)
 
-sum-from : (nc i c : ℕ) (es xs : List ℕ) → length es ≡ length xs
-    → ((k : ℕ) → k < length xs → named nc (getD es k 0) ≡ times nc (power nc (i * (c + k))) (getD xs k 0)) → sumNamed nc es ≡ checkFrom nc i c xs
-unfolding sumNamed checkFrom
-sum-from nc i c [] [] l h = refl
-sum-from nc i c [] (x ∷ xs) l h = absurd (omega arith)
-sum-from nc i c (e ∷ es) [] l h = absurd (omega arith)
-sum-from nc i c (e ∷ es) (x ∷ xs) l h =
+sum-from : (nc i c : ℕ) (p es xs : List ℕ) → length es ≡ length xs
+    → ((k : ℕ) → k < length xs → getD p (getD es k 0) 0 ≡ times nc (power nc (i * (c + k))) (getD xs k 0)) → sumAt p es ≡ checkFrom nc i c xs
+unfolding sumAt checkFrom
+sum-from nc i c p [] [] l h = refl
+sum-from nc i c p [] (x ∷ xs) l h = absurd (omega arith)
+sum-from nc i c p (e ∷ es) [] l h = absurd (omega arith)
+sum-from nc i c p (e ∷ es) (x ∷ xs) l h =
     ap₂ bitXor (rw (add-zero c) at (h 0 (omega arith)))
-    (sum-from nc i (suc c) es xs (omega arith) (λ k m. let s : suc c + k ≡ c + suc k = omega arith in rw s (h (suc k) (omega arith))))
+    (sum-from nc i (suc c) p es xs (omega arith) (λ k m. let s : suc c + k ≡ c + suc k = omega arith in rw s (h (suc k) (omega arith))))
 
--- exponents of a check's terms, lent, sum to the check
-pub terms-check : (nc i : ℕ) (es xs : List ℕ) → length xs ≤ length es → Names nc (length xs) es (term nc i xs) → sumNamed nc (take (length xs - 0) es) ≡ check nc i xs
+-- what the exponents of a check's terms, lent, name sums to the check
+pub terms-check : (nc i : ℕ) (p es xs : List ℕ) → AllNamed nc p → length xs ≤ length es → Names nc (length xs) es (term nc i xs)
+    → sumAt p (take (length xs - 0) es) ≡ check nc i xs
 unfolding check
-terms-check nc i es xs l q =
+terms-check nc i p es xs a l q =
     let m : length xs - 0 ≡ length xs = omega arith in
     rw m
-    (sum-from nc i 0 (take (length xs) es) xs (length-take-le (length xs) es l)
-    (λ k h. let z : 0 + k ≡ k = omega arith in rw (z, getD-take (length xs) es k 0 h) (q .name k h)))
+    (sum-from nc i 0 p (take (length xs) es) xs (length-take-le (length xs) es l)
+    (λ k h. let z : 0 + k ≡ k = omega arith in
+    rw (z, getD-take (length xs) es k 0 h) (a (getD es k 0) (q .low k h) ∙ q .name k h)))
 
 module _ (nc : ℕ) (lo : 3 ≤ nc) (hi : nc ≤ 8) where
   -- the chunks are the terms of check 0

@@ -1,7 +1,7 @@
 -- The laws of the product: linear on both sides, and the powers of 2 add up. Assumes nothing.
 use Prim.Native.Nat.{ℕ, zero, suc, _+_, _-_, _*_, _/_, _%_, _^_, _<_, _≤_}
 use mathlib.Core.Path.{_≡_, refl, sym, ap, ap₂, _∙_}
-use native.Mathlib.Nat.{pow-suc, zero-add, zero-mul, suc-mul, add-comm, add-assoc, div-add-mod'}
+use native.Mathlib.Nat.{pow-suc, zero-add, div-add-mod'}
 use native.Mathlib.Omega.{arith}
 use lib.Arith.{bin-ind, lt-one}
 use lib.Bits.{bitXor, xor-lt, xor-zero-r, xor-shifted}
@@ -180,16 +180,3 @@ module _ (nc : ℕ) (lo : 3 ≤ nc) (hi : nc ≤ 8) where
   pub power-period : (e : ℕ) → power nc ((2 ^ nc - 1) + e) ≡ power nc e
   power-period e =
       sym (times-power (2 ^ nc - 1) e) ∙ ap (λ (x : ℕ). times nc x (power nc e)) power-order ∙ times-one (power nc e)
-
-  power-rounds : (k e : ℕ) → power nc (k * (2 ^ nc - 1) + e) ≡ power nc e
-  power-rounds zero e = ap (power nc) (ap (λ (x : ℕ). x + e) (zero-mul (2 ^ nc - 1)) ∙ zero-add e)
-  power-rounds (suc k) e =
-      let n : ℕ = 2 ^ nc - 1 in
-      ap (power nc) (ap (λ (x : ℕ). x + e) (suc-mul k n ∙ add-comm (k * n) n) ∙ add-assoc n (k * n) e)
-      ∙ power-period (k * n + e) ∙ power-rounds k e
-
-  -- an exponent counts up to whole rounds
-  pub power-mod : (e : ℕ) → power nc (e % (2 ^ nc - 1)) ≡ power nc e
-  power-mod e =
-      let n : ℕ = 2 ^ nc - 1 in
-      sym (power-rounds (e / n) (e % n)) ∙ ap (power nc) (div-add-mod' e n)

@@ -1,11 +1,11 @@
 // The fields of 2 ^ nc elements, nc from 3 to 8: the table of the powers of 2, the product through logs, and the checks of a
 // row's chunks. The contracts cite specs/Field.antt, specs/Tables.antt and specs/Exponents.antt.
 ghost use mathlib.Core.Path.{_≡_};
-ghost use Prim.Native.Nat.{_+_, _-_, _*_, _^_, _<_, _≤_};
+ghost use Prim.Native.Nat.{ℕ, _+_, _-_, _*_, _^_, _<_, _≤_};
 ghost use lib.ListN.{length, getD};
 ghost use Rattle.field.specs.Field.{Element, Elements, power, times, Checks};
 ghost use Rattle.field.specs.Tables.{powers, start, withLogs, Logs};
-ghost use Rattle.field.specs.Exponents.{named, sumNamed, Names};
+ghost use Rattle.field.specs.Exponents.{named, AllNamed, Names, sumAt};
 
 // The powers of 2 of the six fields one after another, 2 ^ nc - 1 for each.
 const POWERS: [u8; 498] = [
@@ -509,13 +509,6 @@ const POWERS: [u8; 498] = [
     142,
 ];
 
-// A byte as an index.
-fn wide(x: u8) -> usize
-    ensures { λ r. ⌜ r ≡ x ⌝ }
-{
-    x as usize
-}
-
 // The number of powers of 2 in the field: the elements but 0.
 fn order(nc: usize) -> usize
     requires { ⌜ (3 ≤ nc) × (nc ≤ 8) ⌝ }
@@ -575,7 +568,7 @@ pub fn fill_logs(nc: usize, logs: &mut [u8])
     let n = order(nc);
     let mut e: usize = 0;
     while e < n {
-        let x = wide(entry(&t, nc, e));
+        let x = bits::wide(entry(&t, nc, e));
         logs[x] = e as u8;
         e += 1;
     }
@@ -586,7 +579,7 @@ pub fn log_of(nc: usize, logs: &[u8], x: u8) -> usize
     requires { ⌜ Logs nc (now logs) × Element nc x × (0 < x) ⌝ }
     ensures { λ r. ⌜ (r + 1 < 2 ^ nc) × (power nc r ≡ x) ⌝ }
 {
-    wide(logs[wide(x)])
+    bits::wide(logs[bits::wide(x)])
 }
 
 // 2 to the power e, times x.
@@ -625,13 +618,19 @@ fn exponent_of(nc: usize, logs: &[u8], x: u8) -> u8
     log_of(nc, logs, x) as u8
 }
 
-// The element that an exponent names.
-fn element_of(t: &[u8; 498], nc: usize, e: u8) -> u8
-    requires { ⌜ (now t ≡ powers) × (3 ≤ nc) × (nc ≤ 8) ⌝ }
-    ensures { λ r. ⌜ r ≡ named nc e ⌝ }
+// The element that each exponent names, at the exponent's place.
+fn fill_elements(nc: usize, p: &mut [u8])
+    requires { ⌜ (3 ≤ nc) × (nc ≤ 8) × (2 ^ nc ≤ length (now p)) ⌝ }
+    ensures { λ _. ⌜ AllNamed nc (now (p .exit)) ⌝ }
 {
-    let d = wide(e);
-    if d < order(nc) { entry(t, nc, d) } else { 0 }
+    let t = table();
+    let n = order(nc);
+    let mut e: usize = 0;
+    while e < n {
+        p[e] = entry(&t, nc, e);
+        e += 1;
+    }
+    p[n] = 0;
 }
 
 // The exponent of 2 to the power c, times the element that e names. All bytes, so that a loop of it is done many at a time.
@@ -661,7 +660,7 @@ fn fill_exponents(nc: usize, logs: &[u8], xs: &[u8], es: &mut [u8])
 
 // The first n exponents of one check's terms made those of the next check's.
 fn raise_all(nc: usize, n: usize, es: &mut [u8])
-    requires { ⌜ (3 ≤ nc) × (nc ≤ 8) × (n < 2 ^ nc) × (n ≤ length (now es)) × ((c : _) → c < n → getD (now es) c 0 < 2 ^ nc) ⌝ }
+    requires { ⌜ (3 ≤ nc) × (nc ≤ 8) × (n < 2 ^ nc) × (n ≤ length (now es)) × ((c : ℕ) → c < n → getD (now es) c 0 < 2 ^ nc) ⌝ }
     ensures { λ _. ⌜ Names nc n (now (es .exit)) (λ c. times nc (power nc c) (named nc (getD (now (es .entry)) c 0))) ⌝ }
 {
     let mut c: usize = 0;
@@ -671,15 +670,14 @@ fn raise_all(nc: usize, n: usize, es: &mut [u8])
     }
 }
 
-// The field sum of the elements that exponents name.
-fn sum(t: &[u8; 498], nc: usize, es: &[u8]) -> u8
-    requires { ⌜ (now t ≡ powers) × (3 ≤ nc) × (nc ≤ 8) ⌝ }
-    ensures { λ r. ⌜ r ≡ sumNamed nc (now (es .entry)) ⌝ }
+// The field sum of the entries of p at places.
+fn sum(p: &[u8; 256], places: &[u8]) -> u8
+    ensures { λ r. ⌜ r ≡ sumAt (now (p .entry)) (now (places .entry)) ⌝ }
 {
     let mut s: u8 = 0;
     let mut c: usize = 0;
-    while c < es.len() {
-        s ^= element_of(t, nc, es[c]);
+    while c < places.len() {
+        s ^= p[bits::wide(places[c])];
         c += 1;
     }
     s
@@ -690,13 +688,14 @@ pub fn checks(nc: usize, r: usize, logs: &[u8], chunks: &[u8], out: &mut [u8])
     requires { ⌜ ((3 ≤ nc) × (nc ≤ 8) × Logs nc (now logs) × Elements nc (now chunks)) × ((length (now chunks) < 2 ^ nc) × (r ≤ length (now out))) ⌝ }
     ensures { λ _. ⌜ Checks nc r (now (chunks .entry)) (now (out .exit)) ⌝ }
 {
-    let t = table();
     let n = chunks.len();
+    let mut p: [u8; 256] = [0; 256];
+    fill_elements(nc, &mut p);
     let mut es: [u8; 255] = [0; 255];
     fill_exponents(nc, logs, chunks, &mut es);
     let mut i: usize = 0;
     while i < r {
-        out[i] = sum(&t, nc, &es[0..n]);
+        out[i] = sum(&p, &es[0..n]);
         raise_all(nc, n, &mut es);
         i += 1;
     }

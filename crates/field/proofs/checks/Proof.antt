@@ -13,26 +13,31 @@ use Rattle.field.proofs.checks.Statement.{statement}
 use Rattle.field.proofs.checks.Tie as tie
 
 abbrev Inv-loop : tie.InvT-loop
-Inv-loop nc r logs chunks out₀ t n es₀ i₀ out es i = (length out ≡ length out₀) × (length es ≡ 255) × (i ≤ r) × Names nc n es (term nc i chunks) × Checks nc i chunks out
+Inv-loop nc r logs chunks out₀ n p es₀ i₀ out es i = (length out ≡ length out₀) × (length es ≡ 255) × (i ≤ r) × Names nc n es (term nc i chunks) × Checks nc i chunks out
 
 abbrev μ-loop : tie.MeasureT-loop
-μ-loop nc r logs chunks out₀ t n es₀ i₀ out es i = r - i
+μ-loop nc r logs chunks out₀ n p es₀ i₀ out es i = r - i
 
-table-requires : tie.Need-table-requires Inv-loop μ-loop
-table-requires c κs = search needs
+slice-aggregate-fill-elements : tie.Need-slice-aggregate-fill-elements Inv-loop μ-loop
+slice-aggregate-fill-elements c = search needs
+
+fill-elements-requires : tie.Need-fill-elements-requires Inv-loop μ-loop
+fill-elements-requires c κs =
+    let s = c .before .before .before .before in
+    (s .pre .0 .0, s .pre .0 .1, size-high (s .args .nc) (s .pre .0 .1))
 
 slice-aggregate-fill-exponents : tie.Need-slice-aggregate-fill-exponents Inv-loop μ-loop
 slice-aggregate-fill-exponents c = search needs
 
 fill-exponents-requires : tie.Need-fill-exponents-requires Inv-loop μ-loop
 fill-exponents-requires c κs =
-    let s = c .before .before .before .before .before in
+    let s = c .before .before .before .before .before .before .before in
     let q = s .pre .0 in
     (q .0, q .1, q .2, q .3, omega (arith, size-high (s .args .nc) (q .1)))
 
 loop-holds : tie.Need-loop-holds Inv-loop μ-loop
 loop-holds c =
-    let s = c .before .before .before .before .before .before .before in
+    let s = c .before .before .before .before .before .before .before .before .before in
     let a = s .args in
     let e = c .before .fill-exponents in
     (search needs, search needs, search needs, first-terms (a .nc) (s .pre .0 .0) (s .pre .0 .1) (length (a .chunks .now)) _ (a .chunks .now) (e .ensures), λ i h. absurd (omega arith))
@@ -45,7 +50,7 @@ part-sum-start c = search needs
 
 part-sum-end : tie.Need-part-sum-end Inv-loop μ-loop
 part-sum-end c =
-    let s = c .before .before .before .before .before .before .before .before .before .before .before in
+    let s = c .before .before .before .before .before .before .before .before .before .before .before .before .before in
     omega (arith, size-high (s .args .nc) (s .pre .0 .1))
 
 sum-requires : tie.Need-sum-requires Inv-loop μ-loop
@@ -59,7 +64,7 @@ slice-aggregate-raise-all c = search needs
 
 raise-all-requires : tie.Need-raise-all-requires Inv-loop μ-loop
 raise-all-requires c κs =
-    let s = c .before .before .before .before .before .before .before .before .before .before .before .before .before .before in
+    let s = c .before .before .before .before .before .before .before .before .before .before .before .before .before .before .before .before in
     let p = c .before .before .before .before .before .before .loop in
     (s .pre .0 .0, s .pre .0 .1, s .pre .1 .0, omega (arith, size-high (s .args .nc) (s .pre .0 .1)), p .inv .3 .low)
 
@@ -71,16 +76,18 @@ loop-less c = search needs
 
 loop-again : tie.Need-loop-again Inv-loop μ-loop
 loop-again c =
-    let s = c .before .before .before .before .before .before .before .before .before .before .before .before .before .before .before .before in
+    let s = c .before .before .before .before .before .before .before .before .before .before .before .before .before .before .before .before .before .before in
     let a = s .args in
-    let p = c .before .before .before .before .before .before .before .before .loop in
+    let l = c .before .before .before .before .before .before .before .before in
+    let p = l .loop in
     let q = s .pre .0 in
-    let m : ℕ = length (a .chunks .now) in
-    let sum = c .before .before .before .sum .ensures ∙ terms-check (a .nc) (p .i) (p .es) (a .chunks .now) (omega (arith, size-high (a .nc) (q .1))) (p .inv .3) in (
+    let all = l .before .before .before .before .before .fill-elements .ensures in
+    let long : length (a .chunks .now) ≤ length (p .es) = omega (arith, size-high (a .nc) (q .1)) in
+    let sum = c .before .before .before .sum .ensures ∙ terms-check (a .nc) (p .i) _ (p .es) (a .chunks .now) all long (p .inv .3) in (
       simp length-set (p .inv .0),
       search needs,
       omega arith,
-      next-terms (a .nc) (q .0) (q .1) m (p .i) (p .es) _ (a .chunks .now) (q .3) (p .inv .3) (c .before .raise-all .ensures),
+      next-terms (a .nc) (q .0) (q .1) (length (a .chunks .now)) (p .i) (p .es) _ (a .chunks .now) (q .3) (p .inv .3) (c .before .raise-all .ensures),
       entries-next (λ (i v : ℕ). v ≡ check (a .nc) i (a .chunks .now)) (p .i) (p .out) (p .inv .4) (omega arith) (c .before .before .before .sum .result) sum,
     )
 
@@ -90,7 +97,7 @@ same-length c = search needs
 returns : tie.Need-returns Inv-loop μ-loop
 returns c =
     let p = c .before .loop in
-    let all : c .before .before .before .before .before .before .before .before .before .args .r ≡ p .i = omega arith in
+    let all : c .before .before .before .before .before .before .before .before .before .before .before .args .r ≡ p .i = omega arith in
     rw all (p .inv .4)
 
 pub checks-spec : {M : Type 1} → statement M
@@ -99,7 +106,8 @@ checks-spec =
     (tie.spec
     Inv-loop
     μ-loop
-    table-requires
+    slice-aggregate-fill-elements
+    fill-elements-requires
     slice-aggregate-fill-exponents
     fill-exponents-requires
     loop-holds

@@ -24,7 +24,7 @@ shared-slice-read-exponent-of c = search needs
 exponent-of-requires : tie.Need-exponent-of-requires Inv-loop μ-loop
 exponent-of-requires c κs =
     let s = c .before .before .before .before .before .before in
-    (s .pre .0, s .pre .1, s .pre .2, s .pre .3 (c .before .before .loop .c))
+    (s .pre .0, s .pre .1, s .pre .2, s .pre .3 _)
 
 slice-write-es : tie.Need-slice-write-es Inv-loop μ-loop
 slice-write-es c = search needs

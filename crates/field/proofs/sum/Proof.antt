@@ -1,29 +1,32 @@
--- `field::sum` meets its contract. The loop's invariant: the sum with what the exponents that are left sum to is the whole sum.
+-- `field::sum` meets its contract. The loop's invariant: the sum with that of the places that are left is the whole sum.
 use borrow.Author.Needs.{needs}
-use Prim.Native.Nat.{_-_, _≤_}
-use mathlib.Core.Path.{_≡_, sym, _∙_}
+use Prim.Native.Nat.{ℕ, _-_, _≤_}
+use mathlib.Core.Path.{_≡_, sym, ap, _∙_}
 use native.Mathlib.Omega.{arith}
 use lib.Bits.{bitXor}
-use lib.ListN.{length, drop}
-use Rattle.field.specs.Exponents.{sumNamed}
+use lib.ListN.{length, getD, drop}
+use Rattle.field.specs.Exponents.{sumAt}
 use Rattle.field.proofs.Terms.{sum-next, sum-none}
 use Rattle.field.proofs.sum.Statement.{statement}
 use Rattle.field.proofs.sum.Tie as tie
 
 abbrev Inv-loop : tie.InvT-loop
-Inv-loop t nc es s₀ c₀ s c = (c ≤ length es) × (bitXor s (sumNamed nc (drop c es)) ≡ sumNamed nc es)
+Inv-loop p places s₀ c₀ s c = (c ≤ length places) × (bitXor s (sumAt p (drop c places)) ≡ sumAt p places)
 
 abbrev μ-loop : tie.MeasureT-loop
-μ-loop t nc es s₀ c₀ s c = length es - c
+μ-loop p places s₀ c₀ s c = length places - c
 
 loop-holds : tie.Need-loop-holds Inv-loop μ-loop
 loop-holds c = search needs
 
-shared-slice-read-element-of : tie.Need-shared-slice-read-element-of Inv-loop μ-loop
-shared-slice-read-element-of c = search needs
+shared-slice-read-wide : tie.Need-shared-slice-read-wide Inv-loop μ-loop
+shared-slice-read-wide c = search needs
 
-element-of-requires : tie.Need-element-of-requires Inv-loop μ-loop
-element-of-requires c κs = search needs
+wide-requires : tie.Need-wide-requires Inv-loop μ-loop
+wide-requires c κs = search needs
+
+element-copy-out-s : tie.Need-element-copy-out-s Inv-loop μ-loop
+element-copy-out-s c = omega (arith, c .before .shared-slice-known2 .given (c .before .before .before .loop .c))
 
 add-c : tie.Need-add-c Inv-loop μ-loop
 add-c c = search needs
@@ -33,15 +36,16 @@ loop-less c = search needs
 
 loop-again : tie.Need-loop-again Inv-loop μ-loop
 loop-again c =
-    let a = c .before .before .before .before .before .args in
-    let p = c .before .before .before .loop in
-    (omega arith, sum-next (a .nc) (p .c) (p .s) (c .element-of .result) (a .es .now) (omega arith) (c .element-of .ensures) ∙ p .inv .1)
+    let a = c .before .before .before .before .before .before .args in
+    let p = c .before .before .before .before .loop in
+    let here = ap (λ (n : ℕ). getD (a .p .now) n 0) (c .before .wide .ensures) in
+    (omega arith, sum-next (a .p .now) (p .c) (p .s) _ (a .places .now) (omega arith) here ∙ p .inv .1)
 
 returns : tie.Need-returns Inv-loop μ-loop
 returns c =
     let a = c .before .before .before .args in
     let p = c .before .loop in
-    sym (sum-none (a .nc) (p .c) (p .s) (a .es .now) (omega arith)) ∙ p .inv .1
+    sym (sum-none (a .p .now) (p .c) (p .s) (a .places .now) (omega arith)) ∙ p .inv .1
 
 pub sum-spec : {M : Type 1} → statement M
 sum-spec =
@@ -50,8 +54,9 @@ sum-spec =
     Inv-loop
     μ-loop
     loop-holds
-    shared-slice-read-element-of
-    element-of-requires
+    shared-slice-read-wide
+    wide-requires
+    element-copy-out-s
     add-c
     loop-less
     loop-again
