@@ -119,18 +119,6 @@ fn put_fields(l1: usize, l2: usize, nc: usize, r: usize, row: &[u8], bits: &mut 
     put_row_checks(l1, l2, nc, r, row, after_strings, bits);
 }
 
-// Bytes copied to the start of a slice.
-fn copy(part: &[u8], out: &mut [u8])
-    requires { ⌜ length (now part) ≤ length (now out) ⌝ }
-    ensures { λ _. ⌜ now (out .exit) ≡ now (part .entry) ++ drop (length (now (part .entry))) (now (out .entry)) ⌝ }
-{
-    let mut i: usize = 0;
-    while i < part.len() {
-        out[i] = part[i];
-        i += 1;
-    }
-}
-
 // The head of a message at the start of a slice.
 fn put_head(l1: usize, l2: usize, nc: usize, r: usize, out: &mut [u8])
     requires { ⌜ (isLegal (layout l1 l2 nc r) ≡ true) × (9 ≤ length (now out)) ⌝ }
@@ -147,7 +135,7 @@ fn put_head(l1: usize, l2: usize, nc: usize, r: usize, out: &mut [u8])
         nc as u8,
         r as u8,
     ];
-    copy(&bytes[0..9], out);
+    bits::copy_to(&bytes[0..9], out, 0);
 }
 
 // The message of a packed row at the start of a slice.

@@ -22,24 +22,24 @@ cast-t9 c = omega (arith, bounds (c .before) .nc-high)
 cast-t10 : tie.Need-cast-t10
 cast-t10 c = omega (arith, bounds (c .before) .r-high)
 
-sub-copy : tie.Need-sub-copy
-sub-copy c = search needs
+sub-copy-to : tie.Need-sub-copy-to
+sub-copy-to c = search needs
 
-part-copy-start : tie.Need-part-copy-start
-part-copy-start c = search needs
+part-copy-to-start : tie.Need-part-copy-to-start
+part-copy-to-start c = search needs
 
-part-copy-end : tie.Need-part-copy-end
-part-copy-end c = search needs
+part-copy-to-end : tie.Need-part-copy-to-end
+part-copy-to-end c = search needs
 
-copy-requires : tie.Need-copy-requires
-copy-requires c κs = search needs
+copy-to-requires : tie.Need-copy-to-requires
+copy-to-requires c κs = search needs
 
 same-length : tie.Need-same-length
 same-length c = search needs
 
 returns : tie.Need-returns
 unfolding head
-returns c = c .before .before .copy .ensures
+returns c = c .before .before .copy-to .ensures
 
 pub put-head-spec : {M : Type 1} → statement M
 put-head-spec =
@@ -49,9 +49,9 @@ put-head-spec =
     cast-t8
     cast-t9
     cast-t10
-    sub-copy
-    part-copy-start
-    part-copy-end
-    copy-requires
+    sub-copy-to
+    part-copy-to-start
+    part-copy-to-end
+    copy-to-requires
     same-length
     returns)
