@@ -1,3 +1,4 @@
+-- `bits::bit_at` meets its contract: the bit of a place is its byte, shifted. Assumes nothing.
 use borrow.Author.Needs.{needs}
 use mathlib.Core.Path.{sym}
 use Rattle.bits.proofs.Packing.{unpack-at}

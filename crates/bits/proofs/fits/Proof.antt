@@ -1,3 +1,4 @@
+-- `bits::fits` meets its contract. The loop's invariant: the spare bits passed are 0, so the rest decides. Assumes nothing.
 use borrow.Author.Needs.{needs}
 use Prim.Native.Nat.{ℕ, _-_, _*_, _≤_}
 use mathlib.Core.Path.{_≡_, refl, _∙_, sym}

@@ -1,3 +1,4 @@
+-- `bits::pack` meets its contract: the whole bytes, then the last one if it is not whole. Assumes nothing.
 use borrow.Author.Needs.{needs}
 use Prim.Native.Nat.{ℕ, _*_, _/_}
 use mathlib.Core.Path.{_≡_, refl, _∙_}

@@ -1,3 +1,4 @@
+-- `bits::unpack` meets its contract: the whole bytes, then the bits behind them. Assumes nothing.
 use borrow.Author.Needs.{needs}
 use Prim.Native.Nat.{_*_, _/_}
 use mathlib.Core.Path.{_∙_}

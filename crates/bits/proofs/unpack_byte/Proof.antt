@@ -1,3 +1,4 @@
+-- `bits::unpack_byte` meets its contract: eight stores are the eight digits. Assumes nothing.
 use borrow.Author.Needs.{needs}
 use Prim.Native.Nat.{ℕ, _+_, _/_, _%_}
 use mathlib.Core.Path.{_∙_, ap, sym}

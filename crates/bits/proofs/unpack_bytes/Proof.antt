@@ -1,3 +1,4 @@
+-- `bits::unpack_bytes` meets its contract. The loop's invariant: the bits of the first i bytes stand at the start. Assumes nothing.
 use borrow.Author.Needs.{needs}
 use Prim.Native.Nat.{ℕ, _-_, _*_, _≤_}
 use mathlib.Core.Path.{_≡_, refl, _∙_, ap}

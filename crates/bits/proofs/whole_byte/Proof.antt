@@ -1,3 +1,4 @@
+-- `bits::whole_byte` meets its contract. The loop's invariant: what is read so far, with the bits still to come, is the byte. Assumes nothing.
 use borrow.Author.Needs.{needs}
 use Prim.Native.Nat.{ℕ, _+_, _-_, _*_, _^_, _<_, _≤_}
 use mathlib.Core.Path.{_≡_, refl, _∙_, sym}

@@ -1,3 +1,4 @@
+-- `consistent::after_bit` meets its contract: past the end, another bit, or the bit itself. Assumes nothing.
 use borrow.Author.Needs.{needs}
 use native.Mathlib.Omega.{arith}
 use Rattle.consistent.proofs.Steps.{bit-past, bit-other, bit-takes}

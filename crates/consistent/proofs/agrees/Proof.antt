@@ -1,3 +1,4 @@
+-- `consistent::agrees` meets its contract: the sums settle it, or the checks do. Assumes nothing.
 use borrow.Author.Needs.{needs}
 use Prim.Native.Nat.{_+_, _-_}
 use mathlib.Core.Path.{_≡_, sym, ap, _∙_}

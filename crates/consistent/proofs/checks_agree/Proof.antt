@@ -1,3 +1,4 @@
+-- `consistent::checks_agree` meets its contract: the checks are filled in and compared. Assumes nothing.
 use borrow.Author.Needs.{needs}
 use Prim.Native.Nat.{ℕ, _-_}
 use mathlib.Core.Path.{_≡_, ap, _∙_}

@@ -1,3 +1,4 @@
+-- `consistent::comes` meets its contract: y comes from x exactly when all of it is taken. Assumes nothing.
 use borrow.Author.Needs.{needs}
 use mathlib.Core.Path.{_∙_, sym, ap}
 use native.Mathlib.Omega.{arith}

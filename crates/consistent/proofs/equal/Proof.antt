@@ -1,3 +1,4 @@
+-- `consistent::equal` meets its contract. The loop's invariant: the elements passed agree, so the rest decides. Assumes nothing.
 use borrow.Author.Needs.{needs}
 use Prim.Native.Nat.{_-_, _≤_}
 use mathlib.Core.Path.{_≡_, refl, sym, _∙_}

@@ -1,3 +1,4 @@
+-- `consistent::is_consistent` meets its contract: matching settles it, or the numbers do. Assumes nothing.
 use borrow.Author.Needs.{needs}
 use mathlib.Core.Path.{sym, _∙_}
 use borrow.Author.Tests.{not-true, not-false}

@@ -1,3 +1,4 @@
+-- `consistent::loses` meets its contract. The loop's invariant: the pieces passed lost their counts, so the rest decides. Assumes nothing.
 use borrow.Author.Needs.{needs}
 use Prim.Native.Nat.{ℕ, _+_, _-_, _*_, _≤_}
 use mathlib.Core.Path.{_≡_, refl, sym, ap, _∙_}

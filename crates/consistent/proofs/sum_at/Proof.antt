@@ -1,3 +1,4 @@
+-- `consistent::sum_at` meets its contract: a block sum, or a chunk-string sum behind them. Assumes nothing.
 use borrow.Author.Needs.{needs}
 use mathlib.Core.Path.{_∙_}
 use native.Mathlib.Omega.{arith}

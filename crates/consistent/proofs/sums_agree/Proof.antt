@@ -1,3 +1,4 @@
+-- `consistent::sums_agree` meets its contract. The loop's invariant: the sums passed agree, so the rest decides. Assumes nothing.
 use borrow.Author.Needs.{needs}
 use Prim.Native.Nat.{ℕ, _-_, _≤_}
 use mathlib.Core.Path.{_≡_, refl, sym, _∙_}

@@ -1,3 +1,4 @@
+-- `consistent::taken` meets its contract. The loop's invariant: what the rest of x leaves of the rest of y is what x leaves of y. Assumes nothing.
 use borrow.Author.Needs.{needs}
 use Prim.Native.Nat.{_+_, _-_, _≤_}
 use mathlib.Core.Path.{_≡_, refl, sym, _∙_}

@@ -1,3 +1,4 @@
+-- `dairyhour::dh_mend` meets its contract: the answer of `mend` as a struct. Assumes nothing.
 use borrow.Author.Needs.{needs}
 use mathlib.Core.Path.{sym, ap, _∙_}
 use Rattle.vt.specs.Answer.{answerOf}

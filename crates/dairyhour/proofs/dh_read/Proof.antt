@@ -1,3 +1,4 @@
+-- `dairyhour::dh_read` meets its contract: the answer of `read` as a struct. Assumes nothing.
 use borrow.Author.Needs.{needs}
 use mathlib.Core.Path.{sym, ap, _∙_}
 use Rattle.message.specs.Read.{readOf}

@@ -1,3 +1,4 @@
+-- `dairyhour::dh_write` meets its contract: the answer of `write` as a struct. Assumes nothing.
 use borrow.Author.Needs.{needs}
 use mathlib.Core.Path.{sym, ap, _∙_}
 use Rattle.message.specs.Write.{writtenOf}

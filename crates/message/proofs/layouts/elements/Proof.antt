@@ -1,3 +1,4 @@
+-- `message::layouts::elements` meets its contract: the shift does not wrap. Assumes nothing.
 use borrow.Author.Needs.{needs}
 use Prim.Native.Nat.{ℕ, _^_, _<_}
 use mathlib.Core.Path.{_∙_}

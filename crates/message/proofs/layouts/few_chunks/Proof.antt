@@ -1,3 +1,4 @@
+-- `message::layouts::few_chunks` meets its contract: a count above 255 makes the product too large. Assumes nothing.
 use borrow.Author.Needs.{needs}
 use Prim.Native.Nat.{_-_, _*_, _^_, _≤_}
 use mathlib.Core.Path.{sym}

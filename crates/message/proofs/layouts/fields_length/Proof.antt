@@ -1,3 +1,4 @@
+-- `message::layouts::fields_length` meets its contract: by its definition; the sum is small. Assumes nothing.
 use Prim.Native.Nat.{_+_, _*_, _≤_}
 use mathlib.Core.Path.{_≡_, refl}
 use native.Mathlib.Omega.{arith}

@@ -1,3 +1,4 @@
+-- `message::layouts::legal` meets its contract: each bound that breaks makes it not legal. Assumes nothing.
 use borrow.Author.Needs.{needs}
 use mathlib.Core.Path.{_∙_}
 use native.Mathlib.Omega.{arith}

@@ -1,3 +1,4 @@
+-- `message::layouts::message_bytes` meets its contract: by its definition. Assumes nothing.
 use borrow.Author.Needs.{needs}
 use native.Mathlib.Omega.{arith}
 use Rattle.message.specs.Layout.{layout}

@@ -1,3 +1,4 @@
+-- `message::layouts::width` meets its contract. The loop's invariant: the halvings done and the width of what is left are the width. Assumes nothing.
 use borrow.Author.Needs.{needs}
 use Prim.Native.Nat.{_+_, _≤_}
 use mathlib.Core.Path.{_≡_, ap, _∙_}

@@ -1,3 +1,4 @@
+-- `message::reading::check` meets its contract: the mark, the version, and the rest by the layout that the head names. Assumes nothing.
 use borrow.Author.Needs.{needs}
 use Prim.Native.Nat.{ℕ, _≤_}
 use mathlib.Core.Path.{_≡_, refl, sym, _∙_}

@@ -1,3 +1,4 @@
+-- `message::reading::check_layout` meets its contract: each test that fails is the first of the table to apply. Assumes nothing.
 use borrow.Author.Needs.{needs}
 use Prim.Native.Nat.{ℕ}
 use mathlib.Core.Path.{_≡_, sym, _∙_}

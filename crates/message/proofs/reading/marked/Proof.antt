@@ -1,3 +1,4 @@
+-- `message::reading::marked` meets its contract: byte by byte. Assumes nothing.
 use borrow.Author.Needs.{needs}
 use Prim.Native.Nat.{ℕ}
 use mathlib.Core.List.{List}

@@ -1,3 +1,4 @@
+-- `message::reading::read` meets its contract: the checks of the message, then the length of the target, then the numbers. Assumes nothing.
 use borrow.Author.Needs.{needs}
 use Prim.Native.Nat.{ℕ, _+_, _≤_}
 use mathlib.Core.Path.{_≡_, sym, ap, _∙_}

@@ -1,3 +1,4 @@
+-- `message::reading::read_fields` meets its contract. The loop's invariant: the first i fields are pasted in. Assumes nothing.
 use borrow.Author.Needs.{needs}
 use Prim.Native.Nat.{ℕ, _+_, _-_, _*_, _≤_}
 use mathlib.Core.Path.{_≡_, refl, ap, _∙_}

@@ -1,3 +1,4 @@
+-- `message::reading::read_numbers` meets its contract: three parts, one after another. Assumes nothing.
 use borrow.Author.Needs.{needs}
 use Prim.Native.Nat.{_+_, _-_, _*_, _≤_}
 use mathlib.Core.Path.{_≡_, ap, _∙_}

@@ -1,3 +1,4 @@
+-- `message::reading::some_above` meets its contract. The loop's invariant: no field passed is above, so the rest decides. Assumes nothing.
 use borrow.Author.Needs.{needs}
 use Prim.Native.Nat.{ℕ, _+_, _-_, _*_, _≤_}
 use mathlib.Core.Path.{_≡_, sym, ap, _∙_}

@@ -1,3 +1,4 @@
+-- `message::reading::spare_blank` meets its contract: where the length is right, being fit is having no spare bit 1. Assumes nothing.
 use borrow.Author.Needs.{needs}
 use Prim.Native.Nat.{ℕ}
 use mathlib.Core.Path.{refl, sym, _∙_}

@@ -1,3 +1,4 @@
+-- `message::reading::sum_high` meets its contract: the block sums, or else the chunk-string sums. Assumes nothing.
 use borrow.Author.Needs.{needs}
 use Prim.Native.Nat.{ℕ, _*_}
 use mathlib.Core.Path.{_≡_, refl, sym, ap, _∙_}

@@ -1,3 +1,4 @@
+-- `message::sums::fill_checks` meets its contract: the logs, the chunks, and the checks of these chunks. Assumes nothing.
 use borrow.Author.Needs.{needs}
 use Prim.Native.Nat.{_*_, _≤_}
 use mathlib.Core.Path.{_≡_}
