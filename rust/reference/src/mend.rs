@@ -8,8 +8,8 @@ use crate::sum::{sum, total};
 /// "A length w (1 to 2,040)."
 pub const LONGEST: usize = 2040;
 
-/// What mending puts into a target of `room` bytes, or the number of the refusal.
-pub fn mend(w: usize, sum: usize, bits: &[u8], room: usize) -> Result<Vec<u8>, u32> {
+/// Whether mending refuses: "3, 5, 8, 10".
+pub fn admit_bits(w: usize, sum: usize, bits: &[u8], room: usize) -> Result<(), u32> {
     if !(1..=LONGEST).contains(&w) {
         return Err(refusal::LAYOUT);
     }
@@ -22,6 +22,12 @@ pub fn mend(w: usize, sum: usize, bits: &[u8], room: usize) -> Result<Vec<u8>, u
     if room < bytes_for(w) {
         return Err(refusal::SHORT_TARGET);
     }
+    Ok(())
+}
+
+/// What mending puts into a target of `room` bytes, or the number of the refusal.
+pub fn mend(w: usize, sum: usize, bits: &[u8], room: usize) -> Result<Vec<u8>, u32> {
+    admit_bits(w, sum, bits, room)?;
     Ok(pack(&insert(sum, &unpack(bits, w - 1))))
 }
 

@@ -1,6 +1,6 @@
 //! The side message: writing and reading it.
 
-use crate::bits::{bytes_for, is_packed, number, pack, push_number, unpack, width};
+use crate::bits::{is_packed, number, pack, push_number, unpack, width};
 use crate::field;
 use crate::layout::{Layout, HEAD};
 use crate::refusal;
@@ -51,8 +51,8 @@ pub fn encode(layout: &Layout, fields: &[u16]) -> Vec<u8> {
     message
 }
 
-/// What writing puts into a target of `room` bytes, or the number of the refusal.
-pub fn write(layout: &Layout, row: &[u8], room: usize) -> Result<Vec<u8>, u32> {
+/// Whether writing refuses: "3, 8, 10".
+pub fn admit_row(layout: &Layout, row: &[u8], room: usize) -> Result<(), u32> {
     if !layout.is_legal() {
         return Err(refusal::LAYOUT);
     }
@@ -62,12 +62,17 @@ pub fn write(layout: &Layout, row: &[u8], room: usize) -> Result<Vec<u8>, u32> {
     if room < layout.message_bytes() {
         return Err(refusal::SHORT_TARGET);
     }
+    Ok(())
+}
+
+/// What writing puts into a target of `room` bytes, or the number of the refusal.
+pub fn write(layout: &Layout, row: &[u8], room: usize) -> Result<Vec<u8>, u32> {
+    admit_row(layout, row, room)?;
     Ok(encode(layout, &fields(layout, &unpack(row, layout.row_bits()))))
 }
 
-/// The layout that reading answers and the numbers that it puts into a target of `room` entries, or the
-/// number of the refusal.
-pub fn read(message: &[u8], room: usize) -> Result<(Layout, Vec<u16>), u32> {
+/// The layout in a message's head and the bytes behind it, unless "1, 2, 3, 4" refuse.
+pub fn read_head(message: &[u8]) -> Result<(Layout, &[u8]), u32> {
     if message.len() < HEAD || message[..3] != MARK_AND_VERSION[..3] {
         return Err(refusal::NO_MESSAGE);
     }
@@ -79,10 +84,16 @@ pub fn read(message: &[u8], room: usize) -> Result<(Layout, Vec<u16>), u32> {
     if !layout.is_legal() {
         return Err(refusal::LAYOUT);
     }
-    if message.len() != HEAD + bytes_for(layout.field_bits()) {
+    if message.len() != layout.message_bytes() {
         return Err(refusal::MESSAGE_LENGTH);
     }
-    let body = &message[HEAD..];
+    Ok((layout, &message[HEAD..]))
+}
+
+/// The layout that reading answers and the numbers that it puts into a target of `room` entries, or the
+/// number of the refusal.
+pub fn read(message: &[u8], room: usize) -> Result<(Layout, Vec<u16>), u32> {
+    let (layout, body) = read_head(message)?;
     let bits = unpack(body, layout.field_bits());
     let mut rest = &bits[..];
     let mut fields = Vec::new();

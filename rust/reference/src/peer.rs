@@ -1,11 +1,11 @@
 //! Writing, reading and mending as an engineer would build them for speed, with tables and on packed bytes,
-//! and with no proof: what the benchmark times beside the library. It keeps the same refusals and touches
-//! its target only where it writes.
+//! and with no proof: what the benchmark times beside the library. It shares the refusals with the plain
+//! part, and touches its target only where it writes.
 
 use crate::bits::{bytes_for, is_packed, width};
 use crate::layout::{Layout, HEAD};
-use crate::mend::LONGEST;
-use crate::message::MARK_AND_VERSION;
+use crate::mend::admit_bits;
+use crate::message::{admit_row, read_head, MARK_AND_VERSION};
 use crate::refusal;
 
 const MOST_CHUNKS: usize = 255;
@@ -105,16 +105,8 @@ impl<'a> Filler<'a> {
 }
 
 pub fn write(layout: &Layout, row: &[u8], out: &mut [u8]) -> Result<usize, u32> {
-    if !layout.is_legal() {
-        return Err(refusal::LAYOUT);
-    }
-    if !is_packed(row, layout.row_bits()) {
-        return Err(refusal::PACKING);
-    }
+    admit_row(layout, row, out.len())?;
     let length = layout.message_bytes();
-    if out.len() < length {
-        return Err(refusal::SHORT_TARGET);
-    }
     let (head, body) = out[..length].split_at_mut(HEAD);
     head[..5].copy_from_slice(&MARK_AND_VERSION);
     head[5..].copy_from_slice(&[layout.l1 as u8, layout.l2 as u8, layout.nc as u8, layout.r as u8]);
@@ -165,21 +157,7 @@ fn write_fields(layout: &Layout, row: &[u8], body: &mut [u8]) {
 }
 
 pub fn read(message: &[u8], out: &mut [u16]) -> Result<Layout, u32> {
-    if message.len() < HEAD || message[..3] != MARK_AND_VERSION[..3] {
-        return Err(refusal::NO_MESSAGE);
-    }
-    if message[3..5] != MARK_AND_VERSION[3..] {
-        return Err(refusal::VERSION);
-    }
-    let head = |place: usize| usize::from(message[place]);
-    let layout = Layout::new(head(5), head(6), head(7), head(8));
-    if !layout.is_legal() {
-        return Err(refusal::LAYOUT);
-    }
-    if message.len() != layout.message_bytes() {
-        return Err(refusal::MESSAGE_LENGTH);
-    }
-    let body = &message[HEAD..];
+    let (layout, body) = read_head(message)?;
     let mut values = [0; MOST_FIELDS];
     read_fields(&layout, body, &mut values)?;
     if !is_packed(body, layout.field_bits()) {
@@ -215,18 +193,7 @@ fn read_fields(layout: &Layout, body: &[u8], values: &mut [u16]) -> Result<(), u
 /// Levenshtein's rule for the one string. With D the sum that is missing: up to the number of ones, a 0 with
 /// D ones behind it was lost; above it, a 1 with D − ones − 1 zeros before it.
 pub fn mend(w: usize, sum: usize, bits: &[u8], out: &mut [u8]) -> Result<(), u32> {
-    if !(1..=LONGEST).contains(&w) {
-        return Err(refusal::LAYOUT);
-    }
-    if sum > w {
-        return Err(refusal::SUM);
-    }
-    if !is_packed(bits, w - 1) {
-        return Err(refusal::PACKING);
-    }
-    if out.len() < bytes_for(w) {
-        return Err(refusal::SHORT_TARGET);
-    }
+    admit_bits(w, sum, bits, out.len())?;
     let (mut ones, mut total) = (0, 0);
     for (i, byte) in bits.iter().enumerate() {
         let here = byte.count_ones() as usize;
@@ -280,6 +247,7 @@ fn insert(w: usize, bits: &[u8], place: usize, bit: bool, out: &mut [u8]) {
 mod tests {
     use super::*;
     use crate::bits::pack;
+    use crate::mend::LONGEST;
     use crate::random::Random;
 
     #[test]

@@ -31,15 +31,18 @@ within c =
     let s = c .before .before .before .before .before in
     omega (arith, s .pre, field-room (length (s .args .counts .now)) (s .args .w) (c .before .loop .i) (omega arith))
 
--- what matching finds of it
+-- the start seen from where a piece was matched, and what matching finds of it
+abbrev begun : tie.After-taken Inv-loop μ-loop → tie.Start Inv-loop μ-loop
+begun c = c .before .before .before .before .before .before .before .before
+
 found : (c : tie.After-taken Inv-loop μ-loop) →
-    let a = c .before .before .before .before .before .before .before .before .args in
+    let a = begun c .args in
     let p = c .before .before .before .before .loop in
     let r = c .taken .result in
     (r ≤ length (a .y .now) - p .at) × ((eat (take (a .w) (drop (p .i * a .w) (a .x .now))) (drop (p .at) (a .y .now)) ≡ drop r (drop (p .at) (a .y .now)))
     × (losses (take (a .w) (drop (p .i * a .w) (a .x .now))) (drop (p .at) (a .y .now)) + r ≡ a .w))
 found c =
-    let a = c .before .before .before .before .before .before .before .before .args in
+    let a = begun c .args in
     let p = c .before .before .before .before .loop in
     piece-found (a .x .now) (a .y .now) (a .w) (p .i) (p .at) (c .taken .result) (within (c .before .before .before)) (c .taken .ensures)
 
@@ -82,7 +85,7 @@ wide-requires c κs = search needs
 returns : tie.Need-returns Inv-loop μ-loop
 returns c =
     let t = c .before .before .before in
-    let s = t .before .before .before .before .before .before .before .before in
+    let s = begun t in
     let a = s .args in
     let p = t .before .before .before .before .loop in
     let g = found t in
@@ -100,7 +103,7 @@ loop-less c = omega arith
 loop-again : tie.Need-loop-again Inv-loop μ-loop
 loop-again c =
     let t = c .before .before .before in
-    let s = t .before .before .before .before .before .before .before .before in
+    let s = begun t in
     let a = s .args in
     let p = t .before .before .before .before .loop in
     let g = found t in (

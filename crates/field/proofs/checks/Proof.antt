@@ -42,6 +42,10 @@ loop-holds c =
     let e = c .before .fill-exponents in
     (search needs, search needs, search needs, first-terms (a .nc) (s .pre .0 .0) (s .pre .0 .1) (length (a .chunks .now)) _ (a .chunks .now) (e .ensures), λ i h. absurd (omega arith))
 
+-- the start seen from inside the loop
+abbrev begun : tie.In-loop Inv-loop μ-loop → tie.Start Inv-loop μ-loop
+begun c = c .before .before .before .before .before .before .before .before .before .before .before
+
 sub-sum : tie.Need-sub-sum Inv-loop μ-loop
 sub-sum c = search needs
 
@@ -50,7 +54,7 @@ part-sum-start c = search needs
 
 part-sum-end : tie.Need-part-sum-end Inv-loop μ-loop
 part-sum-end c =
-    let s = c .before .before .before .before .before .before .before .before .before .before .before .before .before in
+    let s = begun (c .before .before) in
     omega (arith, size-high (s .args .nc) (s .pre .0 .1))
 
 sum-requires : tie.Need-sum-requires Inv-loop μ-loop
@@ -64,8 +68,9 @@ slice-aggregate-raise-all c = search needs
 
 raise-all-requires : tie.Need-raise-all-requires Inv-loop μ-loop
 raise-all-requires c κs =
-    let s = c .before .before .before .before .before .before .before .before .before .before .before .before .before .before .before .before in
-    let p = c .before .before .before .before .before .before .loop in
+    let t = c .before .before .before .before .before in
+    let s = begun t in
+    let p = t .before .loop in
     (s .pre .0 .0, s .pre .0 .1, s .pre .1 .0, omega (arith, size-high (s .args .nc) (s .pre .0 .1)), p .inv .3 .low)
 
 add-i : tie.Need-add-i Inv-loop μ-loop
@@ -76,9 +81,10 @@ loop-less c = search needs
 
 loop-again : tie.Need-loop-again Inv-loop μ-loop
 loop-again c =
-    let s = c .before .before .before .before .before .before .before .before .before .before .before .before .before .before .before .before .before .before in
+    let t = c .before .before .before .before .before .before .before in
+    let s = begun t in
     let a = s .args in
-    let l = c .before .before .before .before .before .before .before .before in
+    let l = t .before in
     let p = l .loop in
     let q = s .pre .0 in
     let all = l .before .before .before .before .before .fill-elements .ensures in

@@ -73,28 +73,31 @@ read-fields-requires c κs =
 abbrev named : tie.Start → Layout
 named c = layout (c .args .l1) (c .args .l2) (c .args .nc) (c .args .r)
 
+abbrev begun : tie.After-read-fields → tie.Start
+begun c = c .before .before .before .before .before .before .before
+
 first : (c : tie.After-read-fields) →
-    let a = c .before .before .before .before .before .before .before in
+    let a = begun c in
     c .read-fields .last .1 .1 .1 .1 .0 ≡ readBlockSums (named a) (a .args .s .now) ++ drop (a .args .l1) (a .args .out .now)
 first c =
-    let a = c .before .before .before .before .before .before .before in
+    let a = begun c in
     let w = c .before .before in
     c .read-fields .ensures ∙ block-written (named a) (a .args .s .now) (a .args .out .now) (w .before .width .result) (w .width2 .result) (w .before .width .ensures) (w .width2 .ensures)
 
 second : (c : tie.After-read-fields2) →
-    let a = c .before .before .before .before .before .before .before .before .before .before .before in
+    let a = begun (c .before .before .before .before) in
     c .read-fields2 .last .1 .1 .1 .1 .0 ≡ readBlockSums (named a) (a .args .s .now) ++ readStringSums (named a) (a .args .s .now) ++ drop (a .args .l1 + a .args .l2) (a .args .out .now)
 second c =
-    let a = c .before .before .before .before .before .before .before .before .before .before .before in
     let d = c .before .before .before .before in
+    let a = begun d in
     let w = d .before .before in
     c .read-fields2 .ensures ∙ string-written (named a) (a .args .s .now) (a .args .out .now) (w .before .width .result) (w .width2 .result) (w .before .width .ensures) (w .width2 .ensures) (d .read-fields .last .1 .1 .1 .1 .0) (first d)
 
 -- the slice stays as long as it was
-room-after : (c : tie.After-read-fields) → length (c .read-fields .last .1 .1 .1 .1 .0) ≡ length (c .before .before .before .before .before .before .before .args .out .now)
+room-after : (c : tie.After-read-fields) → length (c .read-fields .last .1 .1 .1 .1 .0) ≡ length (begun c .args .out .now)
 room-after c = search needs
 
-room-left : (c : tie.After-read-fields2) → length (c .read-fields2 .last .1 .1 .1 .1 .0) ≡ length (c .before .before .before .before .before .before .before .before .before .before .before .args .out .now)
+room-left : (c : tie.After-read-fields2) → length (c .read-fields2 .last .1 .1 .1 .1 .0) ≡ length (begun (c .before .before .before .before) .args .out .now)
 room-left c = search needs
 
 read-fields-requires-2 : tie.Need-read-fields-requires-2
@@ -120,8 +123,8 @@ same-length c = search needs
 returns : tie.Need-returns
 returns c =
     let v = c .before .before in
-    let a = c .before .before .before .before .before .before .before .before .before .before .before .before .before .before .before .before .before in
     let d = v .before .before .before .before in
+    let a = begun (d .before .before .before .before) in
     let w = d .before .before .before .before .before .before in
     v .read-fields3 .ensures ∙ check-written (named a) (a .args .s .now) (a .args .out .now) (w .before .width .result) (w .width2 .result) (w .before .width .ensures) (w .width2 .ensures) (d .read-fields2 .last .1 .1 .1 .1 .0) (second d)
 
