@@ -7,19 +7,18 @@
 #![forbid(unsafe_code)]
 
 mod clock;
+mod rows;
 
 use std::time::Duration;
 use std::{env, process};
 
 use clock::{clock_reading, compare};
 use dairyhour::{LONGEST_MESSAGE, MOST_FIELDS};
-use reference::bits::{bytes_for, pack};
-use reference::message::{encode, fields};
+use reference::bits::{bytes_for, pack, unpack};
 use reference::random::Random;
+use reference::sum::sum;
 use reference::{peer, Layout};
-
-/// Different inputs that are gone through again and again.
-const INPUTS: usize = 64;
+use rows::{every_kind, Rows};
 
 fn main() {
     let seconds = match env::args().nth(1).map(|word| word.parse::<u32>()) {
@@ -32,80 +31,76 @@ fn main() {
     };
     let time = Duration::from_secs(u64::from(seconds));
     println!("The times of single calls hold one reading of the clock, about {} ns.", clock_reading().as_nanos());
-    for layout in [Layout::new(15, 17, 8, 16), Layout::new(5, 3, 4, 4)] {
-        let Layout { l1, l2, nc, r } = layout;
-        println!();
-        println!("n = {}: {l1} x {l2} chunks of {nc} bits, r = {r}", layout.row_bits());
-        write(layout, time);
-        read(layout, time);
-        mend("mend a row", layout.row_bits(), time);
-        mend("mend a block", layout.block_bits(), time);
-    }
+    time_all(Layout::new(15, 17, 8, 16), include_bytes!("../films/coldfire-fcu-n2040.pbm"), time);
+    time_all(Layout::new(5, 3, 4, 4), include_bytes!("../films/ecc83-bcu-n60.pbm"), time);
 }
 
-fn rows(layout: &Layout) -> Vec<Vec<bool>> {
-    let mut random = Random::new(1);
-    (0..INPUTS).map(|_| random.bits(layout.row_bits())).collect()
+fn time_all(layout: Layout, film: &[u8], time: Duration) {
+    let Layout { l1, l2, nc, r } = layout;
+    let n = layout.row_bits();
+    println!();
+    println!("n = {n}: {l1} x {l2} chunks of {nc} bits, r = {r}");
+    for Rows { kind, rows } in every_kind(n, film) {
+        write(&format!("write, {kind} rows"), layout, &rows, time);
+        read(&format!("read, {kind} rows"), layout, &rows, time);
+        mend(&format!("mend, {kind} rows"), n, &rows, time);
+    }
 }
 
 /// The number that stands for a refusal in the benchmark's comparison; no input here is refused.
 const REFUSED: usize = usize::MAX;
 
-fn write(layout: Layout, time: Duration) {
-    let rows: Vec<Vec<u8>> = rows(&layout).iter().map(|row| pack(row)).collect();
+fn write(name: &str, layout: Layout, rows: &[Vec<u8>], time: Duration) {
     let Layout { l1, l2, nc, r } = layout;
     let lent = dairyhour::Layout { l1, l2, nc, r };
     let (mut ours, mut theirs) = ([0; LONGEST_MESSAGE], [0; LONGEST_MESSAGE]);
     let mut library = |i: usize| {
-        let answer = dairyhour::write(lent, &rows[i % INPUTS], &mut ours);
+        let answer = dairyhour::write(lent, &rows[i % rows.len()], &mut ours);
         answer.map_or(REFUSED, |length| last(&ours[..length]))
     };
-    compare("write", time, &mut library, "peer", |i| {
-        let answer = peer_write(&layout, &rows[i % INPUTS], &mut theirs);
+    compare(name, time, &mut library, "peer", |i| {
+        let answer = peer_write(&layout, &rows[i % rows.len()], &mut theirs);
         answer.map_or(REFUSED, |length| last(&theirs[..length]))
     });
-    compare("write", time, &mut library, "plain", |i| {
-        let answer = reference::write(&layout, &rows[i % INPUTS], LONGEST_MESSAGE);
+    compare(name, time, &mut library, "plain", |i| {
+        let answer = reference::write(&layout, &rows[i % rows.len()], LONGEST_MESSAGE);
         answer.map_or(REFUSED, |message| last(&message))
     });
 }
 
-fn read(layout: Layout, time: Duration) {
-    let messages: Vec<Vec<u8>> = rows(&layout).iter().map(|row| encode(&layout, &fields(&layout, row))).collect();
+fn read(name: &str, layout: Layout, rows: &[Vec<u8>], time: Duration) {
+    let message = |row: &Vec<u8>| reference::write(&layout, row, LONGEST_MESSAGE).unwrap_or_default();
+    let messages: Vec<Vec<u8>> = rows.iter().map(message).collect();
     let (mut ours, mut theirs) = ([0; MOST_FIELDS], [0; MOST_FIELDS]);
-    compare(
-        "read",
-        time,
-        |i| {
-            let answer = dairyhour::read(&messages[i % INPUTS], &mut ours);
-            answer.map_or(REFUSED, |layout| usize::from(ours[layout.l1]) + layout.l2)
-        },
-        "peer",
-        |i| {
-            let answer = peer_read(&messages[i % INPUTS], &mut theirs);
-            answer.map_or(REFUSED, |layout| usize::from(theirs[layout.l1]) + layout.l2)
-        },
-    );
+    let library = |i: usize| {
+        let answer = dairyhour::read(&messages[i % rows.len()], &mut ours);
+        answer.map_or(REFUSED, |layout| usize::from(ours[layout.l1]) + layout.l2)
+    };
+    compare(name, time, library, "peer", |i| {
+        let answer = peer_read(&messages[i % rows.len()], &mut theirs);
+        answer.map_or(REFUSED, |layout| usize::from(theirs[layout.l1]) + layout.l2)
+    });
 }
 
-fn mend(name: &str, w: usize, time: Duration) {
+/// Each row is mended after one of its bits was dropped.
+fn mend(name: &str, w: usize, rows: &[Vec<u8>], time: Duration) {
     let mut random = Random::new(2);
-    let strings: Vec<Vec<u8>> = (0..INPUTS).map(|_| pack(&random.bits(w - 1))).collect();
-    let sums: Vec<usize> = (0..INPUTS).map(|_| random.below(w + 1)).collect();
+    let sums: Vec<usize> = rows.iter().map(|row| sum(&unpack(row, w))).collect();
+    let short = |row: &Vec<u8>| {
+        let mut string = unpack(row, w);
+        string.remove(random.below(w));
+        pack(&string)
+    };
+    let strings: Vec<Vec<u8>> = rows.iter().map(short).collect();
     let (mut ours, mut theirs) = (vec![0; bytes_for(w)], vec![0; bytes_for(w)]);
-    compare(
-        &format!("{name}, {w} bits"),
-        time,
-        |i| {
-            let answer = dairyhour::mend(w, sums[i % INPUTS], &strings[i % INPUTS], &mut ours);
-            answer.map_or(REFUSED, |_| last(&ours))
-        },
-        "peer",
-        |i| {
-            let answer = peer_mend(w, sums[i % INPUTS], &strings[i % INPUTS], &mut theirs);
-            answer.map_or(REFUSED, |_| last(&theirs))
-        },
-    );
+    let library = |i: usize| {
+        let answer = dairyhour::mend(w, sums[i % rows.len()], &strings[i % rows.len()], &mut ours);
+        answer.map_or(REFUSED, |_| last(&ours))
+    };
+    compare(name, time, library, "peer", |i| {
+        let answer = peer_mend(w, sums[i % rows.len()], &strings[i % rows.len()], &mut theirs);
+        answer.map_or(REFUSED, |_| last(&theirs))
+    });
 }
 
 /// The last byte written, by which the two are compared in passing.
