@@ -1,13 +1,13 @@
 -- A candidate's numbers, compared with those of a message that was read. Assumes nothing.
-use Prim.Native.Nat.{ℕ, _+_, _-_, _<_, _≤_}
+use Prim.Native.Nat.{ℕ, _+_, _-_}
 use mathlib.Core.Path.{_≡_, refl, sym, ap, _∙_}
 use mathlib.Core.Bool.{Bool, true, false, _&&_}
 use mathlib.Core.List.{List, _++_, append-assoc}
 use native.Mathlib.Omega.{arith}
 use borrow.Author.Tests.{eq-eqb}
 use borrow.Rule.Slice.PartAt.{part-to-end}
-use lib.ListN.{length, getD, take, drop, length-append, take-append-drop, List·getD-append}
-use lib.Seq.{getD-append-add, take-at, drop-at, length-take-le}
+use lib.ListN.{length, take, drop, take-append-drop}
+use lib.Seq.{take-at, drop-at, length-take-le}
 use Rattle.bits.specs.Bits.{AllBytes, same}
 use Rattle.bits.proofs.Laws.{both-ways, same-eq, same-refl, same-append}
 use Rattle.rows.specs.Deletion.{comesFrom}
@@ -21,20 +21,8 @@ use Rattle.message.proofs.Cutting.{length-block-sums, length-string-sums}
 use Rattle.message.proofs.Messages.{encode-read}
 use Rattle.message.proofs.Numbers.{block-count, string-count}
 use Rattle.message.proofs.Roundtrip.{message-reads}
+use Rattle.message.proofs.RowSums.{length-sums}
 use Rattle.consistent.specs.Consistent.{bitsOf, yields, consistent, candidate}
-
--- ---- the sums by their places
-module _ (l : Layout) (x : List ℕ) where
-  pub sum-of-block : (k : ℕ) → k < l .l1 → getD (blockSums l x) k 0 ≡ getD (blockSums l x ++ stringSums l x) k 0
-  sum-of-block k h = sym (List·getD-append (blockSums l x) (stringSums l x) 0 k (omega (arith, length-block-sums l x)))
-
-  pub sum-of-string : (k : ℕ) → l .l1 ≤ k → getD (stringSums l x) (k - l .l1) 0 ≡ getD (blockSums l x ++ stringSums l x) k 0
-  sum-of-string k h =
-      let e : length (blockSums l x) + (k - l .l1) ≡ k = omega (arith, length-block-sums l x) in
-      sym (getD-append-add (blockSums l x) (stringSums l x) (k - l .l1) 0) ∙ ap (λ (n : ℕ). getD (blockSums l x ++ stringSums l x) n 0) e
-
-  pub length-sums : length (blockSums l x ++ stringSums l x) ≡ l .l1 + l .l2
-  length-sums = length-append (blockSums l x) (stringSums l x) ∙ omega (arith, length-block-sums l x, length-string-sums l x)
 
 -- ---- what yields a message
 -- two joined lists whose first parts are of one length are equal part by part

@@ -75,17 +75,6 @@ pub fn loses(x: &[u8], w: usize, y: &[u8], counts: &[u8]) -> bool
     false
 }
 
-// Sum k of a row: the block sums come first, then the chunk-string sums.
-fn sum_at(l1: usize, l2: usize, nc: usize, r: usize, x: &[u8], k: usize) -> usize
-    requires { ⌜ (isLegal (layout l1 l2 nc r) ≡ true) × (AllBits (now x) × ((length (now x) ≡ rowBits (layout l1 l2 nc r)) × (k < l1 + l2))) ⌝ }
-    ensures { λ s. ⌜ s ≡ getD (blockSums (layout l1 l2 nc r) (now (x .entry)) ++ stringSums (layout l1 l2 nc r) (now (x .entry))) k 0 ⌝ }
-{
-    if k < l1 {
-        return message::sums::block_sum(l1, l2, nc, r, x, k);
-    }
-    message::sums::string_sum(l1, l2, nc, r, x, k - l1)
-}
-
 // Whether these numbers are the sums of a row.
 fn sums_agree(l1: usize, l2: usize, nc: usize, r: usize, x: &[u8], numbers: &[u16]) -> bool
     requires { ⌜ (isLegal (layout l1 l2 nc r) ≡ true) × (AllBits (now x) × ((length (now x) ≡ rowBits (layout l1 l2 nc r)) × (length (now numbers) ≡ l1 + l2))) ⌝ }
@@ -94,7 +83,7 @@ fn sums_agree(l1: usize, l2: usize, nc: usize, r: usize, x: &[u8], numbers: &[u1
     let mut k: usize = 0;
     while k < numbers.len() {
         let number = numbers[k] as usize;
-        if sum_at(l1, l2, nc, r, x, k) != number {
+        if message::sums::sum_at(l1, l2, nc, r, x, k) != number {
             return false;
         }
         k += 1;

@@ -22,6 +22,7 @@ use Rattle.message.proofs.Fields.{width-most, length-flat, length-field
 use Rattle.message.proofs.Legal.{legal-bounds, sizes}
 use Rattle.message.proofs.Longest.{fields-high}
 use Rattle.message.proofs.Messages.{bits-fields, length-field-bits}
+use Rattle.message.proofs.RowSums.{block-part, string-part}
 
 -- ---- the chunks that the checks are taken of
 -- the chunks of a row at the front of an array, lent
@@ -80,8 +81,8 @@ module _ (l : Layout) (x d : List ℕ) (e : legal l ≡ true) (room : fieldsLeng
   block-room wb eb = rw eb (omega (arith, width-most 11 (blockBits l) (omega (arith, sizes l (legal-bounds l e) .block))), omega arith)
 
   pub block-stage : (wb : ℕ) → wb ≡ width (blockBits l) → (b : List ℕ) (n : ℕ) → n ≡ 0 + l .l1 * wb
-      → b ≡ take 0 d ++ flatMap (digits wb) (blockSums l x) ++ drop (0 + l .l1 * wb) d → Stage d (blockPart l x) b n
-  block-stage wb eb b n g h = stage-next d [] d 0 (record { place = refl; is = refl }) (blockPart l x) b (l .l1 * wb) n (rw eb length-block-part) g (h ∙ rw eb refl)
+      → b ≡ take 0 d ++ flatMap (digits wb) (take (l .l1) (drop 0 (blockSums l x ++ stringSums l x))) ++ drop (0 + l .l1 * wb) d → Stage d (blockPart l x) b n
+  block-stage wb eb b n g h = stage-next d [] d 0 (record { place = refl; is = refl }) (blockPart l x) b (l .l1 * wb) n (rw eb length-block-part) g (h ∙ rw (eb, block-part l x) refl)
 
   -- chunk-string sums
   module _ (ws : ℕ) (es : ws ≡ width (stringBits l)) (b : List ℕ) (n : ℕ) (s : Stage d (blockPart l x) b n) where
@@ -91,8 +92,8 @@ module _ (l : Layout) (x d : List ℕ) (e : legal l ≡ true) (room : fieldsLeng
         let k = length-block-part in
         rw es (omega (arith, width-most 11 (stringBits l) (omega (arith, sizes l (legal-bounds l e) .string))), omega (arith, s .place, stage-length d (blockPart l x) b n s (omega arith)))
 
-    pub string-stage : (b₁ : List ℕ) (n₁ : ℕ) → n₁ ≡ n + l .l2 * ws → b₁ ≡ take n b ++ flatMap (digits ws) (stringSums l x) ++ drop (n + l .l2 * ws) b → Stage d (blockPart l x ++ stringPart l x) b₁ n₁
-    string-stage b₁ n₁ g h = stage-next d (blockPart l x) b n s (stringPart l x) b₁ (l .l2 * ws) n₁ (rw es length-string-part) g (h ∙ rw es refl)
+    pub string-stage : (b₁ : List ℕ) (n₁ : ℕ) → n₁ ≡ n + l .l2 * ws → b₁ ≡ take n b ++ flatMap (digits ws) (take (l .l2) (drop (l .l1) (blockSums l x ++ stringSums l x))) ++ drop (n + l .l2 * ws) b → Stage d (blockPart l x ++ stringPart l x) b₁ n₁
+    string-stage b₁ n₁ g h = stage-next d (blockPart l x) b n s (stringPart l x) b₁ (l .l2 * ws) n₁ (rw es length-string-part) g (h ∙ rw (es, string-part l x) refl)
 
   -- checks
   module _ (b : List ℕ) (n : ℕ) (s : Stage d (blockPart l x ++ stringPart l x) b n) where

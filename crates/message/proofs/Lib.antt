@@ -8,6 +8,7 @@ pub mod Numbers
 pub mod Answers
 pub mod Positions
 pub mod Cutting
+pub mod RowSums
 mod Turns
 mod Placing
 mod Assembly

@@ -24,7 +24,7 @@ fn total_from(bits: &[u8], first: usize) -> usize
 }
 
 // The sum of block i of a row.
-pub fn block_sum(l1: usize, l2: usize, nc: usize, r: usize, row: &[u8], i: usize) -> usize
+fn block_sum(l1: usize, l2: usize, nc: usize, r: usize, row: &[u8], i: usize) -> usize
     requires { ⌜ (isLegal (layout l1 l2 nc r) ≡ true) × (AllBits (now row) × ((length (now row) ≡ rowBits (layout l1 l2 nc r)) × (i < l1))) ⌝ }
     ensures { λ s. ⌜ s ≡ getD (blockSums (layout l1 l2 nc r) (now (row .entry))) i 0 ⌝ }
 {
@@ -35,7 +35,7 @@ pub fn block_sum(l1: usize, l2: usize, nc: usize, r: usize, row: &[u8], i: usize
 }
 
 // The sum of chunk-string j of a row, chunk by chunk where they stand.
-pub fn string_sum(l1: usize, l2: usize, nc: usize, r: usize, row: &[u8], j: usize) -> usize
+fn string_sum(l1: usize, l2: usize, nc: usize, r: usize, row: &[u8], j: usize) -> usize
     requires { ⌜ (isLegal (layout l1 l2 nc r) ≡ true) × (AllBits (now row) × ((length (now row) ≡ rowBits (layout l1 l2 nc r)) × (j < l2))) ⌝ }
     ensures { λ s. ⌜ s ≡ getD (stringSums (layout l1 l2 nc r) (now (row .entry))) j 0 ⌝ }
 {
@@ -49,6 +49,17 @@ pub fn string_sum(l1: usize, l2: usize, nc: usize, r: usize, row: &[u8], j: usiz
         i += 1;
     }
     t % (nc * l1 + 1)
+}
+
+// Sum k of a row: the block sums come first, then the chunk-string sums.
+pub fn sum_at(l1: usize, l2: usize, nc: usize, r: usize, row: &[u8], k: usize) -> usize
+    requires { ⌜ (isLegal (layout l1 l2 nc r) ≡ true) × (AllBits (now row) × ((length (now row) ≡ rowBits (layout l1 l2 nc r)) × (k < l1 + l2))) ⌝ }
+    ensures { λ s. ⌜ s ≡ getD (blockSums (layout l1 l2 nc r) (now (row .entry)) ++ stringSums (layout l1 l2 nc r) (now (row .entry))) k 0 ⌝ }
+{
+    if k < l1 {
+        return block_sum(l1, l2, nc, r, row, k);
+    }
+    string_sum(l1, l2, nc, r, row, k - l1)
 }
 
 // The number that the k bits from a place on spell.

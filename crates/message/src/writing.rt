@@ -15,56 +15,33 @@ ghost use Rattle.message.specs.Layout.{layout, legal as isLegal, rowBits
 ghost use Rattle.message.specs.Message.{width, fieldsLength, messageBytes, blockSums, stringSums, checks, head, fieldBits, message};
 ghost use Rattle.message.specs.Write.{writtenOf, writeAnswer, writeTarget};
 
-// The block sums of a row as fields of k bits at a cursor, and the cursor after them.
-fn put_block_sums(
+// So many sums of a row from a first one on, as fields of k bits at a cursor, and the cursor after them. The block sums come
+// first, then the chunk-string sums.
+fn put_sums(
     l1: usize,
     l2: usize,
     nc: usize,
     r: usize,
     row: &[u8],
+    first: usize,
+    count: usize,
     k: usize,
     start: BitCursor,
     bits: &mut [u8],
 ) -> BitCursor
     requires { ⌜ ((isLegal (layout l1 l2 nc r) ≡ true) × (AllBits (now row) × (length (now row) ≡ rowBits (layout l1 l2 nc r))))
-        × ((k ≤ 16) × (start .at + l1 * k ≤ length (now bits))) ⌝ }
-    ensures { λ c. ⌜ (c .at ≡ start .at + l1 * k) × (now (bits .exit) ≡ take (start .at) (now (bits .entry))
-        ++ flatMap (digits k) (blockSums (layout l1 l2 nc r) (now (row .entry))) ++ drop (start .at + l1 * k) (now (bits .entry))) ⌝ }
+        × ((first + count ≤ l1 + l2) × ((k ≤ 16) × (start .at + count * k ≤ length (now bits)))) ⌝ }
+    ensures { λ c. ⌜ (c .at ≡ start .at + count * k) × (now (bits .exit) ≡ take (start .at) (now (bits .entry))
+        ++ flatMap (digits k) (take count (drop first (blockSums (layout l1 l2 nc r) (now (row .entry)) ++ stringSums (layout l1 l2 nc r) (now (row .entry)))))
+        ++ drop (start .at + count * k) (now (bits .entry))) ⌝ }
 {
     let mut c = start;
     let mut i: usize = 0;
-    while i < l1 {
-        let sum = sums::block_sum(l1, l2, nc, r, row, i) as u16;
+    while i < count {
+        let sum = sums::sum_at(l1, l2, nc, r, row, first + i) as u16;
         let next = c.put(bits, k, sum);
         c = next;
         i += 1;
-    }
-    c
-}
-
-// The chunk-string sums of a row in the same way.
-fn put_string_sums(
-    l1: usize,
-    l2: usize,
-    nc: usize,
-    r: usize,
-    row: &[u8],
-    k: usize,
-    start: BitCursor,
-    bits: &mut [u8],
-) -> BitCursor
-    requires { ⌜ ((isLegal (layout l1 l2 nc r) ≡ true) × (AllBits (now row) × (length (now row) ≡ rowBits (layout l1 l2 nc r))))
-        × ((k ≤ 16) × (start .at + l2 * k ≤ length (now bits))) ⌝ }
-    ensures { λ c. ⌜ (c .at ≡ start .at + l2 * k) × (now (bits .exit) ≡ take (start .at) (now (bits .entry))
-        ++ flatMap (digits k) (stringSums (layout l1 l2 nc r) (now (row .entry))) ++ drop (start .at + l2 * k) (now (bits .entry))) ⌝ }
-{
-    let mut c = start;
-    let mut j: usize = 0;
-    while j < l2 {
-        let sum = sums::string_sum(l1, l2, nc, r, row, j) as u16;
-        let next = c.put(bits, k, sum);
-        c = next;
-        j += 1;
     }
     c
 }
@@ -114,8 +91,8 @@ fn put_fields(l1: usize, l2: usize, nc: usize, r: usize, row: &[u8], bits: &mut 
 {
     let block = layouts::width(l2 * nc);
     let string = layouts::width(nc * l1);
-    let after_blocks = put_block_sums(l1, l2, nc, r, row, block, BitCursor { at: 0 }, bits);
-    let after_strings = put_string_sums(l1, l2, nc, r, row, string, after_blocks, bits);
+    let after_blocks = put_sums(l1, l2, nc, r, row, 0, l1, block, BitCursor { at: 0 }, bits);
+    let after_strings = put_sums(l1, l2, nc, r, row, l1, l2, string, after_blocks, bits);
     put_row_checks(l1, l2, nc, r, row, after_strings, bits);
 }
 

@@ -1,6 +1,7 @@
 //! Layouts: how a row is cut.
 
 use crate::bits::{bytes_for, width};
+use crate::random::Random;
 
 /// Bytes of the mark, the version and the layout in front of a message's fields.
 pub const HEAD: usize = 9;
@@ -37,6 +38,11 @@ impl Layout {
             }
         }
         layouts
+    }
+
+    /// The same, each with some number of checks.
+    pub fn every_legal_with_checks(random: &mut Random) -> Vec<Layout> {
+        Layout::every_legal().into_iter().map(|base| Layout { r: random.below(17), ..base }).collect()
     }
 }
 

@@ -253,8 +253,7 @@ mod tests {
     #[test]
     fn writes_and_reads_as_the_plain_part_does() {
         let mut random = Random::new(1);
-        for base in Layout::every_legal() {
-            let layout = Layout { r: random.below(17), ..base };
+        for layout in Layout::every_legal_with_checks(&mut random) {
             let row = pack(&random.bits(layout.row_bits()));
             let message = crate::write(&layout, &row, 200).expect("a legal layout and its row");
             let mut out = [0xA5; 200];

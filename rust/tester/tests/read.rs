@@ -6,11 +6,6 @@ use reference::random::Random;
 use reference::Layout;
 use tester::{agree_read, rooms};
 
-/// Layouts of every kind, r among them from 0 to 16.
-fn layouts(random: &mut Random) -> Vec<Layout> {
-    Layout::every_legal().into_iter().map(|base| Layout { r: random.below(17), ..base }).collect()
-}
-
 /// Numbers that fit their slots, of which no row need exist.
 fn any_fields(layout: &Layout, random: &mut Random) -> Vec<u16> {
     slots(layout).iter().map(|slot| random.below(slot.most + 1) as u16).collect()
@@ -34,7 +29,7 @@ fn messages_of_rows() {
 #[test]
 fn any_numbers_and_targets() {
     let mut random = Random::new(12);
-    for layout in layouts(&mut random) {
+    for layout in Layout::every_legal_with_checks(&mut random) {
         let greatest: Vec<u16> = slots(&layout).iter().map(|slot| slot.most as u16).collect();
         for values in [any_fields(&layout, &mut random), greatest] {
             let message = encode(&layout, &values);
@@ -49,7 +44,7 @@ fn any_numbers_and_targets() {
 #[test]
 fn every_length() {
     let mut random = Random::new(13);
-    for layout in layouts(&mut random) {
+    for layout in Layout::every_legal_with_checks(&mut random) {
         let message = encode(&layout, &any_fields(&layout, &mut random));
         for length in 0..=message.len() + 2 {
             for filler in [0, 0xFF] {
@@ -71,7 +66,7 @@ fn every_length() {
 #[test]
 fn every_head_byte() {
     let mut random = Random::new(14);
-    let chosen = layouts(&mut random).into_iter().step_by(37);
+    let chosen = Layout::every_legal_with_checks(&mut random).into_iter().step_by(37);
     for layout in chosen {
         let message = encode(&layout, &any_fields(&layout, &mut random));
         for place in 0..HEAD {
@@ -91,7 +86,7 @@ fn every_head_byte() {
 #[test]
 fn a_bit_of_the_head() {
     let mut random = Random::new(15);
-    for layout in layouts(&mut random) {
+    for layout in Layout::every_legal_with_checks(&mut random) {
         let message = encode(&layout, &any_fields(&layout, &mut random));
         for place in 0..8 * HEAD {
             let mut damaged = message.clone();
@@ -123,7 +118,7 @@ fn every_layout_in_the_head() {
 fn sums_above_their_limit() {
     let mut random = Random::new(16);
     let mut refused = 0;
-    for layout in layouts(&mut random) {
+    for layout in Layout::every_legal_with_checks(&mut random) {
         let values = any_fields(&layout, &mut random);
         for (place, slot) in slots(&layout).into_iter().enumerate().take(layout.l1 + layout.l2) {
             for value in [slot.most + 1, (1 << slot.width) - 1] {
@@ -150,7 +145,7 @@ fn sums_above_their_limit() {
 #[test]
 fn spare_bits_of_the_message() {
     let mut random = Random::new(17);
-    for layout in layouts(&mut random) {
+    for layout in Layout::every_legal_with_checks(&mut random) {
         let message = encode(&layout, &any_fields(&layout, &mut random));
         for place in layout.field_bits()..8 * (message.len() - HEAD) {
             let mut damaged = message.clone();
@@ -167,7 +162,7 @@ fn spare_bits_of_the_message() {
 fn any_damage() {
     let mut random = Random::new(18);
     for _ in 0..8 {
-        for layout in layouts(&mut random) {
+        for layout in Layout::every_legal_with_checks(&mut random) {
             let mut message = encode(&layout, &any_fields(&layout, &mut random));
             if random.below(2) == 0 {
                 message[HEAD..].iter_mut().for_each(|byte| *byte = random.number() as u8);

@@ -65,8 +65,7 @@ fn a_single_one_at_each_place() {
 #[test]
 fn targets() {
     let mut random = Random::new(2);
-    for base in Layout::every_legal() {
-        let layout = Layout { r: random.below(17), ..base };
+    for layout in Layout::every_legal_with_checks(&mut random) {
         let row = pack(&random.bits(layout.row_bits()));
         for room in rooms(layout.message_bytes()) {
             assert_eq!(agree_write(&layout, &row, room).is_ok(), room >= layout.message_bytes());
@@ -78,8 +77,7 @@ fn targets() {
 #[test]
 fn rows_of_another_byte_count() {
     let mut random = Random::new(3);
-    for base in Layout::every_legal() {
-        let layout = Layout { r: random.below(17), ..base };
+    for layout in Layout::every_legal_with_checks(&mut random) {
         let right = bytes_for(layout.row_bits());
         for count in [0, right - 1, right + 1, 2 * right, right + 256] {
             let row: Vec<u8> = (0..count).map(|_| random.number() as u8).collect();
@@ -94,8 +92,7 @@ fn rows_of_another_byte_count() {
 #[test]
 fn spare_bits_of_the_row() {
     let mut random = Random::new(4);
-    for base in Layout::every_legal() {
-        let layout = Layout { r: random.below(17), ..base };
+    for layout in Layout::every_legal_with_checks(&mut random) {
         let row = pack(&random.bits(layout.row_bits()));
         for place in layout.row_bits()..8 * row.len() {
             let mut spoiled = row.clone();

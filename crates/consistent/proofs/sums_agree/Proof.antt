@@ -9,7 +9,7 @@ use Rattle.bits.specs.Bits.{same}
 use Rattle.bits.proofs.Laws.{same-next, same-stop, same-end}
 use Rattle.message.specs.Layout.{layout}
 use Rattle.message.specs.Message.{blockSums, stringSums}
-use Rattle.consistent.proofs.Candidate.{length-sums}
+use Rattle.message.proofs.RowSums.{length-sums}
 use Rattle.consistent.proofs.sums_agree.Statement.{statement}
 use Rattle.consistent.proofs.sums_agree.Tie as tie
 

@@ -24,41 +24,41 @@ mul-width-2 c = omega (arith, high (c .before .before .before) .string)
 width-requires-2 : tie.Need-width-requires-2
 width-requires-2 c κs = high (c .before .before .before) .string
 
-put-block-sums-requires : tie.Need-put-block-sums-requires
-put-block-sums-requires c κs =
+put-sums-requires : tie.Need-put-sums-requires
+put-sums-requires c κs =
     let s = c .before .before .before .before .before in
     let a = s .args in
-    (s .pre .0, block-room (layout (a .l1) (a .l2) (a .nc) (a .r)) (a .row .now) (a .bits .now) (s .pre .0 .0) (s .pre .1) _ (c .before .before .width .ensures))
+    (s .pre .0, (search needs, block-room (layout (a .l1) (a .l2) (a .nc) (a .r)) (a .row .now) (a .bits .now) (s .pre .0 .0) (s .pre .1) _ (c .before .before .width .ensures)))
 
 -- what the function is given, seen from where the block sums are put
-abbrev start : tie.After-put-block-sums → tie.Start
+abbrev start : tie.After-put-sums → tie.Start
 start c = c .before .before .before .before .before .before
 
 -- after the block sums
-blocks-placed : (c : tie.After-put-block-sums) → let a = start c .args in
-    Stage (a .bits .now) (blockPart (layout (a .l1) (a .l2) (a .nc) (a .r)) (a .row .now)) (c .put-block-sums .last .1 .1 .1 .1 .1 .1 .1 .0) (c .put-block-sums .result .at)
+blocks-placed : (c : tie.After-put-sums) → let a = start c .args in
+    Stage (a .bits .now) (blockPart (layout (a .l1) (a .l2) (a .nc) (a .r)) (a .row .now)) (c .put-sums .last .1 .1 .1 .1 .1 .1 .1 .1 .1 .0) (c .put-sums .result .at)
 blocks-placed c =
     let s = start c in
     let a = s .args in
-    let q = c .put-block-sums .ensures in
+    let q = c .put-sums .ensures in
     block-stage (layout (a .l1) (a .l2) (a .nc) (a .r)) (a .row .now) (a .bits .now) (s .pre .0 .0) (s .pre .1) _ (c .before .before .before .width .ensures) _ _ (q .0) (q .1)
 
-put-string-sums-requires : tie.Need-put-string-sums-requires
-put-string-sums-requires c κs =
+put-sums-requires-2 : tie.Need-put-sums-requires-2
+put-sums-requires-2 c κs =
     let b = c .before .before .before in
     let s = start b in
     let a = s .args in
-    (s .pre .0, string-room (layout (a .l1) (a .l2) (a .nc) (a .r)) (a .row .now) (a .bits .now) (s .pre .0 .0) (s .pre .1) _ (b .before .before .width2 .ensures) _ _ (blocks-placed b))
+    (s .pre .0, (search needs, string-room (layout (a .l1) (a .l2) (a .nc) (a .r)) (a .row .now) (a .bits .now) (s .pre .0 .0) (s .pre .1) _ (b .before .before .width2 .ensures) _ _ (blocks-placed b)))
 
 -- after the chunk-string sums
-strings-placed : (c : tie.After-put-string-sums) → let a = start (c .before .before .before .before) .args in
+strings-placed : (c : tie.After-put-sums2) → let a = start (c .before .before .before .before) .args in
     Stage (a .bits .now) (blockPart (layout (a .l1) (a .l2) (a .nc) (a .r)) (a .row .now) ++ stringPart (layout (a .l1) (a .l2) (a .nc) (a .r)) (a .row .now))
-    (c .put-string-sums .last .1 .1 .1 .1 .1 .1 .1 .0) (c .put-string-sums .result .at)
+    (c .put-sums2 .last .1 .1 .1 .1 .1 .1 .1 .1 .1 .0) (c .put-sums2 .result .at)
 strings-placed c =
     let b = c .before .before .before .before in
     let s = start b in
     let a = s .args in
-    let q = c .put-string-sums .ensures in
+    let q = c .put-sums2 .ensures in
     string-stage (layout (a .l1) (a .l2) (a .nc) (a .r)) (a .row .now) (a .bits .now) (s .pre .0 .0) (s .pre .1) _ (b .before .before .width2 .ensures) _ _ (blocks-placed b) _ _ (q .0) (q .1)
 
 put-row-checks-requires : tie.Need-put-row-checks-requires
@@ -87,8 +87,8 @@ put-fields-spec =
     width-requires
     mul-width-2
     width-requires-2
-    put-block-sums-requires
-    put-string-sums-requires
+    put-sums-requires
+    put-sums-requires-2
     put-row-checks-requires
     same-length
     returns)

@@ -1,0 +1,104 @@
+-- `message::writing::put_sums` meets its contract. The loop's invariant: the first i sums are placed, and the cursor is behind them.
+-- Assumes nothing.
+use borrow.Author.Needs.{needs}
+use Prim.Native.Nat.{ℕ, _+_, _-_, _≤_}
+use mathlib.Core.Path.{_≡_, _∙_}
+use mathlib.Core.List.{List, _++_}
+use native.Mathlib.Omega.{arith}
+use lib.ListN.{length, take, drop}
+use Rattle.message.specs.Layout.{layout}
+use Rattle.message.specs.Message.{blockSums, stringSums}
+use Rattle.message.specs.declared.Layout.{Layout}
+use Rattle.message.proofs.Legal.{legal-bounds, sizes}
+use Rattle.message.proofs.Placing.{Placed, placed-start, placed-room, placed-next, placed-end}
+use Rattle.message.proofs.RowSums.{sum-low, length-part, sum-of-part}
+use Rattle.message.proofs.writing.put_sums.Statement.{statement}
+use Rattle.message.proofs.writing.put_sums.Tie as tie
+
+abbrev Inv-loop : tie.InvT-loop
+Inv-loop l1 l2 nc r row first count k bits₀ c₀ i₀ bits c i = (i ≤ count) × Placed bits₀ (c₀ .at) k (take count (drop first (blockSums (layout l1 l2 nc r) row ++ stringSums (layout l1 l2 nc r) row))) i bits (c .at)
+
+abbrev μ-loop : tie.MeasureT-loop
+μ-loop l1 l2 nc r row first count k bits₀ c₀ i₀ bits c i = count - i
+
+-- the layout, the sums that are placed, and their count
+abbrev lay : tie.Start Inv-loop μ-loop → Layout
+lay c = layout (c .args .l1) (c .args .l2) (c .args .nc) (c .args .r)
+
+abbrev vs : tie.Start Inv-loop μ-loop → List ℕ
+vs c = take (c .args .count) (drop (c .args .first) (blockSums (lay c) (c .args .row .now) ++ stringSums (lay c) (c .args .row .now)))
+
+count : (c : tie.Start Inv-loop μ-loop) → length (vs c) ≡ c .args .count
+count c = length-part (lay c) (c .args .row .now) (c .args .first) (c .args .count) (c .pre .1 .0)
+
+loop-holds : tie.Need-loop-holds Inv-loop μ-loop
+loop-holds c =
+    let s = c .before .before in
+    let a = s .args in
+    (search needs, placed-start (a .bits .now) (a .start .at) (a .k) (vs s) (a .count) (count s) (s .pre .1 .1 .1))
+
+add-sum-at : tie.Need-add-sum-at Inv-loop μ-loop
+add-sum-at c =
+    let s = c .before .before .before .before in
+    let z = sizes (lay s) (legal-bounds (lay s) (s .pre .0 .0)) in
+    omega (arith, s .pre .1 .0, z .l1-high, z .l2-high)
+
+sum-at-requires : tie.Need-sum-at-requires Inv-loop μ-loop
+sum-at-requires c κs =
+    let s = c .before .before .before .before in
+    (s .pre .0 .0, (s .pre .0 .1 .0, (s .pre .0 .1 .1, omega (arith, s .pre .1 .0))))
+
+cast-sum : tie.Need-cast-sum Inv-loop μ-loop
+cast-sum c =
+    let s = c .before .before .before .before .before in
+    let a = s .args in
+    omega (arith, c .sum-at .ensures, sum-low (lay s) (a .row .now) (s .pre .0 .0) (s .pre .0 .1 .1) (a .first + c .before .before .loop .i) (omega (arith, s .pre .1 .0)))
+
+put-requires : tie.Need-put-requires Inv-loop μ-loop
+put-requires c κs =
+    let s = c .before .before .before .before .before .before in
+    let a = s .args in
+    let p = c .before .before .before .loop in
+    (s .pre .1 .1 .0, placed-room (a .bits .now) (a .start .at) (a .k) (vs s) (a .count) (count s) (s .pre .1 .1 .1) (p .i) (p .c .at) (p .bits) (p .inv .1) (omega arith))
+
+add-i : tie.Need-add-i Inv-loop μ-loop
+add-i c = search needs
+
+loop-less : tie.Need-loop-less Inv-loop μ-loop
+loop-less c = search needs
+
+loop-again : tie.Need-loop-again Inv-loop μ-loop
+loop-again c =
+    let s = c .before .before .before .before .before .before .before .before .before in
+    let a = s .args in
+    let p = c .before .before .before .before .before .before .loop in
+    let q = c .before .before .put in
+    let v = c .before .before .before .before .sum-at .ensures ∙ sum-of-part (lay s) (a .row .now) (a .first) (a .count) (p .i) (omega arith) in
+    (omega arith, placed-next (a .bits .now) (a .start .at) (a .k) (vs s) (a .count) (count s) (s .pre .1 .1 .1) (p .i) (p .c .at) (p .bits) (p .inv .1) (omega arith) _ _ (q .last .1 .0) v (q .ensures .0) (q .ensures .1))
+
+same-length : tie.Need-same-length Inv-loop μ-loop
+same-length c = search needs
+
+returns : tie.Need-returns Inv-loop μ-loop
+returns c =
+    let s = c .before .before .before .before in
+    let a = s .args in
+    let p = c .before .loop in
+    placed-end (a .bits .now) (a .start .at) (a .k) (vs s) (a .count) (count s) (s .pre .1 .1 .1) (p .i) (p .c .at) (p .bits) (p .inv .1) (omega arith)
+
+pub put-sums-spec : {M : Type 1} → statement M
+put-sums-spec =
+    tie.close
+    (tie.spec
+    Inv-loop
+    μ-loop
+    loop-holds
+    add-sum-at
+    sum-at-requires
+    cast-sum
+    put-requires
+    add-i
+    loop-less
+    loop-again
+    same-length
+    returns)
