@@ -5,5 +5,6 @@ pub mod Blocks
 pub mod Consistent
 pub mod List
 pub mod Demand3
+pub mod Shift
 pub mod Steps
 pub mod Candidate

@@ -28,7 +28,7 @@ fn after_bit(b: u8, y: &[u8], j: usize) -> usize
 }
 
 // How many bits of y the string x takes, bit by bit from the left.
-fn taken(x: &[u8], y: &[u8]) -> usize
+pub fn taken(x: &[u8], y: &[u8]) -> usize
     ensures { λ r. ⌜ (r ≤ length (now (y .entry))) × ((eat (now (x .entry)) (now (y .entry)) ≡ drop r (now (y .entry)))
         × (losses (now (x .entry)) (now (y .entry)) + r ≡ length (now (x .entry)))) ⌝ }
 {

@@ -63,7 +63,7 @@ pub fn sum_at(l1: usize, l2: usize, nc: usize, r: usize, row: &[u8], k: usize) -
 }
 
 // The number that the k bits from a place on spell.
-fn number_at(bits: &[u8], at: usize, k: usize) -> u8
+pub fn number_at(bits: &[u8], at: usize, k: usize) -> u8
     requires { ⌜ AllBits (now bits) × ((k ≤ 8) × (at + k ≤ length (now bits))) ⌝ }
     ensures { λ v. ⌜ v ≡ number k (drop at (now (bits .entry))) ⌝ }
 {

@@ -1,0 +1,71 @@
+// What a search has found: the list slice as it grows. Contracts cite specs/Found.antt; strings of bits are unpacked, one byte a
+// bit.
+ghost use mathlib.Core.Path.{_≡_};
+ghost use Rattle.rows.specs.Order.{Row};
+ghost use Rattle.message.specs.Layout.{rowBits};
+ghost use Rattle.found.specs.Found.{Given, Sent, Holding, Grown, InHand};
+use message::Layout;
+use rows::Kept;
+
+// Adds a consistent row to the rows held, its bits being x.
+fn add_sent(
+    l: Layout,
+    y: &[u8],
+    numbers: &[u16],
+    x: &[u8],
+    cap: usize,
+    list: &mut [u8],
+    kept: Kept,
+) -> Kept
+    requires { ⌜ Given l (now numbers) (now y) × (Sent l (now numbers) (now y) (now x)
+        × Holding l (now numbers) (now y) cap (now list) (kept .count) (kept .more)) ⌝ }
+    ensures { λ r. ⌜ Grown l (now (numbers .entry)) (now (y .entry)) cap (λ z. z ≡ now (x .entry))
+        (now (list .entry)) (kept .count) (kept .more) (now (list .exit)) (r .count) (r .more) ⌝ }
+{
+    let mut bytes: [u8; 255] = [0; 255];
+    bits::pack(x, &mut bytes);
+    let w = (x.len() + 7) / 8;
+    rows::insert(list, kept, cap, &bytes[0..w])
+}
+
+// Adds the row whose bits are x, if it is consistent.
+fn add_bits(
+    l: Layout,
+    y: &[u8],
+    numbers: &[u16],
+    x: &[u8],
+    cap: usize,
+    list: &mut [u8],
+    kept: Kept,
+) -> Kept
+    requires { ⌜ Given l (now numbers) (now y) × (Row (rowBits l) (now x)
+        × Holding l (now numbers) (now y) cap (now list) (kept .count) (kept .more)) ⌝ }
+    ensures { λ r. ⌜ Grown l (now (numbers .entry)) (now (y .entry)) cap (λ z. z ≡ now (x .entry))
+        (now (list .entry)) (kept .count) (kept .more) (now (list .exit)) (r .count) (r .more) ⌝ }
+{
+    if !consistent::is_consistent(l.l1, l.l2, l.nc, l.r, x, y, numbers) {
+        return kept;
+    }
+    add_sent(l, y, numbers, x, cap, list, kept)
+}
+
+// Adds the row in hand, given by the numbers of its chunks, if it is consistent.
+pub fn add_row(
+    l: Layout,
+    y: &[u8],
+    numbers: &[u16],
+    row: [u8; 255],
+    cap: usize,
+    list: &mut [u8],
+    kept: Kept,
+) -> Kept
+    requires { ⌜ Given l (now numbers) (now y) × Holding l (now numbers) (now y) cap (now list) (kept .count) (kept .more) ⌝ }
+    ensures { λ r. ⌜ Grown l (now (numbers .entry)) (now (y .entry)) cap (InHand l row)
+        (now (list .entry)) (kept .count) (kept .more) (now (list .exit)) (r .count) (r .more) ⌝ }
+{
+    let mut x: [u8; 2040] = [0; 2040];
+    let count = l.l1 * l.l2;
+    let n = count * l.nc;
+    lines::spread(l.nc, 0, 1, count, &row, &mut x, 0);
+    add_bits(l, y, numbers, &x[0..n], cap, list, kept)
+}

@@ -1,0 +1,88 @@
+-- `lines::put_chunk` meets its contract. The loop's invariant: the first i digits are pasted in. Assumes nothing.
+use borrow.Author.Needs.{needs}
+use Prim.Native.Nat.{ℕ, _+_, _-_, _/_, _%_, _^_, _<_, _≤_}
+use mathlib.Core.Path.{_≡_, refl, _∙_, sym}
+use native.Mathlib.Omega.{arith}
+use lib.ListN.{length, getD, take, length-set}
+use lib.Seq.{paste, paste-zero, take-all}
+use Rattle.bits.specs.Bits.{digits}
+use Rattle.bits.proofs.Copy.{paste-next}
+use Rattle.bits.proofs.Laws.{digits-at, length-digits}
+use Rattle.lines.proofs.put_chunk.Statement.{statement}
+use Rattle.lines.proofs.put_chunk.Tie as tie
+
+abbrev Inv-loop : tie.InvT-loop
+Inv-loop nc v out₀ at i₀ out i = (i ≤ nc) × ((length out ≡ length out₀) × (out ≡ paste out₀ at (digits nc v) i))
+
+abbrev μ-loop : tie.MeasureT-loop
+μ-loop nc v out₀ at i₀ out i = nc - i
+
+loop-holds : tie.Need-loop-holds Inv-loop μ-loop
+loop-holds c = (search needs, (search needs, paste-zero (c .args .out .now) (c .args .at) (digits (c .args .nc) (c .args .v))))
+
+sub-shift : tie.Need-sub-shift Inv-loop μ-loop
+sub-shift c = search needs
+
+sub-shift-2 : tie.Need-sub-shift-2 Inv-loop μ-loop
+sub-shift-2 c = search needs
+
+cast-out : tie.Need-cast-out Inv-loop μ-loop
+cast-out c = search needs
+
+shr-out : tie.Need-shr-out Inv-loop μ-loop
+shr-out c = search needs
+
+add-out : tie.Need-add-out Inv-loop μ-loop
+add-out c = search needs
+
+slice-write-out : tie.Need-slice-write-out Inv-loop μ-loop
+slice-write-out c = search needs
+
+add-i : tie.Need-add-i Inv-loop μ-loop
+add-i c = search needs
+
+loop-less : tie.Need-loop-less Inv-loop μ-loop
+loop-less c = search needs
+
+loop-again : tie.Need-loop-again Inv-loop μ-loop
+loop-again c =
+    let a = c .before .before .args in
+    let p = c .before .loop in
+    let k : ℕ = a .nc in
+    let shift : k - 1 - p .i ≡ k - (p .i + 1) = omega arith in
+    let bit : a .v / 2 ^ (k - 1 - p .i) % 2 ≡ getD (digits k (a .v)) (p .i) 0 =
+    rw shift (sym (digits-at k (a .v) (p .i) (omega arith)))
+    in
+    let n : p .i < length (digits k (a .v)) = omega (arith, length-digits k (a .v)) in
+    (omega arith, (simp length-set (p .inv .1 .0), rw (p .inv .1 .1, bit) (paste-next (a .out .now) (a .at) (digits k (a .v)) (p .i) (omega arith) n)))
+
+same-length : tie.Need-same-length Inv-loop μ-loop
+same-length c = search needs
+
+returns : tie.Need-returns Inv-loop μ-loop
+returns c =
+    let a = c .before .before .args in
+    let p = c .before .loop in
+    let e : p .i ≡ a .nc = omega arith in
+    let d = digits (a .nc) (a .v) in
+    let whole : take (p .i) d ≡ d = take-all (p .i) d (omega (arith, length-digits (a .nc) (a .v))) in
+    p .inv .1 .1 ∙ rw (whole, e) refl
+
+pub put-chunk-spec : {M : Type 1} → statement M
+put-chunk-spec =
+    tie.close
+    (tie.spec
+    Inv-loop
+    μ-loop
+    loop-holds
+    sub-shift
+    sub-shift-2
+    cast-out
+    shr-out
+    add-out
+    slice-write-out
+    add-i
+    loop-less
+    loop-again
+    same-length
+    returns)
