@@ -1,0 +1,75 @@
+-- What is known of a consistent row under a state: a line of chunks none of which is open has its sum, a row without open chunks
+-- is the one in hand, and its chunk at a cell is one of the contents tried. Rests on the laws of lines, found and cells.
+-- Assumes nothing.
+use Prim.Native.Nat.{ℕ, _+_, _*_, _/_, _%_, _<_, _≤_}
+use mathlib.Core.Path.{_≡_, sym, ap, _∙_}
+use mathlib.Core.Logic.{_⊎_, inl, inr, ⊎-elim}
+use mathlib.Core.List.{List}
+use native.Mathlib.Nat.{div-add-mod', div-lt-iff-lt-mul, mod-lt}
+use native.Mathlib.Omega.{arith}
+use lib.ListN.{length, getD, drop, set}
+use Rattle.bits.specs.Bits.{digits}
+use Rattle.bits.proofs.Laws.{lt-or-ge}
+use Rattle.vt.specs.Sum.{sum}
+use Rattle.message.specs.declared.Layout.{Layout}
+use Rattle.message.proofs.Legal.{legal-bounds}
+use Rattle.consistent.specs.Greedy.{losses, inAll}
+use Rattle.lines.specs.Lines.{values, line}
+use Rattle.lines.proofs.Lines.{block-line, string-line}
+use Rattle.found.specs.Found.{Given, Sent, InHand}
+use Rattle.found.proofs.Found.{sent-parts}
+use Rattle.cells.specs.Cells.{share, chunkOf, Open, Under, found}
+use Rattle.cells.specs.declared.Cells.{Cells}
+use Rattle.cells.proofs.Shares.{all-found}
+use Rattle.cells.proofs.State.{decide, in-hand, closed-column, closed-block}
+use Rattle.fill.specs.Fill.{With, Below}
+
+-- ---- one consistent row under a state
+module _ {l : Layout} {numbers y x : List ℕ} (given : Given l numbers y) (s : Sent l numbers y x)
+    {cells : Cells} {row : List ℕ} (u : Under l y cells row x) where
+  -- a chunk-string without an open chunk has its sum in the row in hand
+  pub string-has : (j : ℕ) → length (cells .column) ≡ 12 → j < l .l2 → share (cells .column) (cells .lost) j ≡ 0
+      → sum (line (l .nc) j (l .l2) (l .l1) row) ≡ getD numbers (l .l1 + j) 0
+  string-has j n h e =
+      ap sum (sym (closed-column l y cells row x u j n h e))
+      ∙ sym (string-line l x (s .0) j h)
+      ∙ sent-parts given x s .strings j h
+
+  -- and so a block
+  pub block-has : (i : ℕ) → length (cells .block) ≡ 12 → i < l .l1 → share (cells .block) (cells .lost) i ≡ 0
+      → sum (line (l .nc) (i * l .l2) 1 (l .l2) row) ≡ getD numbers i 0
+  block-has i n h e =
+      ap sum (sym (closed-block l y cells row x u i n h e))
+      ∙ sym (block-line l x (s .0) i h)
+      ∙ sent-parts given x s .blocks i h
+
+  -- where no cell is open the row is the one in hand
+  pub none-open : ((z : ℕ) → z < 12 → getD (cells .lost) z 0 ≡ 0) → InHand l row x
+  none-open n c h =
+      let low : 1 ≤ l .l2 = legal-bounds l (given .is-legal) .l2-low in
+      let row-of : c / l .l2 < l .l1 = div-lt-iff-lt-mul {k = l .l2} {x = c} {y = l .l1} (omega arith) .1 h in
+      rw (div-add-mod' c (l .l2)) at
+      (in-hand l y cells row x u (c / l .l2) (c % l .l2) row-of (mod-lt c (omega arith))
+      (λ o. absurd (omega (arith, o .1 .0, n (o .0) (o .1 .0 .0)))))
+
+-- ---- the contents of a cell, one after another
+module _ (l : Layout) (y : List ℕ) (cells : Cells) (row : List ℕ) (z v : ℕ) {x : List ℕ} where
+  -- a content loses the cell's count
+  pub with-loses : Open cells z → With l y cells row z v x
+      → losses (digits (l .nc) v) (drop (getD (cells .place) z 0) y) ≡ getD (cells .lost) z 0
+  with-loses o w = rw (w .1) at (w .0 .loses z o)
+
+  -- once it is put into the row in hand, the cell is found
+  pub with-found : (at : ℕ) → at ≡ chunkOf l cells z → at < length row → With l y cells row z v x
+      → Under l y (found cells z) (set row at v) x
+  with-found at e h w = rw e (decide l y cells row x (w .0) z v (rw e at h) (w .1))
+
+  -- below the next content are those below this one, and this one
+  pub below-next : (w : ℕ) → v ≡ w → Below l y cells row z (v + 1) x → Below l y cells row z v x ⊎ With l y cells row z w x
+  below-next w e b =
+      ⊎-elim (λ h. inl (b .0, h)) (λ h. inr (b .0, omega (arith, b .1)))
+      (lt-or-ge (getD (values l x) (chunkOf l cells z) 0) v)
+
+-- the losses that are still open fall when a cell is found
+pub lost-less : (cells : Cells) (z : ℕ) → Open cells z → inAll (found cells z .lost) < inAll (cells .lost)
+lost-less cells z o = omega (arith, all-found (cells .lost) z, o .1)

@@ -1,0 +1,52 @@
+-- `fill::chunk_of` meets its contract: the chunk is one of at most 255. Assumes nothing.
+use borrow.Author.Needs.{needs}
+use Prim.Native.Nat.{_+_, _*_, _<_}
+use mathlib.Core.Path.{_≡_, refl}
+use native.Mathlib.Omega.{arith}
+use Rattle.cells.specs.Cells.{chunkOf}
+use Rattle.cells.proofs.State.{chunk-low}
+use Rattle.fill.proofs.chunk_of.Statement.{statement}
+use Rattle.fill.proofs.chunk_of.Tie as tie
+
+-- what is computed, and that it is low
+stands : (c : tie.After-wide2) →
+    let a = c .before .before .before .before .args in
+    (c .before .before .wide .result * a .l .l2 + c .wide2 .result ≡ chunkOf (a .l) (a .t2) (a .z))
+    × (chunkOf (a .l) (a .t2) (a .z) < 255)
+stands c =
+    let s = c .before .before .before .before in
+    let q = s .pre .1 .1 in
+    (rw (c .before .before .wide .ensures, c .wide2 .ensures) refl, chunk-low (s .args .l) (s .pre .0) _ _ (q .0) (q .1))
+
+element-copy-out-wide : tie.Need-element-copy-out-wide
+element-copy-out-wide c = search needs
+
+wide-requires : tie.Need-wide-requires
+wide-requires c κs = search needs
+
+element-copy-out-wide-2 : tie.Need-element-copy-out-wide-2
+element-copy-out-wide-2 c = search needs
+
+wide-requires-2 : tie.Need-wide-requires-2
+wide-requires-2 c κs = search needs
+
+mul-result : tie.Need-mul-result
+mul-result c = omega (arith, stands (c .before) .0, stands (c .before) .1)
+
+add-result : tie.Need-add-result
+add-result c = omega (arith, stands (c .before) .0, stands (c .before) .1)
+
+returns : tie.Need-returns
+returns c = (stands (c .before) .0, omega (arith, stands (c .before) .0, stands (c .before) .1))
+
+pub chunk-of-spec : {M : Type 1} → statement M
+chunk-of-spec =
+    tie.close
+    (tie.spec
+    element-copy-out-wide
+    wide-requires
+    element-copy-out-wide-2
+    wide-requires-2
+    mul-result
+    add-result
+    returns)

@@ -1,0 +1,24 @@
+-- The rows under a state: what a test must not do to them, and how the content of one cell tells them apart.
+use Prim.Native.Nat.{ℕ, _<_}
+use mathlib.Core.Path.{_≡_}
+use mathlib.Core.Bool.{Bool, true}
+use mathlib.Core.List.{List}
+use lib.ListN.{getD}
+use Rattle.message.specs.declared.Layout.{Layout}
+use Rattle.lines.specs.Lines.{values}
+use Rattle.found.specs.Found.{Given, Sent}
+use Rattle.cells.specs.Cells.{chunkOf, Under}
+use Rattle.cells.specs.declared.Cells.{Cells}
+
+-- a test with this answer lets every consistent row under the state pass
+abbrev pub Passes : (l : Layout) (numbers : List ℕ) (cells : Cells) (row : List ℕ) (answer : Bool) → Type 0
+Passes l numbers cells row answer =
+    (y x : List ℕ) → Given l numbers y → Sent l numbers y x → Under l y cells row x → answer ≡ true
+
+-- the row x is under the state, and its chunk at cell z has the number v
+abbrev pub With : (l : Layout) (y : List ℕ) (cells : Cells) (row : List ℕ) (z v : ℕ) (x : List ℕ) → Type 0
+With l y cells row z v x = Under l y cells row x × (getD (values l x) (chunkOf l cells z) 0 ≡ v)
+
+-- the row x is under the state, and its chunk at cell z has a number below v
+abbrev pub Below : (l : Layout) (y : List ℕ) (cells : Cells) (row : List ℕ) (z v : ℕ) (x : List ℕ) → Type 0
+Below l y cells row z v x = Under l y cells row x × (getD (values l x) (chunkOf l cells z) 0 < v)

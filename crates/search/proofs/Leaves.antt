@@ -1,0 +1,94 @@
+-- The rows under a whole pattern: without heavy blocks the row in hand is whole, and with them the loss tables start from it. Assumes
+-- nothing.
+use Prim.Native.Nat.{ℕ, _+_, _-_, _*_, _/_, _%_, _<_, _≤_}
+use mathlib.Core.Path.{_≡_, refl, sym, ap, _∙_}
+use mathlib.Core.Logic.{inl, inr, ⊎-elim}
+use mathlib.Core.List.{List, _++_, append-nil}
+use native.Mathlib.Nat.{add-zero, mul-assoc, mod-lt, div-add-mod', div-lt-iff-lt-mul}
+use native.Mathlib.Omega.{arith}
+use borrow.Author.Tests.{le-ltb}
+use lib.ListN.{length, getD, take, drop, drop-of-length-le}
+use Rattle.bits.proofs.Laws.{lt-or-ge}
+use Rattle.message.specs.Layout.{rowBits, blockBits}
+use Rattle.message.specs.declared.Layout.{Layout}
+use Rattle.consistent.specs.Greedy.{losses, inAll}
+use Rattle.cells.specs.Cells.{share}
+use Rattle.cells.proofs.Shares.{share-some, share-single}
+use Rattle.found.specs.Found.{Given, Sent, InHand}
+use Rattle.tables.specs.Tables.{reached, Sound}
+use Rattle.tables.specs.Tables.{Under as UnderTable}
+use Rattle.tables.specs.declared.Heavy.{Heavy}
+use Rattle.tables.specs.declared.Table.{Table}
+use Rattle.search.specs.Patterns.{Under, HeavyIn}
+use Rattle.search.proofs.Counts.{blocks-lose}
+use Rattle.search.proofs.Totals.{total-next}
+
+-- the counts of a consistent row are all losses
+pub all-counts : {l : Layout} {numbers y : List ℕ} (given : Given l numbers y) (counts row x : List ℕ) → Sent l numbers y x
+    → Under l y counts (l .l1) row x → inAll (take (l .l1) counts) ≡ rowBits l - length y
+all-counts {l} given counts row x sent u = sym (u .own (l .l1) (omega arith)) ∙ blocks-lose given x sent
+
+module _ (l : Layout) (y counts : List ℕ) (heavy : Heavy) (left : List ℕ) (q : HeavyIn counts (l .l1) heavy left) where
+  -- no block is heavy
+  pub all-in-hand : 1 ≤ l .l2 → heavy .n ≡ 0 → (row x : List ℕ) → Under l y counts (l .l1) row x → InHand l row x
+  all-in-hand low z row x u c h =
+      let b : ℕ = c / l .l2 in
+      let j : ℕ = c % l .l2 in
+      let e : b * l .l2 + j ≡ c = div-add-mod' c (l .l2) in
+      let k : j < l .l2 = mod-lt c (omega arith) in
+      let m : b < l .l1 = div-lt-iff-lt-mul {k = l .l2} {x = c} {y = l .l1} (omega arith) .1 h in
+      let few : getD counts b 0 ≤ 1 =
+      ⊎-elim (λ p. omega arith) (λ (p : 2 ≤ getD counts b 0). let w = q .every b m p in absurd (omega (arith, w .1 .0))) (lt-or-ge (getD counts b 0) 2)
+      in
+      rw e at (u .light b j m k few)
+
+-- a table of which nothing is shared yet
+module _ (l : Layout) (m : ℕ) (counts : List ℕ) (heavy : Heavy) (t : Table) (q : HeavyIn counts (l .l1) heavy (t .left)) (none : t .cells .n ≡ 0)
+    (closed : (z : ℕ) → getD (t .cells .lost) z 0 ≡ 0) where
+  no-share : (i : ℕ) → share (t .cells .block) (t .cells .lost) i ≡ 0
+  no-share i =
+      ⊎-elim (λ p. omega arith)
+      (λ (p : 1 ≤ share (t .cells .block) (t .cells .lost) i). let w = share-some (t .cells .block) (t .cells .lost) i p in absurd (omega (arith, w .1 .1 .1, closed (w .0))))
+      (lt-or-ge (share (t .cells .block) (t .cells .lost) i) 1)
+
+  -- a heavy block has two losses or more
+  not-one : (s : ℕ) → getD (t .left) s 0 ≡ 1 → ⊥
+  not-one s e = ⊎-elim (λ k. omega (arith, q .many s k)) (λ k. omega (arith, q .spare s k)) (lt-or-ge s (heavy .n))
+
+  pub starts-sound : inAll (take (l .l1) counts) ≤ 12 → Sound l m heavy t
+  starts-sound h =
+      record {
+        few = omega (arith, q .few);
+        inside = q .inside;
+        placed = λ z o. absurd (omega (arith, closed z, o .1));
+        room = omega (arith, q .total);
+        fresh = λ z k. closed z;
+        spare = q .spare;
+        not-one = λ i e. let w = share-single (heavy .block) (t .left) i (omega (arith, no-share i)) in not-one (w .0) (w .1 .1 .1);
+      }
+
+  -- every row under the pattern is under it
+  pub starts-under : (y : List ℕ) → l .l1 ≤ length counts → (x : List ℕ) → Under l y counts (l .l1) (t .row) x → UnderTable l y heavy 0 0 t x
+  starts-under y room x u =
+      record {
+        ends = λ s k. u .own (getD (heavy .block) s 0 + 1) (omega (arith, q .inside s k)) ∙ sym (q .end s k);
+        shifts = λ s k.
+            let b : ℕ = getD (heavy .block) s 0 in
+            let i : b < l .l1 = q .inside s k in
+            let z : reached 0 0 s ≡ 0 = rw (le-ltb s 0 (omega arith)) refl in
+            let n : (b * l .l2 + reached 0 0 s) * l .nc ≡ b * blockBits l = rw (z, add-zero) (mul-assoc b (l .l2) (l .nc)) in
+            let o : losses (take ((b * l .l2 + reached 0 0 s) * l .nc) x) y ≡ inAll (take b counts) = ap (λ (p : ℕ). losses (take p x) y) n ∙ u .own b (omega arith) in
+            omega (arith, o, q .lost s k, q .end s k, total-next counts b (omega arith));
+        decided = λ i c h k. ⊎-elim
+            (λ (p : getD counts i 0 < 2). inr (inr (u .light i c h k (omega arith))))
+            (λ (p : 2 ≤ getD counts i 0).
+            let w = q .every i h p in
+            let z : reached 0 0 (w .0) ≡ 0 = rw (le-ltb (w .0) 0 (omega arith)) refl in
+            inl (w .0, (w .1 .0, (w .1 .1, omega (arith, z)))))
+            (lt-or-ge (getD counts i 0) 2);
+        loses = λ z o. absurd (omega (arith, closed z, o .1));
+      }
+
+-- a row that fills the slice that it is copied to
+pub copied : (row out hand : List ℕ) → length out ≤ length row → hand ≡ take 0 out ++ row ++ drop (0 + length row) out → hand ≡ row
+copied row out hand h e = e ∙ rw (drop-of-length-le out {i = 0 + length row} (omega arith)) (append-nil row)

@@ -1,0 +1,5 @@
+mod Totals
+mod Blocks
+mod HeavyBlocks
+mod Counts
+mod Leaves

@@ -1,0 +1,137 @@
+-- `search::mended_block` meets its contract: a block with one loss is the mended string of the next nb - 1 bits. Assumes nothing.
+use borrow.Author.Needs.{needs}
+use Prim.Native.Nat.{_+_, _-_, _*_, _≤_}
+use mathlib.Core.Path.{_≡_, sym, _∙_}
+use native.Mathlib.Nat.{mul-le-mul}
+use native.Mathlib.Omega.{arith}
+use lib.ListN.{length, take}
+use Rattle.bits.proofs.Laws.{bits-take}
+use Rattle.vt.specs.Mend.{mended}
+use Rattle.message.specs.Layout.{blockBits}
+use Rattle.message.proofs.Legal.{Bounds, Sizes, legal-bounds, sizes}
+use Rattle.search.proofs.Blocks.{one-not, one-put, too-short, length-short, bits-mended, length-mended, starts-mended}
+use Rattle.search.proofs.mended_block.Statement.{statement}
+use Rattle.search.proofs.mended_block.Tie as tie
+
+bounds : (c : tie.Start) → Bounds (c .args .l)
+bounds c = legal-bounds (c .args .l) (c .pre .0)
+
+high : (c : tie.Start) → Sizes (c .args .l)
+high c = sizes (c .args .l) (bounds c)
+
+-- a block has bits
+low : (c : tie.Start) → 1 ≤ blockBits (c .args .l)
+low c =
+    let b = bounds c in
+    let p : 1 * 3 ≤ c .args .l .l2 * c .args .l .nc = mul-le-mul (b .l2-low) (b .nc-low) in
+    omega arith
+
+mul-nb : tie.Need-mul-nb
+mul-nb c = omega (arith, high (c .before .before .before) .block)
+
+sub-short : tie.Need-sub-short
+sub-short c = omega (arith, low (c .before .before .before))
+
+returns : tie.Need-returns
+returns c =
+    let a = c .before .before .before .before .args in
+    too-short (a .l) (a .s) (a .i) 1 (a .rest .now) (a .row .now) (c .if1 .taken)
+
+has-sum-requires : tie.Need-has-sum-requires
+has-sum-requires c κs = let s = c .before .before .before .before in (s .pre .1 .0, high s .block)
+
+returns-2 : tie.Need-returns-2
+returns-2 c =
+    let h = c .before in
+    let s = h .before .before .before .before .before in
+    let a = s .args in
+    one-not (a .l) (a .s) (a .i) (a .rest .now) (a .row .now) (s .pre .1 .0) (sym (h .has-sum .ensures) ∙ c .if2 .taken)
+
+sub-mend-bits : tie.Need-sub-mend-bits
+sub-mend-bits c = search needs
+
+part-mend-bits-start : tie.Need-part-mend-bits-start
+part-mend-bits-start c = search needs
+
+part-mend-bits-end : tie.Need-part-mend-bits-end
+part-mend-bits-end c = search needs
+
+slice-aggregate-mend-bits : tie.Need-slice-aggregate-mend-bits
+slice-aggregate-mend-bits c = search needs
+
+mend-bits-requires : tie.Need-mend-bits-requires
+mend-bits-requires c κs =
+    let e = c .before .before .before .before in
+    let s = e .before .before .before .before in
+    let a = s .args in
+    let n = blockBits (a .l) in
+    let y : n - 1 - 0 ≡ n - 1 = omega arith in
+    let k : length (take (n - 1) (a .rest .now)) + 1 ≡ n = length-short n (a .s) (a .rest .now) (low s) (e .if1 .left) (s .pre .1 .0) (s .pre .1 .1 .0) in
+    let h = high s .block in
+    rw y ((bits-take (n - 1) (a .rest .now) (s .pre .1 .0), omega arith), (omega arith, omega arith))
+
+-- the block that is mended
+block : (c : tie.After-mend-bits) → let a = c .before .before .before .before .before .before .before .before .before .args in
+    take (blockBits (a .l) - 0) (c .mend-bits .last .1 .1 .0) ≡ mended (blockBits (a .l)) (a .s) (take (blockBits (a .l) - 1) (a .rest .now))
+block c =
+    let e = c .before .before .before .before .before in
+    let s = e .before .before .before .before in
+    let a = s .args in
+    let n = blockBits (a .l) in
+    let z : n - 0 ≡ n = omega arith in
+    let y : n - 1 - 0 ≡ n - 1 = omega arith in
+    rw z (starts-mended n (a .s) (a .rest .now) (low s) (e .if1 .left) (s .pre .1 .0) (s .pre .1 .1 .0) (c .mend-bits .last .1 .1 .0) _ (rw y at (c .mend-bits .ensures)))
+
+sub-put-block : tie.Need-sub-put-block
+sub-put-block c = search needs
+
+part-put-block-start : tie.Need-part-put-block-start
+part-put-block-start c = search needs
+
+part-put-block-end : tie.Need-part-put-block-end
+part-put-block-end c = omega (arith, high (c .before .before .before .before .before .before .before .before .before .before .before) .block)
+
+put-block-requires : tie.Need-put-block-requires
+put-block-requires c κs =
+    let m = c .before .before .before .before in
+    let e = m .before .before .before .before .before in
+    let s = e .before .before .before .before in
+    let a = s .args in
+    let n = blockBits (a .l) in
+    let b = bits-mended n (a .s) (a .rest .now) (low s) (e .if1 .left) (s .pre .1 .0) (s .pre .1 .1 .0) in
+    let k = length-mended n (a .s) (a .rest .now) (low s) (e .if1 .left) (s .pre .1 .0) (s .pre .1 .1 .0) in
+    (rw (block m) b, (bounds s .nc-high, (rw (block m) k, s .pre .1 .1 .1)))
+
+same-length : tie.Need-same-length
+same-length c = search needs
+
+returns-3 : tie.Need-returns-3
+returns-3 c =
+    let p = c .before .before in
+    let m = p .before .before .before .before .before in
+    let e = m .before .before .before .before .before in
+    let s = e .before .before .before .before in
+    let a = s .args in
+    one-put (a .l) (a .s) (a .i) (a .rest .now) (a .row .now) (p .put-block .last .1 .1 .1 .0) (low s) (e .if1 .left) (s .pre .1 .1 .1)
+    (rw (block m) at (p .put-block .ensures))
+
+pub mended-block-spec : {M : Type 1} → statement M
+mended-block-spec =
+    tie.close
+    (tie.spec
+    mul-nb
+    sub-short
+    returns
+    has-sum-requires
+    returns-2
+    sub-mend-bits
+    part-mend-bits-start
+    part-mend-bits-end
+    slice-aggregate-mend-bits
+    mend-bits-requires
+    sub-put-block
+    part-put-block-start
+    part-put-block-end
+    put-block-requires
+    same-length
+    returns-3)

@@ -1,0 +1,294 @@
+// The search for all consistent rows: loss patterns, block by block. Contracts cite specs/Patterns.antt.
+use cells::Cells;
+use message::Layout;
+use rows::Kept;
+use tables::Heavy;
+use tables::Table;
+ghost use mathlib.Core.Path.{_≡_};
+ghost use mathlib.Core.Bool.{true};
+ghost use mathlib.Core.List.{_++_};
+ghost use Prim.Native.Nat.{_+_, _*_, _-_, _<_, _≤_};
+ghost use lib.ListN.{length, getD, take, drop};
+ghost use Rattle.bits.specs.Bits.{AllBits, longest, bytesFor};
+ghost use Rattle.message.specs.Layout.{legal, rowBits, blockBits};
+ghost use Rattle.message.specs.Read.{fields};
+ghost use Rattle.consistent.specs.Consistent.{mostLosses};
+ghost use Rattle.consistent.specs.Greedy.{inAll};
+ghost use Rattle.found.specs.Found.{Given, Holding, Grown, Listed};
+ghost use Rattle.search.specs.Patterns.{Under, hasSum, Tried, HeavyIn, Joined, Begun};
+
+// One count for each block, and their sum.
+pub struct Pattern {
+    pub counts: [u8; 255],
+    pub total: usize,
+}
+
+// Whether at least nb bits remain and the next nb have the sum s.
+fn has_sum(nb: usize, s: usize, rest: &[u8]) -> bool
+    requires { ⌜ AllBits (now rest) × (nb ≤ longest) ⌝ }
+    ensures { λ r. ⌜ r ≡ hasSum nb s (now (rest .entry)) ⌝ }
+{
+    if rest.len() < nb {
+        return false;
+    }
+    vt::sum(&rest[0..nb]) == s
+}
+
+// The numbers of the l2 chunks of a block's bits, in block i of the row in hand.
+fn put_block(nc: usize, l2: usize, bits: &[u8], row: &mut [u8], i: usize)
+    requires { ⌜ AllBits (now bits) × ((nc ≤ 8) × ((length (now bits) ≡ l2 * nc) × (i * l2 + l2 ≤ length (now row)))) ⌝ }
+    ensures { λ _. ⌜ now (row .exit) ≡ take (i * l2) (now (row .entry)) ++ fields l2 nc (now (bits .entry)) ++ drop (i * l2 + l2) (now (row .entry)) ⌝ }
+{
+    let at = i * l2;
+    let mut j: usize = 0;
+    while j < l2 {
+        row[at + j] = message::sums::number_at(bits, j * nc, nc);
+        j += 1;
+    }
+}
+
+// Block i, whose sum is s, without a loss: it is the next nb bits, where these have its sum.
+fn whole_block(l: Layout, s: usize, i: usize, rest: &[u8], row: &mut [u8]) -> bool
+    requires { ⌜ (legal l ≡ true) × (AllBits (now rest) × (i * l .l2 + l .l2 ≤ length (now row))) ⌝ }
+    ensures { λ r. ⌜ Tried l s i 0 (now (rest .entry)) (now (row .entry)) (now (row .exit)) r ⌝ }
+{
+    let nb = l.l2 * l.nc;
+    if !has_sum(nb, s, rest) {
+        return false;
+    }
+    put_block(l.nc, l.l2, &rest[0..nb], row, i);
+    true
+}
+
+// Block i, whose sum is s, with one loss: it is mended from the next nb - 1 bits. Where the next nb bits have its sum, one loss yields
+// no row that none does not also yield; where fewer than nb bits remain, they have none.
+fn mended_block(l: Layout, s: usize, i: usize, rest: &[u8], row: &mut [u8]) -> bool
+    requires { ⌜ (legal l ≡ true) × (AllBits (now rest) × ((s ≤ blockBits l) × (i * l .l2 + l .l2 ≤ length (now row)))) ⌝ }
+    ensures { λ r. ⌜ Tried l s i 1 (now (rest .entry)) (now (row .entry)) (now (row .exit)) r ⌝ }
+{
+    let nb = l.l2 * l.nc;
+    let short = nb - 1;
+    if rest.len() < short {
+        return false;
+    }
+    if has_sum(nb, s, rest) {
+        return false;
+    }
+    let mut bits: [u8; 2040] = [0; 2040];
+    vt::mend_bits(s, &rest[0..short], &mut bits);
+    put_block(l.nc, l.l2, &bits[0..nb], row, i);
+    true
+}
+
+// Whether block i can lose a bits against the rest of the received row. With none or one loss it is put in the row in hand.
+fn try_block(l: Layout, numbers: &[u16], i: usize, a: usize, rest: &[u8], row: &mut [u8]) -> bool
+    requires { ⌜ (legal l ≡ true) × (AllBits (now rest) × ((i < length (now numbers)) × ((getD (now numbers) i 0 ≤ blockBits l)
+        × (i * l .l2 + l .l2 ≤ length (now row))))) ⌝ }
+    ensures { λ r. ⌜ Tried l (getD (now (numbers .entry)) i 0) i a (now (rest .entry)) (now (row .entry)) (now (row .exit)) r ⌝ }
+{
+    let s = numbers[i] as usize;
+    if a == 0 {
+        return whole_block(l, s, i, rest, row);
+    }
+    if a == 1 {
+        return mended_block(l, s, i, rest, row);
+    }
+    let nb = l.l2 * l.nc;
+    if nb < a {
+        return false;
+    }
+    if rest.len() < nb - a {
+        return false;
+    }
+    true
+}
+
+// The heavy blocks of a pattern, and the losses of each.
+struct Heavies {
+    heavy: Heavy,
+    left: [u8; 6],
+}
+
+// One heavy block more: block i loses a bits, and up to its end so many are lost.
+fn with_block(hs: Heavies, i: usize, a: u8, end: usize) -> Heavies
+    requires { ⌜ (hs .heavy .n < 6) × ((i < 256) × (end < 256)) ⌝ }
+    ensures { λ r. ⌜ Joined (hs .heavy) (hs .left) i a end (r .heavy) (r .left) ⌝ }
+{
+    let heavy = hs.heavy;
+    let n = heavy.n;
+    let mut block = heavy.block;
+    block[n] = i as u8;
+    let mut ends = heavy.end;
+    ends[n] = end as u8;
+    let mut left = hs.left;
+    left[n] = a;
+    let heavier = Heavy {
+        n: n + 1,
+        block: block,
+        end: ends,
+    };
+    Heavies {
+        heavy: heavier,
+        left: left,
+    }
+}
+
+// The blocks of a pattern with two losses or more. As all losses are at most twelve, these blocks are at most six.
+fn heavy_of(l1: usize, pattern: Pattern) -> Heavies
+    requires { ⌜ (l1 ≤ 255) × (inAll (take l1 (pattern .counts)) ≤ mostLosses) ⌝ }
+    ensures { λ r. ⌜ HeavyIn (pattern .counts) l1 (r .heavy) (r .left) ⌝ }
+{
+    let none = Heavy {
+        n: 0,
+        block: [0; 6],
+        end: [0; 6],
+    };
+    let mut hs = Heavies {
+        heavy: none,
+        left: [0; 6],
+    };
+    let mut end: usize = 0;
+    let mut i: usize = 0;
+    while i < l1 {
+        let a = pattern.counts[i];
+        end += bits::wide(a);
+        if 2 <= a {
+            hs = with_block(hs, i, a, end);
+        }
+        i += 1;
+    }
+    hs
+}
+
+// The row in hand without heavy blocks is whole; with them, the loss tables share out their losses.
+fn finish(
+    l: Layout,
+    y: &[u8],
+    numbers: &[u16],
+    pattern: Pattern,
+    hand: [u8; 255],
+    cap: usize,
+    list: &mut [u8],
+    kept: Kept,
+) -> Kept
+    requires { ⌜ Given l (now numbers) (now y) × (Holding l (now numbers) (now y) cap (now list) (kept .count) (kept .more)
+        × (inAll (take (l .l1) (pattern .counts)) ≤ mostLosses)) ⌝ }
+    ensures { λ r. ⌜ Grown l (now (numbers .entry)) (now (y .entry)) cap (Under l (now (y .entry)) (pattern .counts) (l .l1) hand)
+        (now (list .entry)) (kept .count) (kept .more) (now (list .exit)) (r .count) (r .more) ⌝ }
+{
+    let hs = heavy_of(l.l1, pattern);
+    let heavy = hs.heavy;
+    if heavy.n == 0 {
+        return found::add_row(l, y, numbers, hand, cap, list, kept);
+    }
+    let left = hs.left;
+    let cells = Cells {
+        n: 0,
+        block: [0; 12],
+        column: [0; 12],
+        lost: [0; 12],
+        place: [0; 12],
+    };
+    let t = Table {
+        left: left,
+        cells: cells,
+        row: hand,
+    };
+    tables::tables(l, y, numbers, heavy, t, cap, list, kept)
+}
+
+// The rows under a whole pattern: none where its losses are not all.
+fn one_pattern(
+    l: Layout,
+    y: &[u8],
+    numbers: &[u16],
+    pattern: Pattern,
+    row: &[u8],
+    cap: usize,
+    list: &mut [u8],
+    kept: Kept,
+) -> Kept
+    requires { ⌜ Given l (now numbers) (now y) × (Holding l (now numbers) (now y) cap (now list) (kept .count) (kept .more)
+        × ((length (now row) ≡ 255) × (pattern .total ≡ inAll (take (l .l1) (pattern .counts))))) ⌝ }
+    ensures { λ r. ⌜ Grown l (now (numbers .entry)) (now (y .entry)) cap (Under l (now (y .entry)) (pattern .counts) (l .l1) (now (row .entry)))
+        (now (list .entry)) (kept .count) (kept .more) (now (list .exit)) (r .count) (r .more) ⌝ }
+{
+    let k = l.l1 * l.l2 * l.nc - y.len();
+    if pattern.total != k {
+        return kept;
+    }
+    let mut hand: [u8; 255] = [0; 255];
+    bits::copy_to(row, &mut hand, 0);
+    finish(l, y, numbers, pattern, hand, cap, list, kept)
+}
+
+// The rows under the first counts of a pattern: each count that block i can lose is tried in turn, and the later blocks share out what
+// is left; the last block takes all of it. The part of the received row that starts at block i is handed on.
+fn patterns(
+    l: Layout,
+    y: &[u8],
+    numbers: &[u16],
+    rest: &[u8],
+    later: usize,
+    pattern: Pattern,
+    row: &mut [u8],
+    cap: usize,
+    list: &mut [u8],
+    kept: Kept,
+) -> Kept
+    requires { ⌜ (Given l (now numbers) (now y) × Holding l (now numbers) (now y) cap (now list) (kept .count) (kept .more))
+        × ((later ≤ l .l1) × Begun l (now y) (now rest) (pattern .counts) (now row) (l .l1 - later) (pattern .total)) ⌝ }
+    ensures { λ r. ⌜ Grown l (now (numbers .entry)) (now (y .entry)) cap (Under l (now (y .entry)) (pattern .counts) (l .l1 - later) (now (row .entry)))
+        (now (list .entry)) (kept .count) (kept .more) (now (list .exit)) (r .count) (r .more)
+        × (take ((l .l1 - later) * l .l2) (now (row .exit)) ≡ take ((l .l1 - later) * l .l2) (now (row .entry))) ⌝ }
+{
+    if later == 0 {
+        return one_pattern(l, y, numbers, pattern, row, cap, list, kept);
+    }
+    let nb = l.l2 * l.nc;
+    let i = l.l1 - later;
+    let most = l.l1 * nb - y.len() - pattern.total;
+    let mut first: usize = 0;
+    if later == 1 {
+        first = most;
+    }
+    let mut k = kept;
+    for a in first..=most {
+        if try_block(l, numbers, i, a, rest, row) {
+            let mut p = pattern;
+            p.counts[i] = a as u8;
+            p.total = pattern.total + a;
+            let from = nb - a;
+            k = patterns(
+                l,
+                y,
+                numbers,
+                &rest[from..],
+                later - 1,
+                p,
+                row,
+                cap,
+                list,
+                k,
+            );
+        }
+    }
+    k
+}
+
+// All consistent rows: the first of them, as many as fit, in the list slice.
+pub fn search(l: Layout, y: &[u8], numbers: &[u16], cap: usize, list: &mut [u8]) -> Kept
+    requires { ⌜ Given l (now numbers) (now y) × (cap * bytesFor (rowBits l) ≤ length (now list)) ⌝ }
+    ensures { λ r. ⌜ Listed l (now (numbers .entry)) (now (y .entry)) cap (now (list .entry)) (now (list .exit)) (r .count) (r .more) ⌝ }
+{
+    let start = Pattern {
+        counts: [0; 255],
+        total: 0,
+    };
+    let none = Kept {
+        count: 0,
+        more: false,
+    };
+    let mut row: [u8; 255] = [0; 255];
+    patterns(l, y, numbers, y, l.l1, start, &mut row, cap, list, none)
+}

@@ -1,0 +1,97 @@
+-- What sharing out answers: a chunk is read, or becomes a cell, or no row under the table has that share. Assumes nothing.
+use Prim.Native.Nat.{ℕ, _+_, _*_, _-_, _<_, _≤_}
+use mathlib.Core.Path.{_≡_, refl, sym, ap, _∙_}
+use mathlib.Core.Bool.{true, false}
+use mathlib.Core.List.{List}
+use native.Mathlib.Omega.{arith}
+use lib.ListN.{length, getD, drop}
+use Rattle.bits.specs.Bits.{longest, number}
+use Rattle.rows.specs.Order.{Row}
+use Rattle.message.specs.Layout.{rowBits}
+use Rattle.message.specs.declared.Layout.{Layout}
+use Rattle.message.proofs.Fields.{field-room}
+use Rattle.message.proofs.Legal.{legal-bounds, sizes}
+use Rattle.tables.specs.Tables.{chunkAt, lostBefore, Under, withChunk, withCell, Sharable, Shared}
+use Rattle.tables.specs.declared.Heavy.{Heavy}
+use Rattle.tables.specs.declared.Table.{Table}
+use Rattle.tables.proofs.Chunk.{chunk-inside, lost-before, place-within, chunk-within, chunk-read, chunk-loses}
+use Rattle.tables.proofs.Making.{Twelve, shift-at, under-read, under-cell, sound-read, room-cell, sound-cell}
+
+module _ {l : Layout} {y : List ℕ} {heavy : Heavy} {j h a : ℕ} {t : Table} (q : Sharable l y heavy j h a t) where
+  -- the chunk is one of the row
+  inside : chunkAt l heavy j h < l .l1 * l .l2
+  inside = chunk-inside (l .l1) (l .l2) (getD (heavy .block) h 0) j (q .sound .inside h (q .some)) (q .column)
+
+  -- what follows for its number, for its place, and for the column
+  pub chunk-low : chunkAt l heavy j h < 255
+  chunk-low = omega (arith, inside, sizes l (legal-bounds l (q .is-legal)) .chunks)
+
+  pub start-low : chunkAt l heavy j h * l .nc ≤ longest
+  start-low = omega (arith, field-room (l .l1 * l .l2) (l .nc) (chunkAt l heavy j h) inside, sizes l (legal-bounds l (q .is-legal)) .row)
+
+  pub received-low : length y ≤ longest
+  received-low = omega (arith, q .short, sizes l (legal-bounds l (q .is-legal)) .row)
+
+  pub column-low : j < 255
+  column-low = omega (arith, q .column, sizes l (legal-bounds l (q .is-legal)) .l2-high)
+
+  pub chunk-bits : l .nc ≤ 8
+  chunk-bits = legal-bounds l (q .is-legal) .nc-high
+
+-- where the chunk is read is known
+module _ {l : Layout} {y : List ℕ} {heavy : Heavy} {j h a : ℕ} {t : Table} (q : Sharable l y heavy j h a t) (place : ℕ)
+    (read : (d : ℕ) → d + getD (t .left) h 0 ≡ getD (heavy .end) h 0 → d ≤ chunkAt l heavy j h * l .nc
+    → chunkAt l heavy j h * l .nc - d ≤ length y → place ≡ chunkAt l heavy j h * l .nc - d) where
+  -- a row under the table
+  module _ (x : List ℕ) (row : Row (rowBits l) x) (u : Under l y heavy j h t x) where
+    abbrev lost : ℕ
+    lost = lostBefore l y x (chunkAt l heavy j h)
+
+    place-at : place ≡ chunkAt l heavy j h * l .nc - lost
+    place-at = read lost (shift-at u (q .some)) (lost-before l y x row (chunkAt l heavy j h) (inside q)) (place-within l y x row (chunkAt l heavy j h) (inside q))
+
+  -- too few bits are left to read the chunk
+  pub shared-short : a ≡ 0 → length y < place + l .nc → Shared l y heavy j h a t false t
+  shared-short z short =
+      record {
+        sound = q .sound;
+        under = λ x row u own. absurd (omega (arith, place-at x row u, chunk-within l y x row (chunkAt l heavy j h) (inside q) (lost x row u) a refl own z));
+      }
+
+  -- the chunk is read
+  pub shared-read : a ≡ 0 → length (t .row) ≡ 255
+      → Shared l y heavy j h a t true (withChunk t (chunkAt l heavy j h) (number (l .nc) (drop place y)))
+  shared-read z n =
+      record {
+        sound = sound-read (q .sound) (chunkAt l heavy j h) (number (l .nc) (drop place y));
+        under = λ x row u own. (
+          refl,
+          under-read u (q .some) (number (l .nc) (drop place y)) (rw z at own)
+              (chunk-read l y x row (chunkAt l heavy j h) (inside q) (lost x row u) a refl own z ∙ ap (λ (p : ℕ). number (l .nc) (drop p y)) (sym (place-at x row u)))
+              (omega (arith, chunk-low q)),
+        );
+      }
+
+  -- the received row does not reach to where the chunk would be read
+  pub shared-beyond : length y < place → Shared l y heavy j h a t false t
+  shared-beyond beyond =
+      record {
+        sound = q .sound;
+        under = λ x row u own. absurd (omega (arith, place-at x row u, place-within l y x row (chunkAt l heavy j h) (inside q)));
+      }
+
+  -- the chunk becomes a cell
+  module _ (pos : 0 < a) (in-left : length (t .left) ≡ 6) (in-block : length (heavy .block) ≡ 6) (twelve : Twelve (t .cells)) where
+    pub cell-room : t .cells .n < 12
+    cell-room = room-cell (q .sound) j h a place (q .some) (q .less) in-left in-block pos
+
+    pub shared-cell : place ≤ length y → Shared l y heavy j h a t true (withCell t h (getD (heavy .block) h 0) j a place)
+    shared-cell within =
+        record {
+          sound = sound-cell (q .sound) j h a place (q .some) (q .less) in-left in-block pos (q .column) within twelve;
+          under = λ x row u own. (
+            refl,
+            under-cell u (q .some) a place own pos (q .less) (omega (arith, q .some, q .sound .few)) twelve cell-room (q .sound .fresh (t .cells .n) (omega arith))
+                (rw (place-at x row u) (chunk-loses l y x row (chunkAt l heavy j h) (inside q) (lost x row u) a refl own)),
+          );
+        }

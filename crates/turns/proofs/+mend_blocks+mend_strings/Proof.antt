@@ -1,0 +1,303 @@
+-- `turns::mend_blocks` and `turns::mend_strings` meet their contracts, by one induction on the losses that are open: each calls the
+-- other only after a cell was found. Assumes nothing.
+use mathlib.Core.Bool.{true, false}
+use native.Mathlib.Omega.{arith}
+use borrow.Author.Needs.{needs}
+use borrow.Author.Tests.{not-true, not-false}
+use Rattle.turns.proofs.Advance.{still-none, grown-failed, grown-advanced}
+use Prim.Native.Nat.{ℕ, _<_}
+use Rattle.consistent.specs.Greedy.{inAll}
+use borrow.Fn.Kinds.{In}
+use borrow.Fn.PlainCycle.{Measures, is, falls, and}
+use Rattle.turns.proofs.mend_blocks.Reads as mend-blocks
+use Rattle.turns.proofs.mend_blocks.Kinds as mend-blocks-kinds
+use Rattle.turns.proofs.+mend_blocks+mend_strings.Lts-mend_blocks as mend-blocks-lts
+use Rattle.turns.proofs.mend_strings.Reads as mend-strings
+use Rattle.turns.proofs.mend_strings.Kinds as mend-strings-kinds
+use Rattle.turns.proofs.+mend_blocks+mend_strings.Lts-mend_strings as mend-strings-lts
+use Rattle.fill.proofs.fill.Reads as fill-reads
+use Rattle.turns.proofs.take_turn.Reads as take-turn-reads
+use Rattle.turns.proofs.+mend_blocks+mend_strings.{statement}
+use Rattle.turns.proofs.+mend_blocks+mend_strings.Tie.{close}
+
+abbrev μ-mend-blocks : Measures 3 mend-blocks-kinds.ps ℕ
+μ-mend-blocks κs a = inAll (a .1 .1 .1 .0 .lost)
+
+abbrev μ-mend-strings : Measures 3 mend-strings-kinds.ps ℕ
+μ-mend-strings κs a = inAll (a .1 .1 .1 .0 .lost)
+
+abbrev mend-blocks-at : ℕ → In 3 mend-blocks-kinds.ps
+mend-blocks-at t =
+    and 3 mend-blocks-kinds.ps (is 3 mend-blocks-kinds.ps μ-mend-blocks t) mend-blocks.Pre
+
+abbrev mend-blocks-below : ℕ → In 3 mend-blocks-kinds.ps
+mend-blocks-below t =
+    and 3 mend-blocks-kinds.ps (falls 3 mend-blocks-kinds.ps _<_ μ-mend-blocks t) mend-blocks.Pre
+
+abbrev mend-strings-at : ℕ → In 3 mend-strings-kinds.ps
+mend-strings-at t =
+    and 3 mend-strings-kinds.ps (is 3 mend-strings-kinds.ps μ-mend-strings t) mend-strings.Pre
+
+abbrev mend-strings-below : ℕ → In 3 mend-strings-kinds.ps
+mend-strings-below t =
+    and
+    3
+    mend-strings-kinds.ps
+    (falls 3 mend-strings-kinds.ps _<_ μ-mend-strings t)
+    mend-strings.Pre
+
+mend-blocks-take-turn-requires : (t : ℕ) → mend-blocks-lts.Need-take-turn-requires (
+  take-turn-reads.Asked,
+  take-turn-reads.Learnt,
+  fill-reads.Asked,
+  fill-reads.Learnt,
+  mend-strings-below t,
+  mend-strings.Post,
+) (mend-blocks-at t) mend-blocks.Post
+mend-blocks-take-turn-requires t c κs =
+    let s = c .before .before .before in
+    (s .pre .1 .0, s .pre .1 .1 .1 .0)
+
+mend-blocks-returns : (t : ℕ) → mend-blocks-lts.Need-returns (
+  take-turn-reads.Asked,
+  take-turn-reads.Learnt,
+  fill-reads.Asked,
+  fill-reads.Learnt,
+  mend-strings-below t,
+  mend-strings.Post,
+) (mend-blocks-at t) mend-blocks.Post
+mend-blocks-returns t c =
+    let s = c .before .before .before .before .before .before in
+    grown-failed (s .args .l) (s .args .numbers .now) (s .args .y .now) (s .args .cells) (s .args .row) (c .before .before .take-turn .result) (c .before .before .take-turn .ensures .0) (s .pre .1 .1 .0) (not-true _ (c .if1 .taken))
+
+mend-blocks-fill-requires : (t : ℕ) → mend-blocks-lts.Need-fill-requires (
+  take-turn-reads.Asked,
+  take-turn-reads.Learnt,
+  fill-reads.Asked,
+  fill-reads.Learnt,
+  mend-strings-below t,
+  mend-strings.Post,
+) (mend-blocks-at t) mend-blocks.Post
+mend-blocks-fill-requires t c κs =
+    let s = c .before .before .before .before .before .before .before .before .before .before .before in
+    let q = c .before .before .before .before .before .before .before .take-turn in (
+      s .pre .1 .0,
+      (
+        s .pre .1 .1 .0,
+        (
+          q .ensures .0 .placed,
+          (
+            q .ensures .1 (not-false _ (c .before .before .before .before .before .if1 .left)),
+            still-none (s .args .l) (s .args .numbers .now) (s .args .y .now) (s .args .cells) (s .args .row) (q .result) (q .ensures .0) true (not-true _ (c .before .if2 .taken)) (s .pre .1 .1 .1 .1),
+          ),
+        ),
+      ),
+    )
+
+mend-blocks-same-length : (t : ℕ) → mend-blocks-lts.Need-same-length (
+  take-turn-reads.Asked,
+  take-turn-reads.Learnt,
+  fill-reads.Asked,
+  fill-reads.Learnt,
+  mend-strings-below t,
+  mend-strings.Post,
+) (mend-blocks-at t) mend-blocks.Post
+mend-blocks-same-length t c = search needs
+
+mend-blocks-returns-2 : (t : ℕ) → mend-blocks-lts.Need-returns-2 (
+  take-turn-reads.Asked,
+  take-turn-reads.Learnt,
+  fill-reads.Asked,
+  fill-reads.Learnt,
+  mend-strings-below t,
+  mend-strings.Post,
+) (mend-blocks-at t) mend-blocks.Post
+mend-blocks-returns-2 t c =
+    let s = c .before .before .before .before .before .before .before .before .before .before .before .before .before .before in
+    let q = c .before .before .before .before .before .before .before .before .before .before .take-turn in
+    grown-advanced (s .args .l) (s .args .numbers .now) (s .args .y .now) (s .args .cells) (s .args .row) (q .result) (q .ensures .0) (c .before .before .fill .ensures)
+
+mend-blocks-mend-strings-requires : (t : ℕ) → mend-blocks-lts.Need-mend-strings-requires (
+  take-turn-reads.Asked,
+  take-turn-reads.Learnt,
+  fill-reads.Asked,
+  fill-reads.Learnt,
+  mend-strings-below t,
+  mend-strings.Post,
+) (mend-blocks-at t) mend-blocks.Post
+mend-blocks-mend-strings-requires t c κs =
+    let s = c .before .before .before .before .before .before .before .before .before .before .before in
+    let q = c .before .before .before .before .before .before .before .take-turn in (
+      omega (arith, s .pre .0, q .ensures .0 .fewer (not-false _ (c .before .if2 .left))),
+      (s .pre .1 .0, (s .pre .1 .1 .0, (q .ensures .0 .placed, q .ensures .1 (not-false _ (c .before .before .before .before .before .if1 .left))))),
+    )
+
+mend-blocks-same-length-2 : (t : ℕ) → mend-blocks-lts.Need-same-length-2 (
+  take-turn-reads.Asked,
+  take-turn-reads.Learnt,
+  fill-reads.Asked,
+  fill-reads.Learnt,
+  mend-strings-below t,
+  mend-strings.Post,
+) (mend-blocks-at t) mend-blocks.Post
+mend-blocks-same-length-2 t c = search needs
+
+mend-blocks-returns-3 : (t : ℕ) → mend-blocks-lts.Need-returns-3 (
+  take-turn-reads.Asked,
+  take-turn-reads.Learnt,
+  fill-reads.Asked,
+  fill-reads.Learnt,
+  mend-strings-below t,
+  mend-strings.Post,
+) (mend-blocks-at t) mend-blocks.Post
+mend-blocks-returns-3 t c =
+    let s = c .before .before .before .before .before .before .before .before .before .before .before .before .before .before in
+    let q = c .before .before .before .before .before .before .before .before .before .before .take-turn in
+    grown-advanced (s .args .l) (s .args .numbers .now) (s .args .y .now) (s .args .cells) (s .args .row) (q .result) (q .ensures .0) (c .before .before .mend-strings .ensures)
+
+mend-strings-take-turn-requires : (t : ℕ) → mend-strings-lts.Need-take-turn-requires (
+  take-turn-reads.Asked,
+  take-turn-reads.Learnt,
+  fill-reads.Asked,
+  fill-reads.Learnt,
+  mend-blocks-below t,
+  mend-blocks.Post,
+) (mend-strings-at t) mend-strings.Post
+mend-strings-take-turn-requires t c κs =
+    let s = c .before .before .before in
+    (s .pre .1 .0, s .pre .1 .1 .1 .0)
+
+mend-strings-returns : (t : ℕ) → mend-strings-lts.Need-returns (
+  take-turn-reads.Asked,
+  take-turn-reads.Learnt,
+  fill-reads.Asked,
+  fill-reads.Learnt,
+  mend-blocks-below t,
+  mend-blocks.Post,
+) (mend-strings-at t) mend-strings.Post
+mend-strings-returns t c =
+    let s = c .before .before .before .before .before .before in
+    grown-failed (s .args .l) (s .args .numbers .now) (s .args .y .now) (s .args .cells) (s .args .row) (c .before .before .take-turn .result) (c .before .before .take-turn .ensures .0) (s .pre .1 .1 .0) (not-true _ (c .if1 .taken))
+
+mend-strings-fill-requires : (t : ℕ) → mend-strings-lts.Need-fill-requires (
+  take-turn-reads.Asked,
+  take-turn-reads.Learnt,
+  fill-reads.Asked,
+  fill-reads.Learnt,
+  mend-blocks-below t,
+  mend-blocks.Post,
+) (mend-strings-at t) mend-strings.Post
+mend-strings-fill-requires t c κs =
+    let s = c .before .before .before .before .before .before .before .before .before .before .before in
+    let q = c .before .before .before .before .before .before .before .take-turn in (
+      s .pre .1 .0,
+      (
+        s .pre .1 .1 .0,
+        (
+          q .ensures .0 .placed,
+          (
+            still-none (s .args .l) (s .args .numbers .now) (s .args .y .now) (s .args .cells) (s .args .row) (q .result) (q .ensures .0) false (not-true _ (c .before .if2 .taken)) (s .pre .1 .1 .1 .1),
+            q .ensures .1 (not-false _ (c .before .before .before .before .before .if1 .left)),
+          ),
+        ),
+      ),
+    )
+
+mend-strings-same-length : (t : ℕ) → mend-strings-lts.Need-same-length (
+  take-turn-reads.Asked,
+  take-turn-reads.Learnt,
+  fill-reads.Asked,
+  fill-reads.Learnt,
+  mend-blocks-below t,
+  mend-blocks.Post,
+) (mend-strings-at t) mend-strings.Post
+mend-strings-same-length t c = search needs
+
+mend-strings-returns-2 : (t : ℕ) → mend-strings-lts.Need-returns-2 (
+  take-turn-reads.Asked,
+  take-turn-reads.Learnt,
+  fill-reads.Asked,
+  fill-reads.Learnt,
+  mend-blocks-below t,
+  mend-blocks.Post,
+) (mend-strings-at t) mend-strings.Post
+mend-strings-returns-2 t c =
+    let s = c .before .before .before .before .before .before .before .before .before .before .before .before .before .before in
+    let q = c .before .before .before .before .before .before .before .before .before .before .take-turn in
+    grown-advanced (s .args .l) (s .args .numbers .now) (s .args .y .now) (s .args .cells) (s .args .row) (q .result) (q .ensures .0) (c .before .before .fill .ensures)
+
+mend-strings-mend-blocks-requires : (t : ℕ) → mend-strings-lts.Need-mend-blocks-requires (
+  take-turn-reads.Asked,
+  take-turn-reads.Learnt,
+  fill-reads.Asked,
+  fill-reads.Learnt,
+  mend-blocks-below t,
+  mend-blocks.Post,
+) (mend-strings-at t) mend-strings.Post
+mend-strings-mend-blocks-requires t c κs =
+    let s = c .before .before .before .before .before .before .before .before .before .before .before in
+    let q = c .before .before .before .before .before .before .before .take-turn in (
+      omega (arith, s .pre .0, q .ensures .0 .fewer (not-false _ (c .before .if2 .left))),
+      (s .pre .1 .0, (s .pre .1 .1 .0, (q .ensures .0 .placed, q .ensures .1 (not-false _ (c .before .before .before .before .before .if1 .left))))),
+    )
+
+mend-strings-same-length-2 : (t : ℕ) → mend-strings-lts.Need-same-length-2 (
+  take-turn-reads.Asked,
+  take-turn-reads.Learnt,
+  fill-reads.Asked,
+  fill-reads.Learnt,
+  mend-blocks-below t,
+  mend-blocks.Post,
+) (mend-strings-at t) mend-strings.Post
+mend-strings-same-length-2 t c = search needs
+
+mend-strings-returns-3 : (t : ℕ) → mend-strings-lts.Need-returns-3 (
+  take-turn-reads.Asked,
+  take-turn-reads.Learnt,
+  fill-reads.Asked,
+  fill-reads.Learnt,
+  mend-blocks-below t,
+  mend-blocks.Post,
+) (mend-strings-at t) mend-strings.Post
+mend-strings-returns-3 t c =
+    let s = c .before .before .before .before .before .before .before .before .before .before .before .before .before .before in
+    let q = c .before .before .before .before .before .before .before .before .before .before .take-turn in
+    grown-advanced (s .args .l) (s .args .numbers .now) (s .args .y .now) (s .args .cells) (s .args .row) (q .result) (q .ensures .0) (c .before .before .mend-blocks .ensures)
+
+pub +mend-blocks+mend-strings-spec : {M : Type 1} → statement M
++mend-blocks+mend-strings-spec = close μ-mend-blocks μ-mend-strings (λ t. mend-blocks-lts.spec (
+  take-turn-reads.Asked,
+  take-turn-reads.Learnt,
+  fill-reads.Asked,
+  fill-reads.Learnt,
+  mend-strings-below t,
+  mend-strings.Post,
+)
+    (mend-blocks-at t)
+    mend-blocks.Post
+    (mend-blocks-take-turn-requires t)
+    (mend-blocks-returns t)
+    (mend-blocks-fill-requires t)
+    (mend-blocks-same-length t)
+    (mend-blocks-returns-2 t)
+    (mend-blocks-mend-strings-requires t)
+    (mend-blocks-same-length-2 t)
+    (mend-blocks-returns-3 t))
+    λ t. mend-strings-lts.spec (
+      take-turn-reads.Asked,
+      take-turn-reads.Learnt,
+      fill-reads.Asked,
+      fill-reads.Learnt,
+      mend-blocks-below t,
+      mend-blocks.Post,
+    )
+    (mend-strings-at t)
+    mend-strings.Post
+    (mend-strings-take-turn-requires t)
+    (mend-strings-returns t)
+    (mend-strings-fill-requires t)
+    (mend-strings-same-length t)
+    (mend-strings-returns-2 t)
+    (mend-strings-mend-blocks-requires t)
+    (mend-strings-same-length-2 t)
+    (mend-strings-returns-3 t)

@@ -1,0 +1,230 @@
+// Mending by turns: chunk-strings and blocks that have exactly one open loss are mended by their sums, until neither kind has one.
+// Contracts cite specs/Turns.antt.
+use cells::Cells;
+use lines::Mended;
+use message::Layout;
+use rows::Kept;
+ghost use mathlib.Core.Path.{_≡_};
+ghost use mathlib.Core.Bool.{true};
+ghost use mathlib.Core.List.{List};
+ghost use Prim.Native.Nat.{ℕ, _+_, _*_, _<_, _≤_};
+ghost use lib.ListN.{length, getD, drop};
+ghost use Rattle.bits.specs.Bits.{AllBits};
+ghost use Rattle.message.specs.Layout.{legal as isLegal};
+ghost use Rattle.lines.specs.Lines.{Inside};
+ghost use Rattle.found.specs.Found.{Given, Sent, Holding, Grown};
+ghost use Rattle.cells.specs.Cells.{NoSingle, SingleAt, Placed, Under, found};
+ghost use Rattle.turns.specs.Turns.{keysOf, lineOf, Short, Turned};
+
+// A line of chunks with one of them marked: its first chunk, how far its chunks stand apart, how many they are, which one is marked,
+// and which of the numbers given is the line's sum.
+pub struct Line {
+    pub start: usize,
+    pub stride: usize,
+    pub count: usize,
+    pub hole: usize,
+    pub number: usize,
+}
+
+// What a turn leaves: whether a row can be under the state at all, whether a cell was found, and the state afterwards.
+pub struct Turn {
+    pub ok: bool,
+    pub any: bool,
+    pub cells: Cells,
+    pub row: [u8; 255],
+}
+
+// The line of chunk j of block i: its chunk-string or its block.
+fn line_of(strings: bool, l: Layout, i: usize, j: usize) -> Line
+    requires { ⌜ (isLegal l ≡ true) × ((i < l .l1) × (j < l .l2)) ⌝ }
+    ensures { λ r. ⌜ r ≡ lineOf strings l i j ⌝ }
+{
+    if strings {
+        return Line {
+            start: j,
+            stride: l.l2,
+            count: l.l1,
+            hole: i,
+            number: l.l1 + j,
+        };
+    }
+    Line {
+        start: i * l.l2,
+        stride: 1,
+        count: l.l2,
+        hole: j,
+        number: i,
+    }
+}
+
+// The first cell that has the only open loss of its chunk-string, or of its block; 12 where there is none.
+fn single(strings: bool, cells: Cells) -> usize
+    ensures { λ r. ⌜ (r ≤ 12) × ((r < 12 → SingleAt (keysOf strings cells) (cells .lost) r)
+        × (r ≡ 12 → NoSingle (keysOf strings cells) (cells .lost))) ⌝ }
+{
+    let lost = cells.lost;
+    if strings {
+        let column = cells.column;
+        return cells::single(column, lost);
+    }
+    let block = cells.block;
+    cells::single(block, lost)
+}
+
+// The chunk of a cell that lost one bit, mended in its line by the line's sum. It fails where too few bits are left, where the line
+// does not give its other chunks back, or where the chunk found does not lose just one bit against y from the place on.
+fn mend_cell(nc: usize, y: &[u8], place: usize, n: Line, sum: usize, row: [u8; 255]) -> Mended
+    requires { ⌜ Inside nc (n .start) (n .stride) (n .count) 255 × ((1 ≤ nc) × ((n .hole < n .count) × ((sum ≤ n .count * nc)
+        × ((place ≤ length (now y)) × AllBits (now y))))) ⌝ }
+    ensures { λ r. ⌜ ((us : List ℕ) → Short nc n sum (drop place (now (y .entry))) row us
+        → (r .ok ≡ true) × (r .value ≡ getD us (n .start + n .hole * n .stride) 0)) ⌝ }
+{
+    let none = Mended {
+        ok: false,
+        value: 0,
+    };
+    let short = nc - 1;
+    if y.len() - place < short {
+        return none;
+    }
+    let end = place + short;
+    let m = lines::mend_line(
+        nc,
+        n.start,
+        n.stride,
+        n.count,
+        n.hole,
+        sum,
+        &y[place..end],
+        &row,
+    );
+    if !cells::loses_just(nc, m.value, y, place, 1) {
+        return none;
+    }
+    m
+}
+
+// Cell z, which has the only open loss of its chunk-string, or of its block, is found.
+fn mend_one(
+    strings: bool,
+    l: Layout,
+    y: &[u8],
+    numbers: &[u16],
+    cells: Cells,
+    row: [u8; 255],
+    z: usize,
+) -> Turn
+    requires { ⌜ Given l (now numbers) (now y) × (Placed l (length (now y)) cells
+        × ((z < 12) × SingleAt (keysOf strings cells) (cells .lost) z)) ⌝ }
+    ensures { λ r. ⌜ (r .any ≡ true) × ((r .cells ≡ found cells z)
+        × ((x : List ℕ) → Sent l (now (numbers .entry)) (now (y .entry)) x → Under l (now (y .entry)) cells row x
+        → (r .ok ≡ true) × Under l (now (y .entry)) (r .cells) (r .row) x)) ⌝ }
+{
+    let i = bits::wide(cells.block[z]);
+    let j = bits::wide(cells.column[z]);
+    let n = line_of(strings, l, i, j);
+    let k = n.number;
+    let sum = numbers[k] as usize;
+    let m = mend_cell(l.nc, y, cells.place[z], n, sum, row);
+    let mut next = cells;
+    next.lost[z] = 0;
+    let at = i * l.l2 + j;
+    let mut mended = row;
+    mended[at] = m.value;
+    Turn {
+        ok: m.ok,
+        any: true,
+        cells: next,
+        row: mended,
+    }
+}
+
+// A turn: while a chunk-string, or a block, has exactly one open loss, it is mended by its sum.
+fn take_turn(
+    strings: bool,
+    l: Layout,
+    y: &[u8],
+    numbers: &[u16],
+    cells: Cells,
+    row: [u8; 255],
+) -> Turn
+    requires { ⌜ Given l (now numbers) (now y) × Placed l (length (now y)) cells ⌝ }
+    ensures { λ r. ⌜ Turned strings l (now (numbers .entry)) (now (y .entry)) cells row r ⌝ }
+{
+    let mut t = Turn {
+        ok: true,
+        any: false,
+        cells: cells,
+        row: row,
+    };
+    let mut z = single(strings, cells);
+    while z < 12 {
+        let short = t.cells;
+        let held = t.row;
+        t = mend_one(strings, l, y, numbers, short, held, z);
+        if !t.ok {
+            return t;
+        }
+        let rest = t.cells;
+        z = single(strings, rest);
+    }
+    t
+}
+
+// Chunk-strings are mended, where no block has exactly one open loss. If one was, the blocks have their turn; if none was, the cells
+// that are left are filled.
+pub fn mend_strings(
+    l: Layout,
+    y: &[u8],
+    numbers: &[u16],
+    cells: Cells,
+    row: [u8; 255],
+    cap: usize,
+    list: &mut [u8],
+    kept: Kept,
+) -> Kept
+    requires { ⌜ Given l (now numbers) (now y) × (Holding l (now numbers) (now y) cap (now list) (kept .count) (kept .more)
+        × (Placed l (length (now y)) cells × NoSingle (cells .block) (cells .lost))) ⌝ }
+    ensures { λ r. ⌜ Grown l (now (numbers .entry)) (now (y .entry)) cap (Under l (now (y .entry)) cells row)
+        (now (list .entry)) (kept .count) (kept .more) (now (list .exit)) (r .count) (r .more) ⌝ }
+{
+    let t = take_turn(true, l, y, numbers, cells, row);
+    if !t.ok {
+        return kept;
+    }
+    let rest = t.cells;
+    let held = t.row;
+    if !t.any {
+        return fill::fill(l, y, numbers, rest, held, cap, list, kept);
+    }
+    mend_blocks(l, y, numbers, rest, held, cap, list, kept)
+}
+
+// Blocks are mended, where no chunk-string has exactly one open loss. If one was, the chunk-strings have their turn; if none was, the
+// cells that are left are filled.
+pub fn mend_blocks(
+    l: Layout,
+    y: &[u8],
+    numbers: &[u16],
+    cells: Cells,
+    row: [u8; 255],
+    cap: usize,
+    list: &mut [u8],
+    kept: Kept,
+) -> Kept
+    requires { ⌜ Given l (now numbers) (now y) × (Holding l (now numbers) (now y) cap (now list) (kept .count) (kept .more)
+        × (Placed l (length (now y)) cells × NoSingle (cells .column) (cells .lost))) ⌝ }
+    ensures { λ r. ⌜ Grown l (now (numbers .entry)) (now (y .entry)) cap (Under l (now (y .entry)) cells row)
+        (now (list .entry)) (kept .count) (kept .more) (now (list .exit)) (r .count) (r .more) ⌝ }
+{
+    let t = take_turn(false, l, y, numbers, cells, row);
+    if !t.ok {
+        return kept;
+    }
+    let rest = t.cells;
+    let held = t.row;
+    if !t.any {
+        return fill::fill(l, y, numbers, rest, held, cap, list, kept);
+    }
+    mend_strings(l, y, numbers, rest, held, cap, list, kept)
+}
