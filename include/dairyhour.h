@@ -1,10 +1,11 @@
 /*
- * dairyhour.h: side messages for rows of bits, and the mending of strings that lost one bit.
+ * dairyhour.h: side messages for rows of bits, and the recovery of rows that lost bits.
  *
  * A raster film travels row by row over a line that may drop bits. Beside each row goes a short message that
  * holds sums and checks of the row; from the message and the short row the receiver works out what was sent.
- * This library writes and reads such messages, and mends a string that lacks one bit. Its code is proved:
- * every call returns, whatever it is given, and answers as written here.
+ * This library writes and reads such messages, lists every row that a message and a short row allow, and mends
+ * a string that lacks one bit. Its code is proved: every call returns, whatever it is given, and answers as
+ * written here.
  *
  * ROWS AND LAYOUTS
  *
@@ -47,6 +48,16 @@
  *
  *     52 53 4D 00 01 05 03 04 04 A6 34 B5 D0 96 DA 40.
  *
+ * THE LIST
+ *
+ * A received row of m bits comes from a row of n bits by deleting n - m bits if striking out some n - m places of
+ * the row leaves the received bits in their order. A row is consistent with a message and a received row if it
+ * has the n bits of the message's layout, the received row comes from it by deleting bits, and its own message
+ * under that layout equals the given one byte for byte. The list is all consistent rows in dictionary order: of
+ * two rows, the one with 0 at the first bit where they differ comes first. None is left out, and none stands
+ * there twice. With n - m at most 1 there is at most one row. The row that was sent is on the list of its own
+ * message, whichever of its bits, at most 12, were lost.
+ *
  * SLICES
  *
  * Memory is lent as a pointer and a length. The length counts elements: bytes, or entries of 16 bits where the
@@ -64,7 +75,7 @@
  * REFUSALS
  *
  * Unfit input is refused by the first number of this table that applies to the operation. After each of these
- * refusals every slice is as it was before the call.
+ * refusals but 9 every slice is as it was before the call.
  *
  *      1   the message is under nine bytes, or has another mark
  *      2   the version is not 1
@@ -72,7 +83,9 @@
  *      4   the message has another length than its layout gives
  *      5   a sum is above the length of its string
  *      6   a spare bit of the message is 1
+ *      7   more bits were received than the row has, or more than 12 were lost
  *      8   a row or string has another byte count than its bits need, or a spare bit is 1
+ *      9   there are more consistent rows than fit whole in the list slice
  *     10   the target is shorter than what is to be written
  */
 #ifndef DAIRYHOUR_H
@@ -90,7 +103,10 @@ extern "C" {
 #define DH_MOST_FIELDS 272     /* entries that dh_read writes at most */
 #define DH_LONGEST_STRING 255  /* bytes that dh_mend writes at most */
 
-/* What dh_write and dh_mend answer. */
+/* The bytes of a list slice that dh_list uses at most. A longer slice holds no more rows. */
+#define DH_LONGEST_LIST 65536
+
+/* What dh_write, dh_mend and dh_list answer. */
 typedef struct {
     uint32_t refusal; /* 0: done; else the number of the refusal */
     size_t value;     /* where refusal is 0, what the operation says; else 0 */
@@ -160,6 +176,39 @@ dh_layout dh_read(const uint8_t *msg, size_t msg_len, uint16_t *out, size_t out_
  * Then value is 0 and all of out is as it was.
  */
 dh_answer dh_mend(size_t w, size_t sum, const uint8_t *bits, size_t bits_len, uint8_t *out, size_t out_len);
+
+/*
+ * Lists the rows that are consistent with a message and a received row.
+ *
+ * Takes the message (msg_len bytes, no more and no fewer than its own), the received row, packed (row_len
+ * bytes; none if m is 0), the number m of its bits, and a list slice (out_len bytes, of which only the first
+ * 65,536 are used). n - m bits were lost, at most 12.
+ *
+ * Answers refusal 0 and, as value, the number of consistent rows. out then holds them from its start, packed one
+ * after another in dictionary order, n / 8 bytes each, rounded up; the rest of out is as it was. A value of 0 is
+ * an ordinary answer: no row is consistent, and all of out is as it was. The answer and every byte of out depend
+ * on msg, row, m and out alone, so the same call gives the same list at any time.
+ *
+ * Refuses, checking in this order:
+ *      1   msg_len is below nine, or the first three bytes are not 52 53 4D
+ *      2   bytes 3 and 4 are not 00 01
+ *      3   the layout in bytes 5 to 8 is not legal
+ *      4   msg_len is not the length of a message of this layout
+ *      5   a block sum is above l2 * nc, or a chunk-string sum above nc * l1
+ *      6   a spare bit at the end of the message is 1
+ *      7   m is above n, or n - m is above 12
+ *      8   row_len is not m / 8 rounded up, or a spare bit of the row is 1
+ *      9   there are more consistent rows than fit whole in out, or in its first 65,536 bytes
+ * Then value is 0. After 9, out holds as many of the first consistent rows as fit, in order, and the rest of it is
+ * as it was; after the others all of out is as it was.
+ *
+ * Layout 2, 1, 4, 0, block sums 2 and 0 and chunk-string sum 2 (the message 52 53 4D 00 01 02 01 04 00 40 80) with
+ * the six bits 001111 (3C) give the value 2 and the bytes 36 39; with out_len 1 they give refusal 9 and the byte 36.
+ *
+ * A call uses under 512 KB of the calling thread's stack, whatever it is given. The proofs do not cover stack space.
+ */
+dh_answer dh_list(const uint8_t *msg, size_t msg_len, const uint8_t *row, size_t row_len, size_t m, uint8_t *out,
+                  size_t out_len);
 
 #ifdef __cplusplus
 }

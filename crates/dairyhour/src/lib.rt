@@ -1,5 +1,6 @@
 // The C boundary: each operation under its C name, with its answer as a plain struct. There is no logic here; each contract is
 // that of the operation which it wraps. include/dairyhour.h is this boundary in C.
+use lister::Listed;
 use message::Read;
 use message::Written;
 use vt::Mended;
@@ -9,6 +10,7 @@ ghost use Rattle.vt.specs.Mend.{mendRefusal, mendTarget};
 ghost use Rattle.message.specs.Layout.{layout};
 ghost use Rattle.message.specs.Write.{writeAnswer, writeTarget};
 ghost use Rattle.message.specs.Read.{readRefusal, layoutAnswer, readTarget};
+ghost use Rattle.consistent.specs.List.{listAnswer, listSlice};
 ghost use Rattle.dairyhour.specs.Boundary.{answerIn, layoutIn};
 
 // dh_answer: the refusal's number, or 0 and the value.
@@ -89,6 +91,26 @@ pub extern "C" fn dh_mend(w: usize, sum: usize, bits: &[u8], out: &mut [u8]) -> 
             value: 0,
         },
         Mended::Refused(q) => Answer {
+            refusal: refusal::number(q),
+            value: 0,
+        },
+    }
+}
+
+// The answer and every byte of the slice are a function of the message, the row, the bit count and the slice, and of nothing
+// else: what came out in March comes out of the archive in December.
+#[no_mangle]
+pub extern "C" fn dh_list(msg: &[u8], row: &[u8], m: usize, out: &mut [u8]) -> Answer
+    ensures { λ a. ⌜ (answerIn a ≡ listAnswer (now (msg .entry)) (now (row .entry)) m (length (now (out .entry))))
+        × (now (out .exit) ≡ listSlice (now (msg .entry)) (now (row .entry)) m (now (out .entry))) ⌝ }
+{
+    let answer = lister::list(msg, row, m, out);
+    match answer {
+        Listed::Count(count) => Answer {
+            refusal: 0,
+            value: count,
+        },
+        Listed::Refused(q) => Answer {
             refusal: refusal::number(q),
             value: 0,
         },

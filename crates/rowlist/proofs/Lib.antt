@@ -1,0 +1,2 @@
+-- The laws of what is printed, for the proofs of the program's functions.
+mod Printed

@@ -1,0 +1,157 @@
+-- `rowtext::output::put_decimal`, which calls itself for the tens of its number, meets its contract. The number falls at each call.
+-- Assumes nothing.
+use borrow.Author.Needs.{needs}
+use Prim.Native.Nat.{ℕ, _+_, _/_, _<_}
+use mathlib.Core.Path.{_≡_, ap, _∙_}
+use native.Mathlib.Omega.{arith}
+use lib.ListN.{length, length-append}
+use Rattle.rowtext.specs.Text.{decimal}
+use Rattle.rowtext.proofs.Lines.{decimal-one, decimal-more}
+use Rattle.rowtext.proofs.Put.{put-then}
+use borrow.Fn.Kinds.{In}
+use borrow.Fn.PlainCycle.{Measures, is, falls, and}
+use Rattle.rowtext.proofs.output.put_decimal.Reads as put-decimal
+use Rattle.rowtext.proofs.output.put_decimal.Kinds as put-decimal-kinds
+use Rattle.rowtext.proofs.output.+put_decimal.Lts-put_decimal as put-decimal-lts
+use Rattle.rowtext.proofs.output.put_char.Reads as put-char-reads
+use Rattle.rowtext.proofs.output.+put_decimal.{statement}
+use Rattle.rowtext.proofs.output.+put_decimal.Tie.{close}
+
+abbrev μ-put-decimal : Measures 1 put-decimal-kinds.ps ℕ
+μ-put-decimal κs a = a .0
+
+abbrev put-decimal-at : ℕ → In 1 put-decimal-kinds.ps
+put-decimal-at t =
+    and 1 put-decimal-kinds.ps (is 1 put-decimal-kinds.ps μ-put-decimal t) put-decimal.Pre
+
+abbrev put-decimal-below : ℕ → In 1 put-decimal-kinds.ps
+put-decimal-below t =
+    and 1 put-decimal-kinds.ps (falls 1 put-decimal-kinds.ps _<_ μ-put-decimal t) put-decimal.Pre
+
+put-decimal-cast-put-char : (t : ℕ) → put-decimal-lts.Need-cast-put-char (
+  put-char-reads.Asked,
+  put-char-reads.Learnt,
+  put-decimal-below t,
+  put-decimal.Post,
+) (put-decimal-at t) put-decimal.Post
+put-decimal-cast-put-char t c = search needs
+
+put-decimal-add-put-char : (t : ℕ) → put-decimal-lts.Need-add-put-char (
+  put-char-reads.Asked,
+  put-char-reads.Learnt,
+  put-decimal-below t,
+  put-decimal.Post,
+) (put-decimal-at t) put-decimal.Post
+put-decimal-add-put-char t c = search needs
+
+put-decimal-put-char-requires : (t : ℕ) → put-decimal-lts.Need-put-char-requires (
+  put-char-reads.Asked,
+  put-char-reads.Learnt,
+  put-decimal-below t,
+  put-decimal.Post,
+) (put-decimal-at t) put-decimal.Post
+put-decimal-put-char-requires t c κs =
+    let k = c .before .before .before in
+    omega (arith, k .pre .1, ap length (decimal-one (k .args .n) (c .before .if1 .taken)))
+
+put-decimal-same-length : (t : ℕ) → put-decimal-lts.Need-same-length (
+  put-char-reads.Asked,
+  put-char-reads.Learnt,
+  put-decimal-below t,
+  put-decimal.Post,
+) (put-decimal-at t) put-decimal.Post
+put-decimal-same-length t c = search needs
+
+put-decimal-returns : (t : ℕ) → put-decimal-lts.Need-returns (
+  put-char-reads.Asked,
+  put-char-reads.Learnt,
+  put-decimal-below t,
+  put-decimal.Post,
+) (put-decimal-at t) put-decimal.Post
+put-decimal-returns t c =
+    let k = c .before .before in
+    let n = k .before .before .before .before .args .n in
+    rw (decimal-one n (k .before .before .if1 .taken)) (k .put-char .ensures)
+
+put-decimal-put-decimal-requires : (t : ℕ) → put-decimal-lts.Need-put-decimal-requires (
+  put-char-reads.Asked,
+  put-char-reads.Learnt,
+  put-decimal-below t,
+  put-decimal.Post,
+) (put-decimal-at t) put-decimal.Post
+put-decimal-put-decimal-requires t c κs =
+    let k = c .before .before .before in
+    let h = c .before .if1 .left in
+    let w : length (decimal (k .args .n)) ≡ length (decimal (k .args .n / 10)) + 1 = ap length (decimal-more (k .args .n) h) ∙ simp length-append in
+    (omega (arith, k .pre .0), omega (arith, k .pre .1))
+
+put-decimal-cast-put-char-2 : (t : ℕ) → put-decimal-lts.Need-cast-put-char-2 (
+  put-char-reads.Asked,
+  put-char-reads.Learnt,
+  put-decimal-below t,
+  put-decimal.Post,
+) (put-decimal-at t) put-decimal.Post
+put-decimal-cast-put-char-2 t c = search needs
+
+put-decimal-add-put-char-2 : (t : ℕ) → put-decimal-lts.Need-add-put-char-2 (
+  put-char-reads.Asked,
+  put-char-reads.Learnt,
+  put-decimal-below t,
+  put-decimal.Post,
+) (put-decimal-at t) put-decimal.Post
+put-decimal-add-put-char-2 t c = search needs
+
+put-decimal-put-char-requires-2 : (t : ℕ) → put-decimal-lts.Need-put-char-requires-2 (
+  put-char-reads.Asked,
+  put-char-reads.Learnt,
+  put-decimal-below t,
+  put-decimal.Post,
+) (put-decimal-at t) put-decimal.Post
+put-decimal-put-char-requires-2 t c κs =
+    let p = c .before .before .before in
+    let k = p .before .before .before .before in
+    let h = p .before .before .if1 .left in
+    let w : length (decimal (k .args .n)) ≡ length (decimal (k .args .n / 10)) + 1 = ap length (decimal-more (k .args .n) h) ∙ simp length-append in
+    omega (arith, k .pre .1, p .put-decimal .ensures .after)
+
+put-decimal-same-length-2 : (t : ℕ) → put-decimal-lts.Need-same-length-2 (
+  put-char-reads.Asked,
+  put-char-reads.Learnt,
+  put-decimal-below t,
+  put-decimal.Post,
+) (put-decimal-at t) put-decimal.Post
+put-decimal-same-length-2 t c = search needs
+
+put-decimal-returns-2 : (t : ℕ) → put-decimal-lts.Need-returns-2 (
+  put-char-reads.Asked,
+  put-char-reads.Learnt,
+  put-decimal-below t,
+  put-decimal.Post,
+) (put-decimal-at t) put-decimal.Post
+put-decimal-returns-2 t c =
+    let q = c .before .before in
+    let p = q .before .before .before .before in
+    let k = p .before .before .before .before in
+    let h = p .before .before .if1 .left in
+    rw (decimal-more (k .args .n) h) (put-then (p .put-decimal .ensures) (q .put-char2 .ensures) (omega (arith, k .pre .1)))
+
+pub +put-decimal-spec : {M : Type 1} → statement M
++put-decimal-spec = close μ-put-decimal λ t. put-decimal-lts.spec (
+  put-char-reads.Asked,
+  put-char-reads.Learnt,
+  put-decimal-below t,
+  put-decimal.Post,
+)
+    (put-decimal-at t)
+    put-decimal.Post
+    (put-decimal-cast-put-char t)
+    (put-decimal-add-put-char t)
+    (put-decimal-put-char-requires t)
+    (put-decimal-same-length t)
+    (put-decimal-returns t)
+    (put-decimal-put-decimal-requires t)
+    (put-decimal-cast-put-char-2 t)
+    (put-decimal-add-put-char-2 t)
+    (put-decimal-put-char-requires-2 t)
+    (put-decimal-same-length-2 t)
+    (put-decimal-returns-2 t)
