@@ -1,7 +1,7 @@
 //! The C boundary as it is, for callers that want the answer unchanged. The declarations repeat
 //! `include/dairyhour.h`; the functions around them only split slices into pointer and length.
 
-/// What `dh_write` and `dh_mend` return: refusal 0 says that the operation was done.
+/// What `dh_write`, `dh_mend` and `dh_list` return: refusal 0 says that the operation was done.
 #[repr(C)]
 #[derive(Clone, Copy, Debug, PartialEq, Eq)]
 pub struct Answer {
@@ -34,6 +34,15 @@ extern "C" {
     ) -> Answer;
     fn dh_read(msg: *const u8, msg_len: usize, out: *mut u16, out_len: usize) -> LayoutAnswer;
     fn dh_mend(w: usize, sum: usize, bits: *const u8, bits_len: usize, out: *mut u8, out_len: usize) -> Answer;
+    fn dh_list(
+        msg: *const u8,
+        msg_len: usize,
+        row: *const u8,
+        row_len: usize,
+        m: usize,
+        out: *mut u8,
+        out_len: usize,
+    ) -> Answer;
 }
 
 /// Calls `dh_write`.
@@ -53,4 +62,10 @@ pub fn read(message: &[u8], out: &mut [u16]) -> LayoutAnswer {
 pub fn mend(w: usize, sum: usize, bits: &[u8], out: &mut [u8]) -> Answer {
     // SAFETY: as for `write`, with `bits` in the place of `row`.
     unsafe { dh_mend(w, sum, bits.as_ptr(), bits.len(), out.as_mut_ptr(), out.len()) }
+}
+
+/// Calls `dh_list`.
+pub fn list(message: &[u8], row: &[u8], m: usize, out: &mut [u8]) -> Answer {
+    // SAFETY: as for `write`, with `message` and `row`, which are only read and may overlap each other.
+    unsafe { dh_list(message.as_ptr(), message.len(), row.as_ptr(), row.len(), m, out.as_mut_ptr(), out.len()) }
 }

@@ -1,9 +1,9 @@
-//! Safe calls to the library that is proved in Rattle: the side message of a row is written and read, and a
-//! string that lacks one bit is mended.
+//! Safe calls to the library that is proved in Rattle: the side message of a row is written and read, every row
+//! that a message and a short row allow is listed, and a string that lacks one bit is mended.
 //!
-//! The header `include/dairyhour.h` says what a row, a layout and a message are, and how bits are packed. Any
-//! number and any slice may be given: unfit input is refused, with the first number that applies, and every
-//! slice is then as it was.
+//! The header `include/dairyhour.h` says what a row, a layout, a message and the list are, and how bits are
+//! packed. Any number and any slice may be given: unfit input is refused, with the first number that applies,
+//! and every slice is then as it was, but for what [`list`] says of refusal 9.
 //!
 //! ```
 //! use dairyhour::{read, write, Layout, Refusal, LONGEST_MESSAGE, MOST_FIELDS};
@@ -34,6 +34,9 @@ pub const LONGEST_MESSAGE: usize = 154;
 /// The most numbers that a message has: a target of this size is never too short for [`read`].
 pub const MOST_FIELDS: usize = 272;
 
+/// The bytes of a list slice that [`list`] uses at most: a longer one holds no more rows.
+pub const LONGEST_LIST: usize = 65_536;
+
 /// How a row is cut: `l1` blocks of `l2` chunks of `nc` bits, with `r` checks.
 #[derive(Clone, Copy, Debug, PartialEq, Eq, Hash)]
 pub struct Layout {
@@ -63,6 +66,27 @@ pub fn read(message: &[u8], out: &mut [u16]) -> Result<Layout, Refusal> {
 /// packed `bits` come by one deletion. Refused, in this order, by 3, 5, 8 and 10.
 pub fn mend(w: usize, sum: usize, bits: &[u8], out: &mut [u8]) -> Result<(), Refusal> {
     done_or_refused(boundary::mend(w, sum, bits, out).refusal)
+}
+
+/// Lists the rows that are consistent with a message and the `m` packed bits of a received row: writes them to
+/// the start of `out`, packed one after another in dictionary order, and answers how many they are. Refused, in
+/// this order, by 1 to 9. After 9, more rows than fit in the first [`LONGEST_LIST`] bytes of `out`, `out` holds
+/// as many of the first as fit.
+///
+/// ```
+/// use dairyhour::{list, Refusal};
+///
+/// let message = [0x52, 0x53, 0x4D, 0, 1, 2, 1, 4, 0, 0x40, 0x80];
+/// let mut rows = [0; 16];
+/// assert_eq!(list(&message, &[0x3C], 6, &mut rows), Ok(2));
+/// assert_eq!(rows[..2], [0x36, 0x39]);
+/// assert_eq!(list(&message, &[0x3C], 6, &mut rows[..1]), Err(Refusal::ListFull));
+/// assert_eq!(rows[..1], [0x36]);
+/// ```
+pub fn list(message: &[u8], row: &[u8], m: usize, out: &mut [u8]) -> Result<usize, Refusal> {
+    let answer = boundary::list(message, row, m, out);
+    done_or_refused(answer.refusal)?;
+    Ok(answer.value)
 }
 
 fn done_or_refused(number: u32) -> Result<(), Refusal> {

@@ -33,7 +33,7 @@ pub fn mend(w: usize, sum: usize, bits: &[u8], room: usize) -> Result<Vec<u8>, u
 
 /// Tries a bit of either kind at every place, until the sum is the wanted one, which is at most w. A bit put
 /// in at a place adds its own position if it is 1, and moves each one behind it up by one position.
-fn insert(wanted: usize, bits: &[bool]) -> Vec<bool> {
+pub fn insert(wanted: usize, bits: &[bool]) -> Vec<bool> {
     let w = bits.len() + 1;
     let total = total(bits);
     let mut ones_behind = bits.iter().filter(|bit| **bit).count();

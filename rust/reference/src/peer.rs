@@ -13,10 +13,10 @@ const MOST_CHECKS: usize = 16;
 const MOST_FIELDS: usize = 272;
 
 /// What is looked up for a chunk of nc bits.
-struct Tables {
+pub(crate) struct Tables {
     /// The powers of 2 of the field, and the exponent of each element but 0.
-    power: [u8; 256],
-    exponent: [u8; 256],
+    pub(crate) power: [u8; 256],
+    pub(crate) exponent: [u8; 256],
     /// The total of the positions, from 1, of a chunk's ones.
     total: [u8; 256],
 }
@@ -44,7 +44,7 @@ const fn tables(nc: usize, polynomial: usize) -> Tables {
     tables
 }
 
-static TABLES: [Tables; 6] =
+pub(crate) static TABLES: [Tables; 6] =
     [tables(3, 11), tables(4, 19), tables(5, 37), tables(6, 67), tables(7, 137), tables(8, 285)];
 
 /// Takes fields of up to 16 bits from bytes, one after another.

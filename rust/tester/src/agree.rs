@@ -1,11 +1,13 @@
 //! Calls of the library, each compared with the reference: the answer, and every place of every slice.
 
 use dairyhour::{boundary, Refusal};
+use reference::list::{Judged, Listed};
 use reference::message::encode;
 use reference::Layout;
 
 use crate::hex;
 use crate::lent::{Lent, Noise};
+use crate::received::Received;
 
 /// Writes with a target of `room` bytes. Answers what the reference says.
 pub fn agree_write(layout: &Layout, row: &[u8], room: usize) -> Result<Vec<u8>, u32> {
@@ -80,6 +82,31 @@ pub fn agree_mend(w: usize, sum: usize, bits: &[u8], room: usize) -> Result<Vec<
     assert_eq!(answer.map_err(Refusal::number), expected.as_ref().map(|_| ()).map_err(|n| *n), "{}", call());
     lent.assert_holds(bits, &call);
     target.assert_holds(written, &call);
+    expected
+}
+
+/// Lists into a slice of `room` bytes. Answers what the reference judged.
+pub fn agree_list(received: &Received, judged: &Judged, room: usize) -> Result<usize, u32> {
+    let Listed { answer: expected, written } = judged.listed(room);
+    let Received { message, row, m, .. } = received;
+    let call = || format!("list: {received}, slice of {room}");
+    let refusal = expected.err().unwrap_or(0);
+
+    let lent = [Lent::holding(message, Noise::Plain), Lent::holding(row, Noise::Plain)];
+    let mut target = Lent::target(room, Noise::Plain);
+    let answer = boundary::list(lent[0].slice(), lent[1].slice(), *m, target.slice_mut());
+    assert_eq!(answer, boundary::Answer { refusal, value: expected.unwrap_or(0) }, "{}", call());
+    lent[0].assert_holds(message, &call);
+    lent[1].assert_holds(row, &call);
+    target.assert_holds(&written, &call);
+
+    let lent = [Lent::holding(message, Noise::Complement), Lent::holding(row, Noise::Complement)];
+    let mut target = Lent::target(room, Noise::Complement);
+    let answer = dairyhour::list(lent[0].slice(), lent[1].slice(), *m, target.slice_mut());
+    assert_eq!(answer.map_err(Refusal::number), expected, "{}", call());
+    lent[0].assert_holds(message, &call);
+    lent[1].assert_holds(row, &call);
+    target.assert_holds(&written, &call);
     expected
 }
 

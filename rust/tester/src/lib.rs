@@ -8,9 +8,11 @@
 
 mod agree;
 mod lent;
+mod received;
 
-pub use agree::{agree_mend, agree_read, agree_write};
+pub use agree::{agree_list, agree_mend, agree_read, agree_write};
 pub use lent::{Cell, Lent, Noise};
+pub use received::{Message, Received};
 
 /// Bytes in hexadecimal, for messages of failed tests.
 pub fn hex(bytes: &[u8]) -> String {

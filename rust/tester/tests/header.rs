@@ -10,10 +10,14 @@ read 0 5 3 4 4
 fields 10 6 3 4 11 11 20 4 11 6 13 2
 mend 0 0
 string D0
+list 0 2
+rows 36 39
 write 3 0
 read 1 0 0 0 0
 mend 5 0
-limits 154 272 255
+list 9 0
+list 7 0
+limits 154 272 255 65536
 ";
 
 #[test]
