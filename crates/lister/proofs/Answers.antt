@@ -12,6 +12,7 @@ use lib.Seq.{take-all}
 use Rattle.refusal.specs.Refusal.{Answer, firstRefusal}
 use Rattle.refusal.proofs.Laws.{Numbered, refused-before, passed-before}
 use Rattle.bits.specs.Bits.{AllBytes, bytesFor, pack, unpack}
+use Rattle.rows.specs.Order.{Mem, Row}
 use Rattle.rows.proofs.Held.{take-mem}
 use Rattle.rows.proofs.Order.{kept-row}
 use Rattle.rows.proofs.Packed.{packed-wide}
@@ -29,7 +30,8 @@ use Rattle.lister.proofs.Read.{sent-wanted}
 use Rattle.lister.proofs.Row.{row-checks}
 
 -- ---- the rows that a search found
-module _ {l : Layout} {numbers y : List ℕ} {cap : ℕ} {entry exit : List ℕ} {d : ℕ} {o : Bool} (f : Listed l numbers y cap entry exit d o) where
+module _ {l : Layout} {numbers y : List ℕ} {cap : ℕ} {entry exit : List ℕ} {d : ℕ} {o : Bool}
+    (f : Listed l numbers y cap entry exit d o) where
   abbrev found : List (List ℕ)
   found = allSent l numbers y
 
@@ -44,11 +46,14 @@ module _ {l : Layout} {numbers y : List ℕ} {cap : ℕ} {entry exit : List ℕ}
       let n : d ≡ length found = f .count ∙ ap length (take-all cap found (ltb-false cap (length found) none)) in
       rw (none, n) refl
 
-  -- the bytes of the rows written
+  -- the bytes of the rows written, each of which is a row of the layout
+  each : (x : List ℕ) → Mem x (take cap found) → Row (rowBits l) x
+  each x m = kept-row (rowBits l) (candidate l numbers y) x (take-mem cap x found m) .0
+
   bytes-written : length (firstRows cap found) ≡ d * bytesFor (rowBits l)
   unfolding firstRows
   bytes-written =
-      length-flat (bytesFor (rowBits l)) (map pack (take cap found)) (packed-wide (rowBits l) (take cap found) (λ x m. kept-row (rowBits l) (candidate l numbers y) x (take-mem cap x found m) .0))
+      length-flat (bytesFor (rowBits l)) (map pack (take cap found)) (packed-wide (rowBits l) (take cap found) each)
       ∙ ap (λ (n : ℕ). n * bytesFor (rowBits l)) (length-map (take cap found) pack ∙ sym (f .count))
 
   -- the slice
@@ -57,8 +62,8 @@ module _ {l : Layout} {numbers y : List ℕ} {cap : ℕ} {entry exit : List ℕ}
   slice-found = f .slice ∙ ap (λ (n : ℕ). firstRows cap found ++ drop n entry) (sym bytes-written)
 
 -- the same by another name of the received bits and of the room
-pub searched : {l : Layout} {numbers y z : List ℕ} {cap room : ℕ} {entry exit : List ℕ} {d : ℕ} {o : Bool} → Listed l numbers y cap entry exit d o
-    → y ≡ z → cap ≡ room → Listed l numbers z room entry exit d o
+pub searched : {l : Layout} {numbers y z : List ℕ} {cap room : ℕ} {entry exit : List ℕ} {d : ℕ} {o : Bool}
+    → Listed l numbers y cap entry exit d o → y ≡ z → cap ≡ room → Listed l numbers z room entry exit d o
 searched f e h = rw (← e, ← h) f
 
 -- ---- the checks
@@ -82,7 +87,8 @@ module _ (s row : List ℕ) (m : ℕ) where
       → (record { refusal = q; value = 0 } ≡ listAnswer s row m (length slice)) × (slice ≡ listSlice s row m slice)
   unfolding listRefusal
   refused-listing slice q h e =
-      let r : listRefusal s row m (length slice) ≡ q = refused-before (inputChecks s row m) (roomCheck s row m (length slice)) (λ z. omega arith) ∙ e in
+      let before = refused-before (inputChecks s row m) (roomCheck s row m (length slice)) (λ z. omega arith) in
+      let r : listRefusal s row m (length slice) ≡ q = before ∙ e in
       let n : eqb q 0 ≡ false = ne-eqb q 0 (λ z. omega arith) in
       (sym (answer-is s row m (length slice) q r ∙ rw n refl), sym (slice-is s row m slice q e ∙ rw n refl))
 
@@ -98,7 +104,8 @@ module _ (s row : List ℕ) (m : ℕ) where
     rows-answer : rowsAnswer cap (wanted s row m) ≡ listAnswer s row m (length slice)
     rows-answer = go (ltb cap (length (wanted s row m))) refl
       where
-        go : (t : Bool) → ltb cap (length (wanted s row m)) ≡ t → rowsAnswer cap (wanted s row m) ≡ listAnswer s row m (length slice)
+        go : (t : Bool) → ltb cap (length (wanted s row m)) ≡ t
+            → rowsAnswer cap (wanted s row m) ≡ listAnswer s row m (length slice)
         go true h = rw h (sym (answer-is s row m (length slice) 9 (by-room ∙ rw h refl)))
         go false h = rw h (sym (answer-is s row m (length slice) 0 (by-room ∙ rw h refl)))
 
@@ -107,7 +114,8 @@ module _ (s row : List ℕ) (m : ℕ) where
     rows-slice = sym (slice-is s row m slice 0 e)
 
 -- what is answered and left for the rows that are consistent with the numbers of a fit message and a fit row
-module _ (s row : List ℕ) (m : ℕ) (l : Layout) (numbers : List ℕ) (b : AllBytes s) (e : messageRefusal s ≡ 0) (k : layoutOf s ≡ l) (n : numbers ≡ numbersRead s) (h : m ≤ length row * 8) where
+module _ (s row : List ℕ) (m : ℕ) (l : Layout) (numbers : List ℕ) (b : AllBytes s) (e : messageRefusal s ≡ 0)
+    (k : layoutOf s ≡ l) (n : numbers ≡ numbersRead s) (h : m ≤ length row * 8) where
   abbrev sent : List (List ℕ)
   sent = allSent l numbers (take m (unpack row))
 
@@ -118,7 +126,8 @@ module _ (s row : List ℕ) (m : ℕ) (l : Layout) (numbers : List ℕ) (b : All
   unfolding room
   room-is slice = ap (λ (q : Layout). roomFor (rowBits q) slice) (sym k)
 
-  pub rows-listed : (slice : List ℕ) → firstRefusal (inputChecks s row m) ≡ 0 → (a : Answer) (exit : List ℕ) → a ≡ rowsAnswer (roomFor (rowBits l) (length slice)) sent → exit ≡ rowsSlice (roomFor (rowBits l) (length slice)) sent slice
+  pub rows-listed : (slice : List ℕ) → firstRefusal (inputChecks s row m) ≡ 0 → (a : Answer) (exit : List ℕ)
+      → a ≡ rowsAnswer (roomFor (rowBits l) (length slice)) sent → exit ≡ rowsSlice (roomFor (rowBits l) (length slice)) sent slice
       → (a ≡ listAnswer s row m (length slice)) × (exit ≡ listSlice s row m slice)
   rows-listed slice z a exit p q = (
     p ∙ ap₂ rowsAnswer (room-is (length slice)) sent-are ∙ rows-answer s row m slice z,

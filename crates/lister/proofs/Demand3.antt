@@ -1,10 +1,10 @@
--- Demand 3, "the list is exact", of the operation `list` as callers have it: for every result r and every slice afterwards that meet
--- its contract (`Promised`, the `ensures` of `list` word for word).
--- - `exact`: "a list that was not refused holds, in dictionary order and each once, exactly the rows" that are consistent, "and the count
---   answered is the number of these rows".
+-- Demand 3, "the list is exact", of the operation `list` as callers have it: for every result r and every slice afterwards that
+-- meet its contract (`Promised`, the `ensures` of `list` word for word).
+-- - `exact`: "a list that was not refused holds, in dictionary order and each once, exactly the rows" that are consistent, "and the
+--   count answered is the number of these rows".
 -- - `at-most-one`: "with none or one deleted it holds at most one row".
--- - `row-listed` and `row-among`: "for every legal layout, every row of its length and the row's own message under it: whichever of the
---   row's bits, at most 12, were deleted, and only deleted, the row is listed whenever the list fits its slice".
+-- - `row-listed` and `row-among`: "for every legal layout, every row of its length and the row's own message under it: whichever of
+--   the row's bits, at most 12, were deleted, and only deleted, the row is listed whenever the list fits its slice".
 -- - `same-again`: the same message, row, bit count and slice give the same answer and the same slice.
 -- Assumes nothing.
 use Prim.Native.Nat.{ℕ, _-_, _≤_}
@@ -49,19 +49,25 @@ counted : (r : Listed) (n : ℕ) → listedOf r ≡ record { refusal = 0; value 
 counted (Count k) n e = ap (λ (a : Answer). Count (a .value)) e
 counted (Refused q) n e = absurd (omega (arith, numbered q, ap (λ (a : Answer). a .refusal) e))
 
-module _ (s row : List ℕ) (m : ℕ) (slice : List ℕ) (r : Listed) (exit : List ℕ) (p : Promised s row m slice r exit) (n : ℕ) (e : r ≡ Count n) where
+-- the number answered is that of the first check that applies
+pub number-is : (s row : List ℕ) (m : ℕ) (slice : List ℕ) (r : Listed) (exit : List ℕ) → Promised s row m slice r exit
+    → listedOf r .refusal ≡ listRefusal s row m (length slice)
+number-is s row m slice r exit p =
+    let q = listRefusal s row m (length slice) in
+    ap (λ (a : Answer). a .refusal) (p .0 ∙ answer-is s row m (length slice) q refl)
+
+module _ (s row : List ℕ) (m : ℕ) (slice : List ℕ) (r : Listed) (exit : List ℕ) (p : Promised s row m slice r exit)
+    (n : ℕ) (e : r ≡ Count n) where
   -- a count: no check applies, all rows fit, and it is their number
   pub not-refused : listRefusal s row m (length slice) ≡ 0
-  not-refused =
-      let a : listedOf r .refusal ≡ listRefusal s row m (length slice) =
-      ap (λ (t : Answer). t .refusal) (p .0 ∙ answer-is s row m (length slice) (listRefusal s row m (length slice)) refl) in
-      sym a ∙ ap (λ (v : Listed). listedOf v .refusal) e
+  not-refused = sym (number-is s row m slice r exit p) ∙ ap (λ (v : Listed). listedOf v .refusal) e
 
   pub input-fit : firstRefusal (inputChecks s row m) ≡ 0
   input-fit = input-passed s row m (length slice) not-refused
 
   pub all-fit : length (wanted s row m) ≤ room s (length slice)
-  all-fit = ltb-false (room s (length slice)) (length (wanted s row m)) (passes _ (sym (by-room s row m slice input-fit) ∙ not-refused))
+  all-fit =
+      ltb-false (room s (length slice)) (length (wanted s row m)) (passes _ (sym (by-room s row m slice input-fit) ∙ not-refused))
     where
       passes : (t : Bool) → _≡_ {A = ℕ} (cond t 9 0) 0 → t ≡ false
       passes true h = absurd (omega arith)
@@ -69,14 +75,16 @@ module _ (s row : List ℕ) (m : ℕ) (slice : List ℕ) (r : Listed) (exit : Li
 
   pub count-is : n ≡ length (wanted s row m)
   count-is =
-      sym (ap (λ (v : Listed). listedOf v .value) e) ∙ ap (λ (t : Answer). t .value) (p .0 ∙ answer-is s row m (length slice) 0 not-refused)
+      sym (ap (λ (v : Listed). listedOf v .value) e)
+      ∙ ap (λ (a : Answer). a .value) (p .0 ∙ answer-is s row m (length slice) 0 not-refused)
 
   pub rows-written : exit ≡ flat (map pack (wanted s row m)) ++ drop (length (flat (map pack (wanted s row m)))) slice
   rows-written = p .1 ∙ list-writes s row m slice input-fit all-fit
 
 -- ---- "the list is exact"
--- what a count of n says: there are rows, n of them, packed in the slice from its start, and beyond them the bytes as at entry; they
--- stand in dictionary order, each once; and they are exactly the strings of bits that are consistent with the message and the row
+-- what a count of n says: there are rows, n of them, packed in the slice from its start, and beyond them the bytes as at entry;
+-- they stand in dictionary order, each once; and they are exactly the strings of bits that are consistent with the message and
+-- the row
 pub record Exact (s row : List ℕ) (m : ℕ) (slice : List ℕ) (n : ℕ) (exit : List ℕ) : Type 0 where
   pub rows : List (List ℕ)
   pub count : n ≡ length rows
@@ -105,12 +113,14 @@ exact s row m slice r exit p n e = record {
 pub at-most-one : (s row : List ℕ) (m : ℕ) (slice : List ℕ) (r : Listed) (exit : List ℕ) → Promised s row m slice r exit
     → (n : ℕ) → r ≡ Count n → bitsOf s - m ≤ 1 → n ≤ 1
 at-most-one s row m slice r exit p n e h =
-    let v : listAnswer s row m (length slice) .value ≡ n = ap (λ (t : Answer). t .value) (sym (p .0)) ∙ ap (λ (t : Listed). listedOf t .value) e in
+    let v : listAnswer s row m (length slice) .value ≡ n =
+    ap (λ (t : Answer). t .value) (sym (p .0)) ∙ ap (λ (t : Listed). listedOf t .value) e in
     omega (arith, one-at-most s row m (length slice) h)
 
 -- ---- "the row is listed whenever the list fits its slice"
 -- x is a row of a legal layout l, y what is left of it where at most 12 bits were deleted
-module _ (l : Layout) (x : List ℕ) (k : ℕ) (y : List ℕ) (g : legal l ≡ true) (t : Row (rowBits l) x) (most : k ≤ mostLosses) (c : comesFrom x k y ≡ true) where
+module _ (l : Layout) (x : List ℕ) (k : ℕ) (y : List ℕ) (g : legal l ≡ true) (t : Row (rowBits l) x) (most : k ≤ mostLosses)
+    (c : comesFrom x k y ≡ true) where
   -- the list for the row's own message and y
   abbrev pub own : List (List ℕ)
   own = theList (message l x) (length y) y

@@ -74,7 +74,8 @@ numbers-read s o entries a n h = record {
 }
 
 -- an answer that refuses says what the message is refused for
-pub message-number : (s : List ℕ) (a : Read) (q : Refusal) → a ≡ Refused q → readOf a ≡ layoutAnswer (messageRefusal s) s → messageRefusal s ≡ numberOf q
+pub message-number : (s : List ℕ) (a : Read) (q : Refusal) → a ≡ Refused q → readOf a ≡ layoutAnswer (messageRefusal s) s
+    → messageRefusal s ≡ numberOf q
 unfolding layoutAnswer
 message-number s a q e h = sym (ap (λ (p : LayoutAnswer). p .refusal) h) ∙ ap (λ (v : Read). readOf v .refusal) e
 
@@ -102,18 +103,22 @@ module _ (s : List ℕ) (e : messageRefusal s ≡ 0) where
   blocks-in-range i h =
       let r = read-encodable s e in
       let n : i < length blockPart = omega (arith, r .block-count) in
-      rw (numbers-joined, List·getD-append blockPart (stringPart ++ checkPart) 0 i n) (at-most-each (blockBits (layoutOf s)) blockPart i (r .block-range) n)
+      rw (numbers-joined, List·getD-append blockPart (stringPart ++ checkPart) 0 i n)
+      (at-most-each (blockBits (layoutOf s)) blockPart i (r .block-range) n)
+
+  string-at : (j : ℕ) → length blockPart ≡ layoutOf s .l1 → j < length stringPart
+      → getD (numbersRead s) (layoutOf s .l1 + j) 0 ≡ getD stringPart j 0
+  string-at j b n =
+      ap (λ (t : List ℕ). getD t (layoutOf s .l1 + j) 0) numbers-joined
+      ∙ ap (λ (k : ℕ). getD (blockPart ++ (stringPart ++ checkPart)) (k + j) 0) (sym b)
+      ∙ getD-append-add blockPart (stringPart ++ checkPart) j 0
+      ∙ List·getD-append stringPart checkPart 0 j n
 
   strings-in-range : (j : ℕ) → j < layoutOf s .l2 → getD (numbersRead s) (layoutOf s .l1 + j) 0 ≤ stringBits (layoutOf s)
   strings-in-range j h =
       let r = read-encodable s e in
       let n : j < length stringPart = omega (arith, r .string-count) in
-      let at : getD (numbersRead s) (layoutOf s .l1 + j) 0 ≡ getD stringPart j 0 =
-      ap (λ (t : List ℕ). getD t (layoutOf s .l1 + j) 0) numbers-joined
-      ∙ ap (λ (k : ℕ). getD (blockPart ++ (stringPart ++ checkPart)) (k + j) 0) (sym (r .block-count))
-      ∙ getD-append-add blockPart (stringPart ++ checkPart) j 0
-      ∙ List·getD-append stringPart checkPart 0 j n in
-      rw at (at-most-each (stringBits (layoutOf s)) stringPart j (r .string-range) n)
+      rw (string-at j (r .block-count) n) (at-most-each (stringBits (layoutOf s)) stringPart j (r .string-range) n)
 
 -- ---- what a search is given, and what it is to find
 module _ (s row : List ℕ) (m : ℕ) (e : messageRefusal s ≡ 0) (h : m ≤ length row * 8) where
@@ -131,7 +136,8 @@ module _ (s row : List ℕ) (m : ℕ) (e : messageRefusal s ≡ 0) (h : m ≤ le
       }
 
   -- a fit message, by the layout that its head names, and a fit row are what a search is to be given
-  pub given : (l : Layout) (numbers : List ℕ) → layoutOf s ≡ l → numbers ≡ numbersRead s → FitRow (rowBits l) row m → Given l numbers (take m (unpack row))
+  pub given : (l : Layout) (numbers : List ℕ) → layoutOf s ≡ l → numbers ≡ numbersRead s → FitRow (rowBits l) row m
+      → Given l numbers (take m (unpack row))
   given l numbers k n f =
       let w : bitsOf s ≡ rowBits l = ap rowBits k in
       rw (n, ← k) (own-given (omega (arith, f .short)) (omega (arith, f .few)))

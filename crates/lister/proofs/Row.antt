@@ -76,7 +76,8 @@ unfolding rowChecks rowRefusal
 row-checks s row m n e = ap (λ (k : ℕ). firstRefusal ((7, ltb k m || ltb mostLosses (k - m)) ∷ (8, not (fits m row)) ∷ [])) e
 
 -- what the answer of a check of the row says: the number of a refusal, or that there is none
-pub row-refused : (a : Listed) (q : Refusal) (n : ℕ) → a ≡ Refused q → listedOf a ≡ record { refusal = n; value = 0 } → n ≡ numberOf q
+pub row-refused : (a : Listed) (q : Refusal) (n : ℕ) → a ≡ Refused q
+    → listedOf a ≡ record { refusal = n; value = 0 } → n ≡ numberOf q
 row-refused a q n e h = sym (ap (λ (p : Answer). p .refusal) h) ∙ ap (λ (v : Listed). listedOf v .refusal) e
 
 pub row-not-refused : (a : Listed) (v n : ℕ) → a ≡ Count v → listedOf a ≡ record { refusal = n; value = 0 } → n ≡ 0

@@ -21,13 +21,15 @@ returns-3 : tie.Need-returns-3
 returns-3 c =
     let k = c .before .before in
     let a = k .before .before .before .args in
-    unfit (a .n) (a .row .now) (a .m) (k .before .if1 .left) (k .if2 .left) (sym (c .before .fits2 .ensures) ∙ not-true _ (c .if3 .taken))
+    let f = sym (c .before .fits2 .ensures) ∙ not-true _ (c .if3 .taken) in
+    unfit (a .n) (a .row .now) (a .m) (k .before .if1 .left) (k .if2 .left) f
 
 returns-4 : tie.Need-returns-4
 returns-4 c =
     let k = c .before .before in
     let a = k .before .before .before .args in
-    fit-row (a .n) (a .row .now) (a .m) (k .before .if1 .left) (k .if2 .left) (sym (c .before .fits2 .ensures) ∙ not-false _ (c .if3 .left))
+    let f = sym (c .before .fits2 .ensures) ∙ not-false _ (c .if3 .left) in
+    fit-row (a .n) (a .row .now) (a .m) (k .before .if1 .left) (k .if2 .left) f
 
 pub check-row-spec : {M : Type 1} → statement M
 check-row-spec = tie.close (tie.spec returns returns-2 fits-requires returns-3 returns-4)

@@ -48,7 +48,7 @@ returns c =
     let k = c .before .before .before .before in
     let a = start k .args in
     let q = c .before .answer .given .0 .0 in
-    let n : messageRefusal (a .msg .now) ≡ numberOf q = message-number (a .msg .now) (k .read .result) q (c .before .answer .given .1) (numbers k .answer) in
+    let n = message-number (a .msg .now) (k .read .result) q (c .before .answer .given .1) (numbers k .answer) in
     let e = message-decides (a .msg .now) (a .row .now) (a .m) (λ z. omega (arith, numbered q)) in
     refused-listing (a .msg .now) (a .row .now) (a .m) (a .out .now) (numberOf q) (numbered q) (e ∙ n)
 
@@ -56,7 +56,8 @@ returns c =
 abbrev named : tie.After-answer2 → Layout
 named c = c .answer2 .given .0 .0
 
-fit : (c : tie.After-answer2) → let s = start (c .before .before .before) .args .msg .now in (messageRefusal s ≡ 0) × (layoutOf s ≡ named c)
+fit : (c : tie.After-answer2) → let s = start (c .before .before .before) .args .msg .now in
+    (messageRefusal s ≡ 0) × (layoutOf s ≡ named c)
 fit c =
     let k = c .before .before .before in
     found (start k .args .msg .now) (k .read .result) (named c) (c .answer2 .given .1) (numbers k .answer)
@@ -124,7 +125,8 @@ module _ (c : tie.After-enum-told2) where
   bytes = enough-bytes (rowBits (named message)) (entry .args .row .now) (entry .args .m) (fit-row .is-packed)
 
   -- what is lent: the numbers of the message
-  lent : let l = named message in take (l .l1 + l .l2 + l .r - 0) (message .before .before .before .read .last .1 .0) ≡ numbersRead (entry .args .msg .now)
+  lent : let l = named message in
+      take (l .l1 + l .l2 + l .r - 0) (message .before .before .before .read .last .1 .0) ≡ numbersRead (entry .args .msg .now)
   lent = numbers (message .before .before .before) .front (fit message .0) (named message) (fit message .1)
 
 list-rows-requires : tie.Need-list-rows-requires
@@ -140,7 +142,7 @@ returns-2 c =
     let k = read-as r in
     let a = start (k .before .before .before) .args in
     let q = c .enum-told .given .0 .0 in
-    let n : rowRefusal (rowBits (named k)) (a .row .now) (a .m) ≡ numberOf q = row-refused (r .check-row .result) q _ (c .enum-told .given .1) (r .check-row .ensures) in
+    let n = row-refused (r .check-row .result) q _ (c .enum-told .given .1) (r .check-row .ensures) in
     let e = row-decides (a .msg .now) (a .row .now) (a .m) (fit k .0) (rowBits (named k)) (ap rowBits (fit k .1)) in
     let f = refused-listing (a .msg .now) (a .row .now) (a .m) (a .out .now) (numberOf q) (numbered q) (e ∙ n) in
     (ap listedOf (c .enum-told .given .1) ∙ f .0, f .1)
@@ -155,9 +157,11 @@ returns-3 c =
     let w = message p in
     let a = entry p .args in
     let s = a .msg .now in
-    let b : AllBytes s = bytes-of-each s (λ i. omega (arith, w .before .before .before .before .before .before .before .shared-slice-known .given i)) in
+    let known = w .before .before .before .before .before .before .before .shared-slice-known .given in
+    let b : AllBytes s = bytes-of-each s (λ i. omega (arith, known i)) in
     let e = row-decides s (a .row .now) (a .m) (fit w .0) (rowBits (named w)) (ap rowBits (fit w .1)) ∙ no-refusal p in
-    rows-listed s (a .row .now) (a .m) (named w) _ b (fit w .0) (fit w .1) (lent p) (bytes p) (a .out .now) e (listedOf (k .list-rows .result)) _ (k .list-rows .ensures .0) (k .list-rows .ensures .1)
+    rows-listed s (a .row .now) (a .m) (named w) _ b (fit w .0) (fit w .1) (lent p) (bytes p) (a .out .now) e
+    (listedOf (k .list-rows .result)) _ (k .list-rows .ensures .0) (k .list-rows .ensures .1)
 
 pub list-spec : {M : Type 1} → statement M
 list-spec =

@@ -37,8 +37,10 @@ mul-n c =
 row-size : (c : tie.After-unpack) → let l = start c .args .l in (1 ≤ rowBits l) × (rowBits l ≤ longest)
 row-size c =
     let a = start c .args in
-    let p = start c .pre in
-    (row-low (a .l) (a .numbers .now) (a .row .now) (a .m) (p .0) (p .1), row-high (a .l) (a .numbers .now) (a .row .now) (a .m) (p .0) (p .1))
+    let p = start c .pre in (
+      row-low (a .l) (p .0 .is-legal),
+      row-high (a .l) (a .numbers .now) (a .row .now) (a .m) (p .0) (p .1),
+    )
 
 mul-n-2 : tie.Need-mul-n-2
 mul-n-2 c = record { fits = omega (arith, row-size (c .before .before .before) .1) }
@@ -60,13 +62,16 @@ part-search-end c =
     search needs
 
 -- what is lent: the bits of the row
-lent : (c : tie.After-unpack) → let a = start c .args in take (a .m - 0) (c .unpack .last .1 .1 .0) ≡ take (a .m) (unpack (a .row .now))
+lent : (c : tie.After-unpack) → let a = start c .args in
+    take (a .m - 0) (c .unpack .last .1 .1 .0) ≡ take (a .m) (unpack (a .row .now))
 lent c =
     let a = start c .args in
-    bits-lent (a .l) (a .numbers .now) (a .row .now) (a .m) (start c .pre .0) (start c .pre .1) (c .unpack .last .1 .1 .0) _ (c .unpack .ensures)
+    let p = start c .pre in
+    bits-lent (a .l) (a .numbers .now) (a .row .now) (a .m) (p .0) (p .1) (c .unpack .last .1 .1 .0) _ (c .unpack .ensures)
 
 -- there is room for the rows that are asked for
-fits : (c : tie.After-room) → let a = start (c .before .before .before .before) .args in c .room .result * bytesFor (rowBits (a .l)) ≤ length (a .out .now)
+fits : (c : tie.After-room) → let a = start (c .before .before .before .before) .args in
+    c .room .result * bytesFor (rowBits (a .l)) ≤ length (a .out .now)
 fits c =
     let a = start (c .before .before .before .before) .args in
     rw (c .room .ensures) (room-fits (rowBits (a .l)) (length (a .out .now)))
@@ -79,7 +84,8 @@ search-requires c κs =
 
 -- what the search leaves, by the room and the bits of the row
 found : (c : tie.After-search) → let r = c .before .before .before .before in let a = start (r .before .before .before .before) .args in
-    Listed (a .l) (a .numbers .now) (take (a .m) (unpack (a .row .now))) (roomFor (rowBits (a .l)) (length (a .out .now))) (a .out .now) (c .search .last .1 .1 .1 .1 .0) (c .search .result .count) (c .search .result .more)
+    Listed (a .l) (a .numbers .now) (take (a .m) (unpack (a .row .now))) (roomFor (rowBits (a .l)) (length (a .out .now)))
+    (a .out .now) (c .search .last .1 .1 .1 .1 .0) (c .search .result .count) (c .search .result .more)
 found c =
     let r = c .before .before .before .before in
     searched (c .search .ensures) (lent (r .before .before .before .before)) (r .room .ensures)

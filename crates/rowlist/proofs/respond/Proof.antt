@@ -45,11 +45,13 @@ list-requires c κs = search needs
 abbrev start : tie.After-split → tie.Start
 start c = c .before .before .before
 
-told : (c : tie.After-list) → let t = c .before .before .before .before in Answers (start t .args .input .now) (c .list .result) (c .list .last .1 .1 .1 .0)
+told : (c : tie.After-list) → let t = c .before .before .before .before in
+    Answers (start t .args .input .now) (c .list .result) (c .list .last .1 .1 .1 .0)
 told c =
     let t = c .before .before .before .before in
     let p = t .split .result in
-    answers (start t .args .input .now) (p .from) (p .to) (p .m) (p .row) _ (c .list .last .1 .1 .1 .0) (c .list .result) refl (t .split .ensures) (c .list .ensures)
+    answers (start t .args .input .now) (p .from) (p .to) (p .m) (p .row) _ (c .list .last .1 .1 .1 .0) (c .list .result) refl
+    (t .split .ensures) (c .list .ensures)
 
 enum-known-answer : tie.Need-enum-known-answer
 enum-known-answer c = search needs
@@ -77,7 +79,8 @@ abbrev split-at : tie.After-answer → tie.After-split
 split-at c = c .before .before .before .before .before .before .before
 
 -- the bytes of a row
-width : (c : tie.After-row-bytes) → c .row-bytes .result ≡ bytesFor (bitsOf (messageIn (start (split-at (counted c)) .args .input .now)))
+width : (c : tie.After-row-bytes) → let s = start (split-at (counted c)) .args .input .now in
+    c .row-bytes .result ≡ bytesFor (bitsOf (messageIn s))
 width c = c .row-bytes .ensures ∙ ap (λ (t : List ℕ). bytesFor (bitsOf t)) (split-at (counted c) .split .ensures .message)
 
 put-count-requires : tie.Need-put-count-requires

@@ -25,7 +25,8 @@ wide-requires-2 c κs = search needs
 -- each factor is a byte
 chunks-high : (c : tie.After-wide2) → c .before .before .wide .result * c .wide2 .result ≤ 65025
 chunks-high c =
-    let a : c .before .before .wide .result ≤ 255 = omega (arith, c .before .before .wide .ensures, c .before .before .before .shared-slice-known2 .given 5) in
+    let k = c .before .before in
+    let a : k .wide .result ≤ 255 = omega (arith, k .wide .ensures, k .before .shared-slice-known2 .given 5) in
     let b : c .wide2 .result ≤ 255 = omega (arith, c .wide2 .ensures, c .before .shared-slice-known3 .given 6) in
     mul-le-mul a b
 
@@ -38,7 +39,8 @@ shared-slice-read-wide-3 c = search needs
 wide-requires-3 : tie.Need-wide-requires-3
 wide-requires-3 c κs = search needs
 
-bits-high : (c : tie.After-wide3) → let k = c .before .before in k .before .before .wide .result * k .wide2 .result * c .wide3 .result ≤ 16581375
+bits-high : (c : tie.After-wide3) → let k = c .before .before in
+    k .before .before .wide .result * k .wide2 .result * c .wide3 .result ≤ 16581375
 bits-high c =
     let a : c .wide3 .result ≤ 255 = omega (arith, c .wide3 .ensures, c .before .shared-slice-known4 .given 7) in
     mul-le-mul (chunks-high (c .before .before)) a

@@ -1,9 +1,7 @@
 -- `rowtext::input::length_at` meets its contract: a byte is below 256. Assumes nothing.
 use borrow.Author.Needs.{needs}
 use native.Mathlib.Omega.{arith}
-use mathlib.Core.Path.{_≡_, refl, _∙_}
 use Prim.Native.Nat.{_+_, _*_, _≤_}
-use lib.ListN.{getD}
 use Rattle.rowtext.proofs.Parts.{no-length, two-bytes}
 use Rattle.rowtext.proofs.input.length_at.Statement.{statement}
 use Rattle.rowtext.proofs.input.length_at.Tie as tie
@@ -28,7 +26,11 @@ wide-requires-2 c κs = search needs
 
 -- two bytes are below 65,536 together
 high : (c : tie.After-wide2) → c .before .before .wide .result * 256 + c .wide2 .result ≤ 65535
-high c = omega (arith, c .before .before .wide .ensures, c .wide2 .ensures, c .before .before .before .shared-slice-known2 .given 0, c .before .shared-slice-known3 .given 1)
+high c =
+    let a = c .before .before in
+    let first : a .wide .result ≤ 255 = omega (arith, a .wide .ensures, a .before .shared-slice-known2 .given 0) in
+    let second : c .wide2 .result ≤ 255 = omega (arith, c .wide2 .ensures, c .before .shared-slice-known3 .given 1) in
+    omega arith
 
 add-result : tie.Need-add-result
 add-result c = record { fits = omega (arith, high c) }
@@ -36,8 +38,8 @@ add-result c = record { fits = omega (arith, high c) }
 returns-2 : tie.Need-returns-2
 returns-2 c =
     let s = c .before .before .before .before .before .before .args .s .now in
-    let e : c .before .before .wide .result * 256 + c .wide2 .result ≡ getD s 0 0 * 256 + getD s 1 0 = rw (c .before .before .wide .ensures, c .wide2 .ensures) refl in
-    (e ∙ two-bytes s (c .before .before .before .before .if1 .left), high c)
+    let both = two-bytes s (c .before .before .before .before .if1 .left) in
+    (rw (c .before .before .wide .ensures, c .wide2 .ensures) both, high c)
 
 pub length-at-spec : {M : Type 1} → statement M
 length-at-spec =

@@ -44,8 +44,10 @@ returns c =
     let k = c .before .before .before in
     let l = k .before .before in
     let s = l .before .before .args .s .now in
-    let rest = c .before .length-at2 .ensures .0 ∙ ap lengthAt (part-to-end s (k .lower2 .result) ∙ ap (λ (n : ℕ). drop n s) (k .lower2 .ensures)) in
-    rw (k .before .lower .ensures, k .lower2 .ensures, c .lower3 .ensures) (split-at s (l .length-at .result) (c .before .length-at2 .result) (l .length-at .ensures .0) rest)
+    let to = part-to-end s (k .lower2 .result) ∙ ap (λ (n : ℕ). drop n s) (k .lower2 .ensures) in
+    let rest = c .before .length-at2 .ensures .0 ∙ ap lengthAt to in
+    rw (k .before .lower .ensures, k .lower2 .ensures, c .lower3 .ensures)
+    (split-at s (l .length-at .result) (c .before .length-at2 .result) (l .length-at .ensures .0) rest)
 
 pub split-spec : {M : Type 1} → statement M
 split-spec =

@@ -1,12 +1,11 @@
 -- `rowtext::output::put_decimal`, which calls itself for the tens of its number, meets its contract. The number falls at each call.
 -- Assumes nothing.
 use borrow.Author.Needs.{needs}
-use Prim.Native.Nat.{ℕ, _+_, _/_, _<_}
-use mathlib.Core.Path.{_≡_, ap, _∙_}
+use Prim.Native.Nat.{ℕ, _<_}
+use mathlib.Core.Path.{ap}
 use native.Mathlib.Omega.{arith}
-use lib.ListN.{length, length-append}
-use Rattle.rowtext.specs.Text.{decimal}
-use Rattle.rowtext.proofs.Lines.{decimal-one, decimal-more}
+use lib.ListN.{length}
+use Rattle.rowtext.proofs.Lines.{decimal-one, decimal-more, length-more}
 use Rattle.rowtext.proofs.Put.{put-then}
 use borrow.Fn.Kinds.{In}
 use borrow.Fn.PlainCycle.{Measures, is, falls, and}
@@ -82,7 +81,7 @@ put-decimal-put-decimal-requires : (t : ℕ) → put-decimal-lts.Need-put-decima
 put-decimal-put-decimal-requires t c κs =
     let k = c .before .before .before in
     let h = c .before .if1 .left in
-    let w : length (decimal (k .args .n)) ≡ length (decimal (k .args .n / 10)) + 1 = ap length (decimal-more (k .args .n) h) ∙ simp length-append in
+    let w = length-more (k .args .n) h in
     (omega (arith, k .pre .0), omega (arith, k .pre .1))
 
 put-decimal-cast-put-char-2 : (t : ℕ) → put-decimal-lts.Need-cast-put-char-2 (
@@ -111,7 +110,7 @@ put-decimal-put-char-requires-2 t c κs =
     let p = c .before .before .before in
     let k = p .before .before .before .before in
     let h = p .before .before .if1 .left in
-    let w : length (decimal (k .args .n)) ≡ length (decimal (k .args .n / 10)) + 1 = ap length (decimal-more (k .args .n) h) ∙ simp length-append in
+    let w = length-more (k .args .n) h in
     omega (arith, k .pre .1, p .put-decimal .ensures .after)
 
 put-decimal-same-length-2 : (t : ℕ) → put-decimal-lts.Need-same-length-2 (

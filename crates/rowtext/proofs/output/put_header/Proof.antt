@@ -14,7 +14,8 @@ copy-to-requires : tie.Need-copy-to-requires
 copy-to-requires c κs = search needs
 
 -- the word is put
-word : (c : tie.After-copy-to) → let a = c .before .before .before .before .args in Put (a .word .now) 0 (a .out .now) (c .copy-to .last .1 .0) (length (a .word .now))
+word : (c : tie.After-copy-to) → let a = c .before .before .before .before .args in
+    Put (a .word .now) 0 (a .out .now) (c .copy-to .last .1 .0) (length (a .word .now))
 word c =
     let a = c .before .before .before .before .args in
     record { slice = c .copy-to .ensures; after = sym (zero-add (length (a .word .now))) }
@@ -37,7 +38,8 @@ returns : tie.Need-returns
 returns c =
     let q = c .before .before in
     let p = q .before .before .before .before in
-    put-then (put-then (word (p .before .before .before .before)) (p .put-decimal .ensures) (omega arith)) (q .put-char .ensures) (omega arith)
+    let number = put-then (word (p .before .before .before .before)) (p .put-decimal .ensures) (omega arith) in
+    put-then number (q .put-char .ensures) (omega arith)
 
 pub put-header-spec : {M : Type 1} → statement M
 put-header-spec =

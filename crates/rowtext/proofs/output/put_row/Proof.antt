@@ -46,7 +46,8 @@ loop-again c =
     let a = k .before .before .before .args in
     let p = k .loop in
     let place : a .at ≤ length (a .out .now) = omega (arith, k .before .before .before .pre) in
-    (omega arith, (search needs, rw (hex-next (a .row .now) (p .i) (omega arith)) at (put-then (p .inv .1 .1) (c .before .before .put-hex .ensures) place)))
+    let put = put-then (p .inv .1 .1) (c .before .before .put-hex .ensures) place in
+    (omega arith, (search needs, rw (hex-next (a .row .now) (p .i) (omega arith)) at put))
 
 put-char-requires : tie.Need-put-char-requires Inv-loop μ-loop
 put-char-requires c κs =

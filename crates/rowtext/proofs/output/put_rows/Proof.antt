@@ -31,7 +31,8 @@ loop-holds c =
 abbrev start : tie.At-loop Inv-loop μ-loop → tie.Start Inv-loop μ-loop
 start c = c .before .before .before
 
-stands : (c : tie.In-loop Inv-loop μ-loop) → c .before .loop .i * start (c .before) .args .w + start (c .before) .args .w ≤ length (start (c .before) .args .list .now)
+stands : (c : tie.In-loop Inv-loop μ-loop) → let a = start (c .before) .args in
+    c .before .loop .i * a .w + a .w ≤ length (a .list .now)
 stands c =
     let a = start (c .before) .args in
     omega (arith, row-fits (c .before .loop .i) (a .count) (a .w) (omega arith), start (c .before) .pre .0)
@@ -94,7 +95,8 @@ loop-again c =
     let a = k .args in
     let p = t .before .loop in
     let begins : a .at ≤ length (a .out .now) = omega (arith, k .pre .1) in
-    (omega arith, (search needs, rw (lent t, rows-next (a .w) (p .i) (a .list .now)) at (put-then (p .inv .1 .1) (c .before .before .put-row .ensures) begins)))
+    let put = put-then (p .inv .1 .1) (c .before .before .put-row .ensures) begins in
+    (omega arith, (search needs, rw (lent t, rows-next (a .w) (p .i) (a .list .now)) at put))
 
 same-length : tie.Need-same-length Inv-loop μ-loop
 same-length c = search needs
