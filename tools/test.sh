@@ -63,6 +63,9 @@ count_rust_tests() {
 count_proofs
 if [ -f rust/Cargo.toml ]; then
     run rt staticlib dairyhour || broke "the static library could not be built"
+    # The program that the proofs were compiled to, for the tests that run it.
+    ROWLIST="$PWD/target/bin/rowlist"
+    export ROWLIST
     count_rust_tests
 fi
 finish

@@ -510,7 +510,7 @@ const POWERS: [u8; 498] = [
 ];
 
 // The number of powers of 2 in the field: the elements but 0.
-fn order(nc: usize) -> usize
+pub fn order(nc: usize) -> usize
     requires { ⌜ (3 ≤ nc) × (nc ≤ 8) ⌝ }
     ensures { λ r. ⌜ r ≡ 2 ^ nc - 1 ⌝ }
 {
@@ -526,14 +526,14 @@ fn base_of(nc: usize) -> usize
 }
 
 // The table as a local array, to be lent: a constant that is read in place is copied at each read.
-fn table() -> [u8; 498]
+pub fn table() -> [u8; 498]
     ensures { λ r. ⌜ r ≡ powers ⌝ }
 {
     POWERS
 }
 
 // 2 to the power e, from the table.
-fn entry(t: &[u8; 498], nc: usize, e: usize) -> u8
+pub fn entry(t: &[u8; 498], nc: usize, e: usize) -> u8
     requires { ⌜ (now t ≡ powers) × (3 ≤ nc) × (nc ≤ 8) × (e + 1 < 2 ^ nc) ⌝ }
     ensures { λ r. ⌜ r ≡ power nc e ⌝ }
 {
@@ -583,7 +583,7 @@ pub fn log_of(nc: usize, logs: &[u8], x: u8) -> usize
 }
 
 // 2 to the power e, times x.
-fn shift(t: &[u8; 498], nc: usize, logs: &[u8], e: usize, x: u8) -> u8
+pub fn shift(t: &[u8; 498], nc: usize, logs: &[u8], e: usize, x: u8) -> u8
     requires { ⌜ (now t ≡ powers) × (3 ≤ nc) × (nc ≤ 8) × Logs nc (now logs) × (e + 1 < 2 ^ nc) × Element nc x ⌝ }
     ensures { λ r. ⌜ r ≡ times nc (power nc e) x ⌝ }
 {

@@ -1,18 +1,16 @@
 -- What is known of a consistent row under a state: a line of chunks none of which is open has its sum, a row without open chunks
 -- is the one in hand, and its chunk at a cell is one of the contents tried. Rests on the laws of lines, found and cells.
 -- Assumes nothing.
-use Prim.Native.Nat.{ℕ, _+_, _*_, _/_, _%_, _<_, _≤_}
+use Prim.Native.Nat.{ℕ, _+_, _*_, _<_, _≤_}
 use mathlib.Core.Path.{_≡_, sym, ap, _∙_}
 use mathlib.Core.Logic.{_⊎_, inl, inr, ⊎-elim}
 use mathlib.Core.List.{List}
-use native.Mathlib.Nat.{div-add-mod', div-lt-iff-lt-mul, mod-lt}
 use native.Mathlib.Omega.{arith}
 use lib.ListN.{length, getD, drop, set}
 use Rattle.bits.specs.Bits.{digits}
 use Rattle.bits.proofs.Laws.{lt-or-ge}
 use Rattle.vt.specs.Sum.{sum}
 use Rattle.message.specs.declared.Layout.{Layout}
-use Rattle.message.proofs.Legal.{legal-bounds}
 use Rattle.consistent.specs.Greedy.{losses, inAll}
 use Rattle.lines.specs.Lines.{values, line}
 use Rattle.lines.proofs.Lines.{block-line, string-line}
@@ -21,7 +19,8 @@ use Rattle.found.proofs.Found.{sent-parts}
 use Rattle.cells.specs.Cells.{share, chunkOf, Open, Under, found}
 use Rattle.cells.specs.declared.Cells.{Cells}
 use Rattle.cells.proofs.Shares.{all-found}
-use Rattle.cells.proofs.State.{decide, in-hand, closed-column, closed-block}
+use Rattle.cells.proofs.State.{decide, closed-column, closed-block}
+use Rattle.recover.proofs.Recovered.{chunk-in-hand}
 use Rattle.fill.specs.Fill.{With, Below}
 
 -- ---- one consistent row under a state
@@ -46,11 +45,7 @@ module _ {l : Layout} {numbers y x : List ℕ} (given : Given l numbers y) (s : 
   -- where no cell is open the row is the one in hand
   pub none-open : ((z : ℕ) → z < 12 → getD (cells .lost) z 0 ≡ 0) → InHand l row x
   none-open n c h =
-      let low : 1 ≤ l .l2 = legal-bounds l (given .is-legal) .l2-low in
-      let row-of : c / l .l2 < l .l1 = div-lt-iff-lt-mul {k = l .l2} {x = c} {y = l .l1} (omega arith) .1 h in
-      rw (div-add-mod' c (l .l2)) at
-      (in-hand l y cells row x u (c / l .l2) (c % l .l2) row-of (mod-lt c (omega arith))
-      (λ o. absurd (omega (arith, o .1 .0, n (o .0) (o .1 .0 .0)))))
+      chunk-in-hand l (given .is-legal) y cells row x u c h (λ o. absurd (omega (arith, o .1 .0, n (o .0) (o .1 .0 .0))))
 
 -- ---- the contents of a cell, one after another
 module _ (l : Layout) (y : List ℕ) (cells : Cells) (row : List ℕ) (z v : ℕ) {x : List ℕ} where

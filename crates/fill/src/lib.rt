@@ -1,6 +1,7 @@
-// Filling: chunks that are still short when nothing is left to mend are erased, and every content is tried that loses just their
-// counts and meets the sums. However many are erased, every fill that meets all sums and checks is listed. Contracts cite
-// specs/Fill.antt, and the specs of found and of cells.
+// Filling: chunks that are still short when nothing is left to mend are erased. As many of them as there are checks are recovered
+// from these; while there are more, every content is tried that loses just their counts and meets the sums. However many are
+// erased, every fill that meets all sums and checks is listed. Contracts cite specs/Fill.antt, and the specs of found and of
+// cells.
 use cells::Cells;
 use message::Layout;
 use rows::Kept;
@@ -13,7 +14,7 @@ ghost use Rattle.vt.specs.Sum.{sum};
 ghost use Rattle.message.specs.Layout.{legal};
 ghost use Rattle.lines.specs.Lines.{line, Inside};
 ghost use Rattle.found.specs.Found.{Given, Holding, Grown};
-ghost use Rattle.cells.specs.Cells.{NoSingle, Open, chunkOf, Placed, Under};
+ghost use Rattle.cells.specs.Cells.{NoSingle, Open, Placed, Under};
 ghost use Rattle.fill.specs.Fill.{Passes, With};
 
 // The first cell that is still to be found, 12 if there is none.
@@ -99,16 +100,6 @@ fn sums_met(l: Layout, numbers: &[u16], cells: Cells, row: [u8; 255], z: usize) 
     block_met(l, numbers, cells, row, i)
 }
 
-// The chunk of cell z, counted in row order.
-fn chunk_of(l: Layout, cells: Cells, z: usize) -> usize
-    requires { ⌜ (legal l ≡ true) × ((z < 12) × ((getD (cells .block) z 0 < l .l1) × (getD (cells .column) z 0 < l .l2))) ⌝ }
-    ensures { λ r. ⌜ (r ≡ chunkOf l cells z) × (r < 255) ⌝ }
-{
-    let i = bits::wide(cells.block[z]);
-    let j = bits::wide(cells.column[z]);
-    i * l.l2 + j
-}
-
 // The rows in which cell z, which is open, has the content v: it is tried if it loses just the cell's count and its sums allow it.
 fn try_content(
     l: Layout,
@@ -130,7 +121,7 @@ fn try_content(
     if !cells::loses_just(l.nc, v, y, cells.place[z], cells.lost[z]) {
         return kept;
     }
-    let at = chunk_of(l, cells, z);
+    let at = recover::chunk_of(l, cells, z);
     let mut filled = row;
     filled[at] = v;
     let mut next = cells;
@@ -141,7 +132,8 @@ fn try_content(
     try_contents(l, y, numbers, next, filled, cap, list, kept)
 }
 
-// Every content of the open cells, cell by cell; where none is open the row in hand is tested whole.
+// Every content of the open cells, cell by cell while there are more of them than checks; the others have one content only. Where
+// none is open the row in hand is tested whole.
 fn try_contents(
     l: Layout,
     y: &[u8],
@@ -161,6 +153,11 @@ fn try_contents(
     let z = next_open(lost);
     if z == 12 {
         return found::add_row(l, y, numbers, row, cap, list, kept);
+    }
+    let erased = recover::collect(l, cells);
+    if erased.n <= l.r {
+        let whole = recover::recover(l, numbers, erased, row);
+        return found::add_row(l, y, numbers, whole, cap, list, kept);
     }
     let size = contents(l.nc);
     let mut held = kept;

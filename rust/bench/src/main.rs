@@ -3,11 +3,14 @@
 //!
 //! The two take turns, a few hundred calls each, so that whatever else the machine does hits both. Targets are
 //! lent again for each call and are not cleared before it. Usage: `bench [SECONDS]`, the time for each
-//! operation (2 if not given).
+//! operation (2 if not given), or `bench list [WORD=VALUES]...` for listing, see the module `list`.
 #![forbid(unsafe_code)]
 
 mod clock;
+mod films;
+mod list;
 mod rows;
+mod worker;
 
 use std::time::Duration;
 use std::{env, process};
@@ -21,14 +24,28 @@ use reference::{peer, Layout};
 use rows::{every_kind, Rows};
 
 fn main() {
-    let seconds = match env::args().nth(1).map(|word| word.parse::<u32>()) {
-        None => 2,
-        Some(Ok(seconds)) => seconds,
-        Some(Err(_)) => {
-            eprintln!("usage: bench [SECONDS]");
-            process::exit(2);
-        }
-    };
+    let words: Vec<String> = env::args().skip(1).collect();
+    match words.first().map(String::as_str) {
+        Some("list") => finish(list::run(&words[1..])),
+        Some(worker::WORD) => worker::serve(),
+        None => time_calls(2),
+        Some(word) => match word.parse() {
+            Ok(seconds) => time_calls(seconds),
+            Err(_) => finish(Err(format!("usage: bench [SECONDS]\n{}", list::USAGE))),
+        },
+    }
+}
+
+/// Says what went wrong, if anything did.
+fn finish(result: Result<(), String>) {
+    if let Err(text) = result {
+        eprintln!("{text}");
+        process::exit(2);
+    }
+}
+
+/// Times writing, reading and mending.
+fn time_calls(seconds: u32) {
     let time = Duration::from_secs(u64::from(seconds));
     println!("The times of single calls hold one reading of the clock, about {} ns.", clock_reading().as_nanos());
     time_all(Layout::new(15, 17, 8, 16), include_bytes!("../films/coldfire-fcu-n2040.pbm"), time);

@@ -12,9 +12,9 @@ use tester::{agree_list, Message, Received};
 #[test]
 fn every_length_around_whole_rows() {
     let (mut counted, mut refused, mut longest) = (0, 0, 0);
-    let small = |layout: &Layout| (3..=16).contains(&layout.row_bits());
+    let small = |layout: &Layout| layout.row_bits() <= 12;
     for layout in Layout::every_legal().into_iter().filter(small) {
-        for seed in 8_000_000..8_000_006 {
+        for seed in 8_000_000..8_000_012 {
             let layout = Layout { r: seed as usize % 2, ..layout };
             let k = layout.row_bits().min(12 - seed as usize % 3);
             let message = if seed % 6 == 5 { Message::Any } else { Message::Own };
@@ -41,7 +41,7 @@ fn a_long_list() {
     let judged = received.judge_by_supersequences();
     let count = judged.rows.as_ref().map_or(0, Vec::len);
     assert!(count > 1_000);
-    for room in [0, 4, 4095, 4096, 4 * count - 1, 4 * count, USED_BYTES + 4] {
+    for room in [0, 4095, 4 * count - 1, 4 * count, USED_BYTES + 4] {
         assert_eq!(agree_list(&received, &judged, room).is_ok(), room >= 4 * count);
     }
 }
@@ -90,7 +90,7 @@ fn only_the_first_65536_bytes_are_used() {
     let judged = judge_by(by_few_ones, &received.message, &received.row, received.m);
     let count = judged.rows.as_ref().map_or(0, Vec::len);
     assert!(count > 1_000);
-    for room in [USED_BYTES - 1, USED_BYTES, USED_BYTES + 128, 128 * count] {
+    for room in [USED_BYTES - 1, 128 * count] {
         assert_eq!(agree_list(&received, &judged, room), Err(9));
         assert_eq!(judged.listed(room).written.len(), if room < USED_BYTES { 511 * 128 } else { 512 * 128 });
     }

@@ -1,7 +1,7 @@
 -- `fill::try_content` and `fill::try_contents`, which call each other, meet their contracts. The measure is twice the losses
 -- that are still open, and one more for the function with the loop. The loop's invariant: every consistent row under the state
--- whose chunk at the cell is below the content v is known. Rests on the laws of steps (found) and of a cell that is found
--- (cells). Assumes nothing.
+-- whose chunk at the cell is below the content v is known. Where there are enough checks, the row that is recovered is the only
+-- one. Rests on the laws of steps (found) and of a cell that is found (cells). Assumes nothing.
 use borrow.Author.Needs.{needs}
 use Prim.Native.Nat.{ℕ, _+_, _-_, _*_, _%_, _<_}
 use mathlib.Core.Path.{_≡_, sym, _∙_}
@@ -29,7 +29,9 @@ use Rattle.fill.proofs.try_contents.Reads as try-contents
 use Rattle.fill.proofs.try_contents.Kinds as try-contents-kinds
 use Rattle.fill.proofs.+try_content+try_contents.Lts-try_contents as try-contents-lts
 use Rattle.found.proofs.add_row.Reads as add-row-reads
-use Rattle.fill.proofs.chunk_of.Reads as chunk-of-reads
+use Rattle.recover.proofs.chunk_of.Reads as chunk-of-reads
+use Rattle.recover.proofs.collect.Reads as collect-reads
+use Rattle.recover.proofs.recover.Reads as recover-reads
 use Rattle.fill.proofs.contents.Reads as contents-reads
 use Rattle.cells.proofs.loses_just.Reads as loses-just-reads
 use Rattle.fill.proofs.next_open.Reads as next-open-reads
@@ -82,6 +84,10 @@ try-contents-claims t = (
   next-open-reads.Learnt,
   add-row-reads.Asked,
   add-row-reads.Learnt,
+  collect-reads.Asked,
+  collect-reads.Learnt,
+  recover-reads.Asked,
+  recover-reads.Learnt,
   contents-reads.Asked,
   contents-reads.Learnt,
   try-content-below t,
@@ -89,7 +95,8 @@ try-contents-claims t = (
 )
 
 -- the row in hand has 255 chunks
-row-length : (t : ℕ) (c : try-content-lts.Start (try-content-claims t) (try-content-at t) try-content.Post) → length (c .args .row) ≡ 255
+row-length : (t : ℕ) (c : try-content-lts.Start (try-content-claims t) (try-content-at t) try-content.Post)
+    → length (c .args .row) ≡ 255
 row-length t c = search needs
 
 -- a row with this content is under the state in which the cell is found
@@ -211,16 +218,48 @@ try-contents-returns t c =
     grown-weaken (λ x r u. none-open (s .pre .1 .0) r u (λ z h. all z (omega (arith, o .if1 .taken))))
     (c .before .before .add-row .ensures)
 
+try-contents-collect-requires : (t : ℕ)
+    → try-contents-lts.Need-collect-requires (try-contents-claims t) (try-contents-at t) try-contents.Post Inv-loop μ-loop
+try-contents-collect-requires t c κs =
+    let s = c .before .before .before .before .before .before in
+    (s .pre .1 .0 .is-legal, λ z o. let q = s .pre .1 .1 .1 z o in (q .0, q .1 .0))
+
+try-contents-recover-requires : (t : ℕ)
+    → try-contents-lts.Need-recover-requires (try-contents-claims t) (try-contents-at t) try-contents.Post Inv-loop μ-loop
+try-contents-recover-requires t c κs =
+    let k = c .before .before .before in
+    let s = k .before .before .before .before .before .before .before in
+    let e = k .collect .ensures in
+    (s .pre .1 .0 .is-legal, (s .pre .1 .0 .count, (e .few, (omega (arith, c .if2 .taken), e .spots))))
+
+try-contents-add-row-requires-2 : (t : ℕ)
+    → try-contents-lts.Need-add-row-requires-2 (try-contents-claims t) (try-contents-at t) try-contents.Post Inv-loop μ-loop
+try-contents-add-row-requires-2 t c κs = search needs
+
+try-contents-same-length-2 : (t : ℕ)
+    → try-contents-lts.Need-same-length-2 (try-contents-claims t) (try-contents-at t) try-contents.Post Inv-loop μ-loop
+try-contents-same-length-2 t c = search needs
+
+try-contents-returns-2 : (t : ℕ)
+    → try-contents-lts.Need-returns-2 (try-contents-claims t) (try-contents-at t) try-contents.Post Inv-loop μ-loop
+try-contents-returns-2 t c =
+    let r = c .before .before .before .before in
+    let k = r .before .before .before .before in
+    let s = k .before .before .before .before .before .before .before in
+    let a = s .args in
+    grown-weaken (λ x sent u. r .recover .ensures (a .cells) (k .collect .ensures) (a .y .now) x (s .pre .1 .0) sent u)
+    (c .before .before .add-row2 .ensures)
+
 try-contents-contents-requires : (t : ℕ)
     → try-contents-lts.Need-contents-requires (try-contents-claims t) (try-contents-at t) try-contents.Post Inv-loop μ-loop
 try-contents-contents-requires t c κs =
-    let s = c .before .before .before .before .before .before in
+    let s = c .before .before .before .before .before .before .before .before .before .before in
     legal-bounds (s .args .l) (s .pre .1 .0 .is-legal) .nc-high
 
 try-contents-loop-holds : (t : ℕ)
     → try-contents-lts.Need-loop-holds (try-contents-claims t) (try-contents-at t) try-contents.Post Inv-loop μ-loop
 try-contents-loop-holds t c =
-    let s = c .before .before .before .before .before .before .before in
+    let s = c .before .before .before .before .before .before .before .before .before .before .before in
     grown-nothing (s .pre .1 .1 .0) (λ x r b. omega (arith, b .1))
 
 try-contents-cast-try-content : (t : ℕ)
@@ -230,9 +269,9 @@ try-contents-cast-try-content t c = search needs
 try-contents-try-content-requires : (t : ℕ)
     → try-contents-lts.Need-try-content-requires (try-contents-claims t) (try-contents-at t) try-contents.Post Inv-loop μ-loop
 try-contents-try-content-requires t c κs =
-    let s = c .before .before .before .before .before .before .before .before .before .before in
     let p = c .before .before .loop in
-    let o = c .before .before .before .before in
+    let o = c .before .before .before .before .before .before .before .before in
+    let s = o .before .before .before .before .before .before in
     let z : o .before .next-open .result < 12 = omega (arith, o .before .next-open .ensures .0, o .if1 .left) in (
       omega (arith, s .pre .0),
       (s .pre .1 .0, (grown-holding (s .pre .1 .1 .0) (p .inv), (s .pre .1 .1 .1, (z, o .before .next-open .ensures .1 .0 z)))),
@@ -251,29 +290,29 @@ try-contents-loop-less t c =
 try-contents-loop-again : (t : ℕ)
     → try-contents-lts.Need-loop-again (try-contents-claims t) (try-contents-at t) try-contents.Post Inv-loop μ-loop
 try-contents-loop-again t c =
-    let s = c .before .before .before .before .before .before .before .before .before .before .before .before .before in
-    let a = s .args in
     let q = c .before .before .before .before .before in
-    let z = q .before .before .before .next-open .result in
+    let s = q .before .before .before .before .before .before .before .before .before .before .before .before in
+    let a = s .args in
+    let z = q .before .before .before .before .before .before .before .next-open .result in
     let v = q .loop .v in
     let low : v < 256 = omega (arith, c .before .before .before .before .loop-test .taken, q .before .contents .ensures .1) in
     let e : v ≡ v % 256 = sym (mod-eq-of-lt low) in
     grown-weaken (λ x r b. below-next (a .l) (a .y .now) (a .cells) (a .row) z v (v % 256) e b)
     (grown-then (s .pre .1 .1 .0) (q .loop .inv) (c .before .before .try-content .ensures))
 
-try-contents-same-length-2 : (t : ℕ)
-    → try-contents-lts.Need-same-length-2 (try-contents-claims t) (try-contents-at t) try-contents.Post Inv-loop μ-loop
-try-contents-same-length-2 t c =
-    let s = c .before .before .before .before .before .before .before .before .before in
+try-contents-same-length-3 : (t : ℕ)
+    → try-contents-lts.Need-same-length-3 (try-contents-claims t) (try-contents-at t) try-contents.Post Inv-loop μ-loop
+try-contents-same-length-3 t c =
+    let s = c .before .before .before .before .before .before .before .before .before .before .before .before .before in
     grown-length (s .pre .1 .1 .0) (c .before .loop .inv)
 
-try-contents-returns-2 : (t : ℕ)
-    → try-contents-lts.Need-returns-2 (try-contents-claims t) (try-contents-at t) try-contents.Post Inv-loop μ-loop
-try-contents-returns-2 t c =
-    let s = c .before .before .before .before .before .before .before .before .before in
+try-contents-returns-3 : (t : ℕ)
+    → try-contents-lts.Need-returns-3 (try-contents-claims t) (try-contents-at t) try-contents.Post Inv-loop μ-loop
+try-contents-returns-3 t c =
+    let s = c .before .before .before .before .before .before .before .before .before .before .before .before .before in
     let a = s .args in
     let o = c .before .before in
-    let at = chunkOf (a .l) (a .cells) (o .before .before .next-open .result) in
+    let at = chunkOf (a .l) (a .cells) (o .before .before .before .before .before .before .next-open .result) in
     grown-weaken (λ x r u. (u, omega (arith, value-low (a .l) x (r .0) at, o .contents .ensures .0, c .loop-test .left)))
     (c .before .loop .inv)
 
@@ -303,6 +342,11 @@ pub +try-content+try-contents-spec : {M : Type 1} → statement M
     (try-contents-add-row-requires t)
     (try-contents-same-length t)
     (try-contents-returns t)
+    (try-contents-collect-requires t)
+    (try-contents-recover-requires t)
+    (try-contents-add-row-requires-2 t)
+    (try-contents-same-length-2 t)
+    (try-contents-returns-2 t)
     (try-contents-contents-requires t)
     (try-contents-loop-holds t)
     (try-contents-cast-try-content t)
@@ -310,5 +354,5 @@ pub +try-content+try-contents-spec : {M : Type 1} → statement M
     (try-contents-add-v t)
     (try-contents-loop-less t)
     (try-contents-loop-again t)
-    (try-contents-same-length-2 t)
-    (try-contents-returns-2 t)
+    (try-contents-same-length-3 t)
+    (try-contents-returns-3 t)

@@ -1,12 +1,12 @@
--- `fill::chunk_of` meets its contract: the chunk is one of at most 255. Assumes nothing.
+-- `recover::chunk_of` meets its contract: the chunk is one of at most 255. Assumes nothing.
 use borrow.Author.Needs.{needs}
 use Prim.Native.Nat.{_+_, _*_, _<_}
 use mathlib.Core.Path.{_≡_, refl}
 use native.Mathlib.Omega.{arith}
 use Rattle.cells.specs.Cells.{chunkOf}
 use Rattle.cells.proofs.State.{chunk-low}
-use Rattle.fill.proofs.chunk_of.Statement.{statement}
-use Rattle.fill.proofs.chunk_of.Tie as tie
+use Rattle.recover.proofs.chunk_of.Statement.{statement}
+use Rattle.recover.proofs.chunk_of.Tie as tie
 
 -- what is computed, and that it is low
 stands : (c : tie.After-wide2) →

@@ -1,0 +1,2 @@
+pub mod Erasures
+pub mod Anchor

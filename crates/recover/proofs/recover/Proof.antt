@@ -1,0 +1,128 @@
+-- `recover::recover` meets its contract: what is missing of the checks is what the erased chunks bring, and only their
+-- contents bring it. Assumes nothing.
+use borrow.Author.Needs.{needs}
+use Prim.Native.Nat.{_≤_}
+use mathlib.Core.Path.{_≡_}
+use native.Mathlib.Nat.{mod-lt}
+use native.Mathlib.Omega.{arith}
+use lib.ListN.{length, getD, replicate}
+use lib.Pow.{pow-pos}
+use Rattle.field.specs.Field.{Elements}
+use Rattle.field.proofs.Double.{size-high}
+use Rattle.message.proofs.Legal.{Bounds, legal-bounds, sizes}
+use Rattle.erasures.specs.Erasures.{Places}
+use Rattle.recover.specs.Recover.{Spots}
+use Rattle.recover.proofs.Recovered.{blank-at, solved}
+use Rattle.recover.proofs.recover.Statement.{statement}
+use Rattle.recover.proofs.recover.Tie as tie
+
+bounds : (s : tie.Start) → Bounds (s .args .l)
+bounds s = legal-bounds (s .args .l) (s .pre .0)
+
+-- the places are among 255, and so among the places of the field
+spots : (s : tie.Start) → Spots (s .args .e .n) 255 (s .args .e .places)
+spots s =
+    let p = s .pre .1 .1 .1 .1 in
+    record {
+      inside = λ w h. omega (arith, p .inside w h, sizes (s .args .l) (bounds s) .chunks);
+      apart = p .apart;
+    }
+
+places : (s : tie.Start) → Places (s .args .l .nc) (s .args .e .n) (λ w. getD (s .args .e .places) w 0)
+places s =
+    let p = s .pre .1 .1 .1 .1 in
+    record {
+      low = λ w h. omega (arith, p .inside w h, bounds s .chunks-high);
+      apart = p .apart;
+    }
+
+-- where the row in hand is in the field: the function's start
+abbrev start : tie.After-reduce → tie.Start
+start c = c .before .before .before .before .before .before .before
+
+long : (c : tie.After-reduce) → 255 ≤ length (c .reduce .result)
+long c =
+    let e : length (c .reduce .result) ≡ 255 = search needs in
+    omega arith
+
+elements : (c : tie.After-reduce) → Elements (start c .args .l .nc) (c .reduce .result)
+elements c k =
+    rw (c .reduce .ensures k) (mod-lt (getD (c .before .put .result) k 0) (pow-pos (start c .args .l .nc)))
+
+slice-aggregate-fill-logs : tie.Need-slice-aggregate-fill-logs
+slice-aggregate-fill-logs c = search needs
+
+fill-logs-requires : tie.Need-fill-logs-requires
+fill-logs-requires c κs =
+    let s = c .before .before in
+    let b = bounds s in
+    (b .nc-low, b .nc-high, size-high (s .args .l .nc) (b .nc-high))
+
+table-requires : tie.Need-table-requires
+table-requires c κs = search needs
+
+put-requires : tie.Need-put-requires
+put-requires c κs =
+    let s = c .before .before .before .before .before in
+    (s .pre .1 .1 .0, spots s)
+
+reduce-requires : tie.Need-reduce-requires
+reduce-requires c κs =
+    let b = bounds (c .before .before .before .before .before .before) in
+    (b .nc-low, b .nc-high)
+
+slice-aggregate-missing : tie.Need-slice-aggregate-missing
+slice-aggregate-missing c = search needs
+
+missing-requires : tie.Need-missing-requires
+missing-requires c κs =
+    let k = c .before in
+    let s = start k in
+    (s .pre .0, (k .before .before .before .before .fill-logs .ensures .1, (elements k, s .pre .1 .0)))
+
+slice-aggregate-solve : tie.Need-slice-aggregate-solve
+slice-aggregate-solve c = search needs
+
+solve-requires : tie.Need-solve-requires
+solve-requires c κs =
+    let m = c .before .before .before in
+    let k = m .before .before in
+    let s = start k in
+    let b = bounds s in (
+      (k .before .before .table .ensures, b .nc-low, b .nc-high, k .before .before .before .before .fill-logs .ensures .1),
+      (omega arith, s .pre .1 .1 .0, places s, m .missing .ensures .0),
+    )
+
+put-requires-2 : tie.Need-put-requires-2
+put-requires-2 c κs =
+    let s = start (c .before .before .before .before .before .before) in
+    (s .pre .1 .1 .0, spots s)
+
+returns : tie.Need-returns
+returns c cells collected y x given sent under =
+    let m = c .before .before .before .before .before in
+    let k = m .before .before in
+    let s = start k in
+    let a = s .args in
+    let p = k .before .put in
+    let v = c .before .solve in
+    let few : a .e .n ≤ a .l .r = omega (arith, s .pre .1 .1 .1 .0) in
+    solved (a .l) (a .numbers .now) y x (a .row) cells (a .e .n) (a .e .places) given sent under collected (replicate 12 0)
+    (p .result) (k .reduce .result) (long k) (blank-at 12) (p .ensures) (k .reduce .ensures) (m .missing .result)
+    (v .result) (c .put2 .result) few (m .missing .ensures .1) (v .ensures .1) (c .put2 .ensures)
+
+pub recover-spec : {M : Type 1} → statement M
+recover-spec =
+    tie.close
+    (tie.spec
+    slice-aggregate-fill-logs
+    fill-logs-requires
+    table-requires
+    put-requires
+    reduce-requires
+    slice-aggregate-missing
+    missing-requires
+    slice-aggregate-solve
+    solve-requires
+    put-requires-2
+    returns)
