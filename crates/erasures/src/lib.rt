@@ -10,7 +10,8 @@ ghost use Rattle.erasures.specs.Erasures.{brought, Brings, without, scal
 
 // A quotient: the element that d times gives x.
 fn divide(t: &[u8; 498], nc: usize, logs: &[u8], x: u8, d: u8) -> u8
-    requires { ⌜ ((now t ≡ powers) × (3 ≤ nc) × (nc ≤ 8) × Logs nc (now logs)) × (Element nc x × Element nc d × (0 < d)) ⌝ }
+    requires { ⌜ ((now t ≡ powers) × (3 ≤ nc) × (nc ≤ 8) × Logs nc (now logs))
+        × (Element nc x × Element nc d × (0 < d)) ⌝ }
     ensures { λ r. ⌜ Element nc r × ((e : ℕ) → Element nc e → x ≡ times nc d e → r ≡ e) ⌝ }
 {
     let e = field::log_of(nc, logs, d);
@@ -22,7 +23,8 @@ fn divide(t: &[u8; 498], nc: usize, logs: &[u8], x: u8, d: u8) -> u8
 
 // The chunk at place c taken out of the first n checks: of these n - 1 numbers are left.
 fn take_out(t: &[u8; 498], nc: usize, logs: &[u8], c: usize, n: usize, s: [u8; 16]) -> [u8; 16]
-    requires { ⌜ ((now t ≡ powers) × (3 ≤ nc) × (nc ≤ 8) × Logs nc (now logs)) × ((c + 1 < 2 ^ nc) × (n ≤ 16) × Elements nc s) ⌝ }
+    requires { ⌜ ((now t ≡ powers) × (3 ≤ nc) × (nc ≤ 8) × Logs nc (now logs))
+        × ((c + 1 < 2 ^ nc) × (n ≤ 16) × Elements nc s) ⌝ }
     ensures { λ r. ⌜ Elements nc r × ((i : ℕ) → suc i < n → getD r i 0 ≡ without nc c (getD s i 0) (getD s (suc i) 0)) ⌝ }
 {
     let mut out = s;
@@ -45,8 +47,8 @@ fn settle(
     first: u8,
     rest: [u8; 12],
 ) -> [u8; 12]
-    requires { ⌜ ((now t ≡ powers) × (3 ≤ nc) × (nc ≤ 8) × Logs nc (now logs)) × ((u < n) × (n ≤ 12) × Places nc n (λ z. getD cs z 0)
-        × Element nc first × Elements nc rest) ⌝ }
+    requires { ⌜ ((now t ≡ powers) × (3 ≤ nc) × (nc ≤ 8) × Logs nc (now logs))
+        × ((u < n) × (n ≤ 12) × Places nc n (λ z. getD cs z 0) × Element nc first × Elements nc rest) ⌝ }
     ensures { λ r. ⌜ Elements nc r × ((e : ℕ → ℕ) → Contents nc e
         → ((z : ℕ) → u < z → z < n → getD rest z 0 ≡ scaled nc (λ v. getD cs v 0) e u z)
         → first ≡ brought nc 0 (λ v. getD cs v 0) e u (n - u)
@@ -82,7 +84,8 @@ pub fn solve(
     u: usize,
     s: [u8; 16],
 ) -> [u8; 12]
-    requires { ⌜ ((now t ≡ powers) × (3 ≤ nc) × (nc ≤ 8) × Logs nc (now logs)) × ((u ≤ n) × (n ≤ 12) × Places nc n (λ z. getD cs z 0) × Elements nc s) ⌝ }
+    requires { ⌜ ((now t ≡ powers) × (3 ≤ nc) × (nc ≤ 8) × Logs nc (now logs))
+        × ((u ≤ n) × (n ≤ 12) × Places nc n (λ z. getD cs z 0) × Elements nc s) ⌝ }
     ensures { λ r. ⌜ Elements nc r × ((e : ℕ → ℕ) → Contents nc e → Brings nc s (λ z. getD cs z 0) e u (n - u)
         → (z : ℕ) → u ≤ z → z < n → getD r z 0 ≡ e z) ⌝ }
 {

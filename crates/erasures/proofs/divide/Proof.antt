@@ -1,4 +1,5 @@
--- `erasures::divide` meets its contract: a quotient by 2 ^ e is a product with the power that e lacks to the order. Assumes nothing.
+-- `erasures::divide` meets its contract: a quotient by 2 ^ e is a product with the power that e lacks to the order. Assumes
+-- nothing.
 use Prim.Native.Nat.{ℕ, _-_}
 use mathlib.Core.Path.{ap, _∙_}
 use borrow.Author.Needs.{needs}
@@ -16,7 +17,8 @@ returns c =
     let s = c .before .before .before in
     let a = s .args in
     let p = s .pre in
-    (p .1 .0, λ e he h. quotient-one (a .nc) (p .0 .1) (p .0 .2) (a .x) (a .d) e (rw (c .if1 .taken) at (c .before .log-of .ensures .1)) h)
+    let one = rw (c .if1 .taken) at (c .before .log-of .ensures .1) in
+    (p .1 .0, λ e he h. quotient-one (a .nc) (p .0 .1) (p .0 .2) (a .x) (a .d) e one h)
 
 order-requires : tie.Need-order-requires
 order-requires c κs = search needs
@@ -34,7 +36,10 @@ returns-2 c =
     let p = s .pre in
     let g = c .before .before .before .log-of in
     let r = c .shift in
-    (rw (r .ensures) (times-element (a .nc) (p .0 .1) (p .0 .2) _ (a .x) (p .1 .0)), λ e he h. quotient (a .nc) (p .0 .1) (p .0 .2) (a .x) (a .d) e (g .result) (r .result) he (g .ensures .0) (g .ensures .1) (r .ensures ∙ ap (λ (n : ℕ). times (a .nc) (power (a .nc) (n - g .result)) (a .x)) (c .before .order .ensures)) h)
+    let is = r .ensures ∙ ap (λ (n : ℕ). times (a .nc) (power (a .nc) (n - g .result)) (a .x)) (c .before .order .ensures) in (
+      rw (r .ensures) (times-element (a .nc) (p .0 .1) (p .0 .2) _ (a .x) (p .1 .0)),
+      λ e he h. quotient (a .nc) (p .0 .1) (p .0 .2) (a .x) (a .d) e (g .result) (r .result) he (g .ensures .0) (g .ensures .1) is h,
+    )
 
 pub divide-spec : {M : Type 1} → statement M
 divide-spec =
