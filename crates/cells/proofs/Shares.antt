@@ -14,7 +14,8 @@ use Rattle.cells.specs.Cells.{share, NoSingle, SingleAt}
 
 -- ---- cell by cell
 pub share-next : (keys lost : List ℕ) (key z : ℕ) → z < length keys → z < length lost
-    → share (drop z keys) (drop z lost) key ≡ cond (eqb (getD keys z 0) key) (getD lost z 0) 0 + share (drop (z + 1) keys) (drop (z + 1) lost) key
+    → share (drop z keys) (drop z lost) key
+    ≡ cond (eqb (getD keys z 0) key) (getD lost z 0) 0 + share (drop (z + 1) keys) (drop (z + 1) lost) key
 unfolding share
 share-next keys lost key z h g = rw (drop-cons keys z 0 h, drop-cons lost z 0 g, add-one z) refl
 
@@ -38,8 +39,10 @@ unfolding share
 share-two [] lost key z w h g n e f = absurd (omega arith)
 share-two (k ∷ keys) [] key z w h g n e f = omega arith
 share-two (k ∷ keys) (a ∷ lost) key zero zero h g n e f = absurd (n refl)
-share-two (k ∷ keys) (a ∷ lost) key zero (suc w) h g n e f = rw (eq-eqb k key e) (omega (arith, share-most keys lost key w (omega arith) f))
-share-two (k ∷ keys) (a ∷ lost) key (suc z) zero h g n e f = rw (eq-eqb k key f) (omega (arith, share-most keys lost key z (omega arith) e))
+share-two (k ∷ keys) (a ∷ lost) key zero (suc w) h g n e f =
+    rw (eq-eqb k key e) (omega (arith, share-most keys lost key w (omega arith) f))
+share-two (k ∷ keys) (a ∷ lost) key (suc z) zero h g n e f =
+    rw (eq-eqb k key f) (omega (arith, share-most keys lost key z (omega arith) e))
 share-two (k ∷ keys) (a ∷ lost) key (suc z) (suc w) h g n e f =
     omega (arith, share-two keys lost key z w (omega arith) (omega arith) (λ p. n (ap suc p)) e f)
 

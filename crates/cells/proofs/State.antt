@@ -1,5 +1,5 @@
--- The rows under a state: what is known of a block or a chunk-string by the losses that are still open in it, and what a cell that is
--- found changes. Assumes nothing.
+-- The rows under a state: what is known of a block or a chunk-string by the losses that are still open in it, and what a cell
+-- that is found changes. Assumes nothing.
 use Prim.Native.Nat.{ℕ, zero, suc, _+_, _*_, _/_, _%_, _<_}
 use mathlib.Core.Path.{_≡_, refl, sym, ap, _∙_}
 use mathlib.Core.Bool.{Bool, true, false}
@@ -33,8 +33,10 @@ same-or-not a b = go (eqb a b) refl
 
 -- block and column say which chunk it is
 pub same-chunk : (n i j k m : ℕ) → j < n → m < n → i * n + j ≡ k * n + m → (i ≡ k) × (j ≡ m)
-same-chunk n i j k m h g e =
-    (sym (digits-div i h) ∙ ap (λ (c : ℕ). c / n) e ∙ digits-div k g, sym (digits-mod i h) ∙ ap (λ (c : ℕ). c % n) e ∙ digits-mod k g)
+same-chunk n i j k m h g e = (
+  sym (digits-div i h) ∙ ap (λ (c : ℕ). c / n) e ∙ digits-div k g,
+  sym (digits-mod i h) ∙ ap (λ (c : ℕ). c % n) e ∙ digits-mod k g,
+)
 
 -- chunk j of block i, counted in row order, is one of at most 255
 pub chunk-low : (l : Layout) → legal l ≡ true → (i j : ℕ) → i < l .l1 → j < l .l2 → i * l .l2 + j < 255
@@ -47,11 +49,12 @@ module _ (cells : Cells) (keys : List ℕ) (n : length keys ≡ 12) where
   none-open key s w o e = absurd (omega (arith, share-none keys (cells .lost) key s w (omega arith) e))
 
   -- a key with one loss has only the cell that lost it
-  pub only-open : (z : ℕ) → z < 12 → SingleAt keys (cells .lost) z → (w : ℕ) → Open cells w → getD keys w 0 ≡ getD keys z 0 → w ≡ z
-  only-open z h s w o e =
-      ⊎-elim (λ p. p)
-      (λ d. absurd (omega (arith, share-one keys (cells .lost) (getD keys z 0) (s .alone) z (omega arith) refl (omega (arith, s .one)) .1 w (omega arith) d e)))
-      (same-or-not w z)
+  pub only-open : (z : ℕ) → z < 12 → SingleAt keys (cells .lost) z
+      → (w : ℕ) → Open cells w → getD keys w 0 ≡ getD keys z 0 → w ≡ z
+  only-open z h s w o e = ⊎-elim (λ p. p) (λ d. absurd (omega (arith, others w (omega arith) d e))) (same-or-not w z)
+    where
+      others : (w : ℕ) → w < length keys → (w ≡ z → ⊥) → getD keys w 0 ≡ getD keys z 0 → getD (cells .lost) w 0 ≡ 0
+      others = share-one keys (cells .lost) (getD keys z 0) (s .alone) z (omega arith) refl (omega (arith, s .one)) .1
 
 -- ---- a cell that is found
 found-lost : (lost : List ℕ) (z : ℕ) → getD (set lost z 0) z 0 ≡ 0
@@ -93,7 +96,11 @@ module _ (l : Layout) (y : List ℕ) (cells : Cells) (row x : List ℕ) (u : Und
 
       now-decided : (i j : ℕ) → i < l .l1 → j < l .l2
           → OpenAt (found cells z) i j ⊎ (getD (values l x) (i * l .l2 + j) 0 ≡ getD (set row at v) (i * l .l2 + j) 0)
-      now-decided i j p q = ⊎-elim (λ o. was-open o (same-or-not (o .0) z)) (λ f. inr (put (i * l .l2 + j) (inr f))) (u .decided i j p q)
+      now-decided i j p q =
+          ⊎-elim
+          (λ o. was-open o (same-or-not (o .0) z))
+          (λ f. inr (put (i * l .l2 + j) (inr f)))
+          (u .decided i j p q)
         where
           was-open : (o : OpenAt cells i j) → (o .0 ≡ z) ⊎ (o .0 ≡ z → ⊥)
               → OpenAt (found cells z) i j ⊎ (getD (values l x) (i * l .l2 + j) 0 ≡ getD (set row at v) (i * l .l2 + j) 0)
@@ -101,13 +108,15 @@ module _ (l : Layout) (y : List ℕ) (cells : Cells) (row x : List ℕ) (u : Und
           was-open o (inr n) = inl (o .0, (open-after cells z (o .0) n (o .1 .0), o .1 .1))
 
       still : (w : ℕ) → Open (found cells z) w
-          → losses (digits (l .nc) (getD (values l x) (chunkOf l cells w) 0)) (drop (getD (cells .place) w 0) y) ≡ getD (set (cells .lost) z 0) w 0
+          → losses (digits (l .nc) (getD (values l x) (chunkOf l cells w) 0)) (drop (getD (cells .place) w 0) y)
+          ≡ getD (set (cells .lost) z 0) w 0
       still w o =
           let b = open-before cells z w o in
           u .loses w (b .1) ∙ sym (getD-set-other (cells .lost) z w 0 0 (b .0))
 
   -- a chunk where no cell is open is the one in hand
-  pub in-hand : (i j : ℕ) → i < l .l1 → j < l .l2 → (OpenAt cells i j → ⊥) → getD (values l x) (i * l .l2 + j) 0 ≡ getD row (i * l .l2 + j) 0
+  pub in-hand : (i j : ℕ) → i < l .l1 → j < l .l2 → (OpenAt cells i j → ⊥)
+      → getD (values l x) (i * l .l2 + j) 0 ≡ getD row (i * l .l2 + j) 0
   in-hand i j h g n = ⊎-elim (λ o. absurd (n o)) (λ e. e) (u .decided i j h g)
 
   -- ---- a chunk-string, and a block, without open losses: all its chunks are those in hand
@@ -115,13 +124,19 @@ module _ (l : Layout) (y : List ℕ) (cells : Cells) (row x : List ℕ) (u : Und
       → line (l .nc) j (l .l2) (l .l1) (values l x) ≡ line (l .nc) j (l .l2) (l .l1) row
   closed-column j n h s =
       line-same (l .nc) j (l .l2) (l .l1) (values l x) row
-      (λ t g. rw (add-comm j (t * l .l2)) (in-hand t j g h (λ o. none-open cells (cells .column) n j s (o .0) (o .1 .0) (o .1 .1 .1))))
+      (λ t g. rw (add-comm j (t * l .l2)) (in-hand t j g h (λ o. none (o .0) (o .1 .0) (o .1 .1 .1))))
+    where
+      none : (w : ℕ) → Open cells w → getD (cells .column) w 0 ≡ j → ⊥
+      none = none-open cells (cells .column) n j s
 
   pub closed-block : (i : ℕ) → length (cells .block) ≡ 12 → i < l .l1 → share (cells .block) (cells .lost) i ≡ 0
       → line (l .nc) (i * l .l2) 1 (l .l2) (values l x) ≡ line (l .nc) (i * l .l2) 1 (l .l2) row
   closed-block i n h s =
       line-same (l .nc) (i * l .l2) 1 (l .l2) (values l x) row
-      (λ t g. rw (mul-one t) (in-hand i t h g (λ o. none-open cells (cells .block) n i s (o .0) (o .1 .0) (o .1 .1 .0))))
+      (λ t g. rw (mul-one t) (in-hand i t h g (λ o. none (o .0) (o .1 .0) (o .1 .1 .0))))
+    where
+      none : (w : ℕ) → Open cells w → getD (cells .block) w 0 ≡ i → ⊥
+      none = none-open cells (cells .block) n i s
 
   -- ---- with one open loss: all its chunks but that of the open cell
   pub single-column : (z : ℕ) → length (cells .column) ≡ 12 → z < 12 → getD (cells .column) z 0 < l .l2
@@ -131,7 +146,10 @@ module _ (l : Layout) (y : List ℕ) (cells : Cells) (row x : List ℕ) (u : Und
   single-column z n b h s t g d =
       rw (add-comm (getD (cells .column) z 0) (t * l .l2))
       (in-hand t (getD (cells .column) z 0) g h
-      (λ o. d (sym (o .1 .1 .0) ∙ ap (λ (w : ℕ). getD (cells .block) w 0) (only-open cells (cells .column) n z b s (o .0) (o .1 .0) (o .1 .1 .1)))))
+      (λ o. d (sym (o .1 .1 .0) ∙ ap (λ (w : ℕ). getD (cells .block) w 0) (only (o .0) (o .1 .0) (o .1 .1 .1)))))
+    where
+      only : (w : ℕ) → Open cells w → getD (cells .column) w 0 ≡ getD (cells .column) z 0 → w ≡ z
+      only = only-open cells (cells .column) n z b s
 
   pub single-block : (z : ℕ) → length (cells .block) ≡ 12 → z < 12 → getD (cells .block) z 0 < l .l1
       → SingleAt (cells .block) (cells .lost) z
@@ -140,4 +158,7 @@ module _ (l : Layout) (y : List ℕ) (cells : Cells) (row x : List ℕ) (u : Und
   single-block z n b h s t g d =
       rw (mul-one t)
       (in-hand (getD (cells .block) z 0) t h g
-      (λ o. d (sym (o .1 .1 .1) ∙ ap (λ (w : ℕ). getD (cells .column) w 0) (only-open cells (cells .block) n z b s (o .0) (o .1 .0) (o .1 .1 .0)))))
+      (λ o. d (sym (o .1 .1 .1) ∙ ap (λ (w : ℕ). getD (cells .column) w 0) (only (o .0) (o .1 .0) (o .1 .1 .0)))))
+    where
+      only : (w : ℕ) → Open cells w → getD (cells .block) w 0 ≡ getD (cells .block) z 0 → w ≡ z
+      only = only-open cells (cells .block) n z b s

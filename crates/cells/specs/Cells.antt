@@ -46,10 +46,14 @@ OpenAt cells i j = (z : ℕ) × (Open cells z × ((getD (cells .block) z 0 ≡ i
 
 -- the open cells stand in the row, and the bits that they are matched against start in the received row of m bits
 abbrev pub Placed : Layout → (m : ℕ) → Cells → Type 0
-Placed l m cells = (z : ℕ) → Open cells z → (getD (cells .block) z 0 < l .l1) × ((getD (cells .column) z 0 < l .l2) × (getD (cells .place) z 0 ≤ m))
+Placed l m cells =
+    (z : ℕ) → Open cells z
+    → (getD (cells .block) z 0 < l .l1) × ((getD (cells .column) z 0 < l .l2) × (getD (cells .place) z 0 ≤ m))
 
 -- the row x is under the state: its chunks are those of the row in hand but for the open cells, and each open cell loses just its
 -- count against the received row from its place on
 pub record Under (l : Layout) (y : List ℕ) (cells : Cells) (row x : List ℕ) : Type 0 where
-  pub decided : (i j : ℕ) → i < l .l1 → j < l .l2 → OpenAt cells i j ⊎ (getD (values l x) (i * l .l2 + j) 0 ≡ getD row (i * l .l2 + j) 0)
-  pub loses : (z : ℕ) → Open cells z → losses (digits (l .nc) (getD (values l x) (chunkOf l cells z) 0)) (drop (getD (cells .place) z 0) y) ≡ getD (cells .lost) z 0
+  pub decided : (i j : ℕ) → i < l .l1 → j < l .l2
+      → OpenAt cells i j ⊎ (getD (values l x) (i * l .l2 + j) 0 ≡ getD row (i * l .l2 + j) 0)
+  pub loses : (z : ℕ) → Open cells z
+      → losses (digits (l .nc) (getD (values l x) (chunkOf l cells z) 0)) (drop (getD (cells .place) z 0) y) ≡ getD (cells .lost) z 0

@@ -29,7 +29,7 @@ fn add_sent(
 }
 
 // Adds the row whose bits are x, if it is consistent.
-fn add_bits(
+pub fn add_bits(
     l: Layout,
     y: &[u8],
     numbers: &[u16],

@@ -1,5 +1,5 @@
--- Cells found one after another: a turn starts where none is found yet, and each that is found takes its losses away. Assumes
--- nothing.
+-- Cells found one after another: a turn starts where none is found yet, each that is found takes its losses away, and what is
+-- listed afterwards is listed of the rows under the state before. Assumes nothing.
 use Prim.Native.Nat.{ℕ, _<_, _≤_}
 use mathlib.Core.Path.{_≡_, refl, sym, ap, _∙_, subst}
 use mathlib.Core.Bool.{Bool, true, false, true≢false, false≢true}
@@ -17,49 +17,52 @@ use Rattle.cells.proofs.State.{placed-found}
 use Rattle.turns.specs.Turns.{keysOf, Advanced}
 use Rattle.turns.specs.declared.Turn.{Turn}
 
-module _ (l : Layout) (numbers y : List ℕ) (cells : Cells) (row : List ℕ) where
-  -- nothing is found yet
-  pub advanced-none : Placed l (length y) cells
-      → Advanced l numbers y cells row (record { ok = true; any = false; cells = cells; row = row })
-  advanced-none p =
-      record { keeps = λ x s u. (refl, u); unchanged = λ e. refl; fewer = λ e. absurd (false≢true e); placed = p }
+-- nothing is found yet
+pub advanced-none : {l : Layout} (numbers : List ℕ) {y : List ℕ} {cells : Cells} {row : List ℕ} → Placed l (length y) cells
+    → Advanced l numbers y cells row (record { ok = true; any = false; cells = cells; row = row })
+advanced-none numbers p =
+    record { keeps = λ x s u. (refl, u); unchanged = λ e. refl; fewer = λ e. absurd (false≢true e); placed = p }
 
-  module _ (t : Turn) (a : Advanced l numbers y cells row t) where
-    -- open losses do not get more
-    pub no-more : inAll (t .cells .lost) ≤ inAll (cells .lost)
-    no-more = go (t .any) refl
-      where
-        go : (b : Bool) → t .any ≡ b → inAll (t .cells .lost) ≤ inAll (cells .lost)
-        go true e = omega (arith, a .fewer e)
-        go false e = omega (arith, ap (λ (c : Cells). inAll (c .lost)) (a .unchanged e))
+module _ {l : Layout} {numbers y : List ℕ} {cells : Cells} {row : List ℕ} {t : Turn} (a : Advanced l numbers y cells row t) where
+  -- open losses do not get more
+  no-more : inAll (t .cells .lost) ≤ inAll (cells .lost)
+  no-more = go (t .any) refl
+    where
+      go : (b : Bool) → t .any ≡ b → inAll (t .cells .lost) ≤ inAll (cells .lost)
+      go true e = omega (arith, a .fewer e)
+      go false e = omega (arith, ap (λ (c : Cells). inAll (c .lost)) (a .unchanged e))
 
-    -- where no cell was found, no line has one open loss that had none before
-    pub still-none : (k : Bool) → t .any ≡ false → NoSingle (keysOf k cells) (cells .lost) → NoSingle (keysOf k (t .cells)) (t .cells .lost)
-    still-none k e = subst (λ (c : Cells). NoSingle (keysOf k c) (c .lost)) (sym (a .unchanged e))
+  -- where no cell was found, no line has exactly one open loss that had not before
+  pub still-none : (k : Bool) → t .any ≡ false → NoSingle (keysOf k cells) (cells .lost)
+      → NoSingle (keysOf k (t .cells)) (t .cells .lost)
+  still-none k e = subst (λ (c : Cells). NoSingle (keysOf k c) (c .lost)) (sym (a .unchanged e))
 
-    -- ---- what is listed: nothing where the turn fails, else the rows under the state that it leaves
-    module _ {cap : ℕ} {entry : List ℕ} {c : ℕ} {m : Bool} where
-      pub grown-failed : Holding l numbers y cap entry c m → t .ok ≡ false
-          → Grown l numbers y cap (Under l y cells row) entry c m entry c m
-      grown-failed h e = grown-nothing h (λ x s u. false≢true (sym e ∙ a .keeps x s u .0))
+  -- ---- the next cell is found
+  module _ (z : ℕ) (r : Turn) (h : 0 < getD (t .cells .lost) z 0) (e : r .cells ≡ found (t .cells) z) where
+    pub falls : inAll (r .cells .lost) < inAll (t .cells .lost)
+    falls = omega (arith, ap (λ (c : Cells). inAll (c .lost)) e, all-found (t .cells .lost) z)
 
-      pub grown-advanced : {exit : List ℕ} {d : ℕ} {o : Bool}
-          → Grown l numbers y cap (Under l y (t .cells) (t .row)) entry c m exit d o
-          → Grown l numbers y cap (Under l y cells row) entry c m exit d o
-      grown-advanced = grown-weaken (λ x s u. a .keeps x s u .1)
+    pub advanced-next : r .any ≡ true
+        → ((x : List ℕ) → Sent l numbers y x → Under l y (t .cells) (t .row) x
+        → (r .ok ≡ true) × Under l y (r .cells) (r .row) x)
+        → Advanced l numbers y cells row r
+    advanced-next any keeps =
+        record {
+          keeps = λ x s u. keeps x s (a .keeps x s u .1);
+          unchanged = λ f. absurd (true≢false (sym any ∙ f));
+          fewer = λ f. omega (arith, falls, no-more);
+          placed = subst (λ (c : Cells). Placed l (length y) c) (sym e) (placed-found l (length y) (t .cells) z (a .placed));
+        }
 
-    -- ---- the next cell is found
-    module _ (z : ℕ) (k : 0 < getD (t .cells .lost) z 0) (r : Turn) (e : r .cells ≡ found (t .cells) z) where
-      pub falls : inAll (r .cells .lost) < inAll (t .cells .lost)
-      falls = omega (arith, ap (λ (c : Cells). inAll (c .lost)) e, all-found (t .cells .lost) z)
+  -- ---- what is listed
+  module _ {cap : ℕ} {entry : List ℕ} {c : ℕ} {m : Bool} where
+    -- nothing, where the turn fails
+    pub grown-failed : Holding l numbers y cap entry c m → t .ok ≡ false
+        → Grown l numbers y cap (Under l y cells row) entry c m entry c m
+    grown-failed h e = grown-nothing h (λ x s u. false≢true (sym e ∙ a .keeps x s u .0))
 
-      pub advanced-next : r .any ≡ true
-          → ((x : List ℕ) → Sent l numbers y x → Under l y (t .cells) (t .row) x → (r .ok ≡ true) × Under l y (r .cells) (r .row) x)
-          → Advanced l numbers y cells row r
-      advanced-next any keeps =
-          record {
-            keeps = λ x s u. keeps x s (a .keeps x s u .1);
-            unchanged = λ f. absurd (true≢false (sym any ∙ f));
-            fewer = λ f. omega (arith, falls, no-more);
-            placed = subst (λ (c : Cells). Placed l (length y) c) (sym e) (placed-found l (length y) (t .cells) z (a .placed));
-          }
+    -- else the rows under the state that it leaves
+    pub grown-advanced : {exit : List ℕ} {d : ℕ} {o : Bool}
+        → Grown l numbers y cap (Under l y (t .cells) (t .row)) entry c m exit d o
+        → Grown l numbers y cap (Under l y cells row) entry c m exit d o
+    grown-advanced = grown-weaken (λ x s u. a .keeps x s u .1)

@@ -1,5 +1,5 @@
--- Chunk-strings and blocks as lines of one chunk: where they stand, what their sum is in a consistent row, and what is known of them
--- where they have exactly one open loss. Assumes nothing.
+-- Chunk-strings and blocks as lines of one chunk: where they stand, what their sum is in a consistent row, and what is known of
+-- them where they have exactly one open loss. Assumes nothing.
 use Prim.Native.Nat.{ℕ, _+_, _-_, _*_, _<_, _≤_}
 use mathlib.Core.Path.{_≡_, refl, sym, ap, _∙_}
 use mathlib.Core.Bool.{Bool, true, false}
@@ -22,7 +22,7 @@ use Rattle.found.proofs.Found.{sent-parts}
 use Rattle.cells.specs.Cells.{SingleAt, chunkOf, Open, Placed, Under, found}
 use Rattle.cells.specs.declared.Cells.{Cells}
 use Rattle.cells.proofs.State.{chunk-low, decide, single-column, single-block}
-use Rattle.turns.specs.Turns.{keysOf, lineOf, Short}
+use Rattle.turns.specs.Turns.{keysOf, lineOf, Ready, chunkAt, Short}
 use Rattle.turns.specs.declared.Line.{Line}
 
 -- ---- where a line stands
@@ -30,8 +30,8 @@ module _ (l : Layout) (e : legal l ≡ true) (i j : ℕ) (h : i < l .l1) (g : j 
   small : Sizes l
   small = sizes l (legal-bounds l e)
 
-  -- the line is inside of the row
-  pub line-inside : (strings : Bool) → let n = lineOf strings l i j in Inside (l .nc) (n .start) (n .stride) (n .count) 255
+  -- inside of the row
+  line-inside : (strings : Bool) → let n = lineOf strings l i j in Inside (l .nc) (n .start) (n .stride) (n .count) 255
   line-inside true =
       record {
         nc-high = legal-bounds l e .nc-high;
@@ -47,86 +47,115 @@ module _ (l : Layout) (e : legal l ≡ true) (i j : ℕ) (h : i < l .l1) (g : j 
         last = omega (arith, mul-one (l .l2), small .chunks, field-room (l .l1) (l .l2) i h);
       }
 
-  -- the chunk is where the line has its mark
-  pub hole-inside : (strings : Bool) → let n = lineOf strings l i j in n .hole < n .count
-  hole-inside true = h
-  hole-inside false = g
+  -- the marked chunk is its own
+  mark-inside : (strings : Bool) → let n = lineOf strings l i j in n .hole < n .count
+  mark-inside true = h
+  mark-inside false = g
 
-  pub hole-chunk : (strings : Bool) → let n = lineOf strings l i j in n .start + n .hole * n .stride ≡ i * l .l2 + j
-  hole-chunk true = add-comm j (i * l .l2)
-  hole-chunk false = rw (mul-one j) refl
+  -- and is chunk j of block i
+  mark-chunk : (strings : Bool) → let n = lineOf strings l i j in n .start + n .hole * n .stride ≡ i * l .l2 + j
+  mark-chunk true = add-comm j (i * l .l2)
+  mark-chunk false = rw (mul-one j) refl
 
   -- ---- its sum
-  module _ (numbers y : List ℕ) (given : Given l numbers y) where
-    pub number-inside : (strings : Bool) → lineOf strings l i j .number < length numbers
+  module _ {numbers y : List ℕ} (given : Given l numbers y) where
+    -- is one of the few numbers given
+    number-inside : (strings : Bool) → lineOf strings l i j .number < length numbers
     number-inside true = omega (arith, given .count)
     number-inside false = omega (arith, given .count)
 
-    -- there are few numbers
-    pub numbers-few : length numbers ≤ 526
+    numbers-few : length numbers ≤ 526
     numbers-few = omega (arith, given .count, small .l1-high, small .l2-high, legal-bounds l e .r-high)
 
-    pub sum-low : (strings : Bool) → let n = lineOf strings l i j in getD numbers (n .number) 0 ≤ n .count * l .nc
+    sum-low : (strings : Bool) → let n = lineOf strings l i j in getD numbers (n .number) 0 ≤ n .count * l .nc
     sum-low true = omega (arith, given .strings j g, mul-comm (l .nc) (l .l1))
     sum-low false = given .blocks i h
 
-    -- in a consistent row the line has the sum given
-    pub sum-given : (strings : Bool) (x : List ℕ) → Sent l numbers y x
-        → let n = lineOf strings l i j in sum (line (l .nc) (n .start) (n .stride) (n .count) (values l x)) ≡ getD numbers (n .number) 0
+    -- in a consistent row the line has it
+    sum-given : (strings : Bool) (x : List ℕ) → Sent l numbers y x
+        → let n = lineOf strings l i j in
+        sum (line (l .nc) (n .start) (n .stride) (n .count) (values l x)) ≡ getD numbers (n .number) 0
     sum-given true x s = sym (string-line l x (s .0) j g) ∙ sent-parts given x s .strings j g
     sum-given false x s = sym (block-line l x (s .0) i h) ∙ sent-parts given x s .blocks i h
 
--- ---- a line that lost one bit
--- the next nc − 1 bits received come from its short chunk
+-- ---- a line that lost one bit: the next nc − 1 bits received come from its short chunk
 pub short-bits : {nc : ℕ} {n : Line} {s : ℕ} {z vs us : List ℕ} → Short nc n s z vs us
     → (nc - 1 ≤ length z) × Mendable nc (n .start) (n .stride) (n .count) (n .hole) s (take (nc - 1) z) vs us
 short-bits {nc} {n} {s} {z} {vs} {us} k =
-    let v = getD us (n .start + n .hole * n .stride) 0 in
+    let v = chunkAt n us in
     let p = piece nc 1 (digits nc v) z (length-digits nc v) (k .loses) in
     (p .within, record { around = k .around; has-sum = k .has-sum; comes = p .comes; small = k .small })
 
 -- ---- the line of a cell that has its only open loss
-module _ (l : Layout) (numbers y : List ℕ) (given : Given l numbers y) (cells : Cells) (placed : Placed l (length y) cells)
-    (strings : Bool) (z : ℕ) (h : z < 12) (single : SingleAt (keysOf strings cells) (cells .lost) z) where
-  -- the cell is open
-  pub single-open : Open cells z
+module _ {l : Layout} {numbers y : List ℕ} (given : Given l numbers y) (cells : Cells) (placed : Placed l (length y) cells)
+    (strings : Bool) {z : ℕ} (h : z < 12) (single : SingleAt (keysOf strings cells) (cells .lost) z) where
+  -- where the cell stands
+  abbrev pub Block : ℕ
+  Block = getD (cells .block) z 0
+
+  abbrev pub Column : ℕ
+  Column = getD (cells .column) z 0
+
+  abbrev pub Its-line : Line
+  Its-line = lineOf strings l Block Column
+
+  single-open : Open cells z
   single-open = (h, omega (arith, single .one))
 
-  -- its block and its column are in the layout
-  pub block-low : getD (cells .block) z 0 < l .l1
+  pub block-low : Block < l .l1
   block-low = placed z single-open .0
 
-  pub column-low : getD (cells .column) z 0 < l .l2
+  pub column-low : Column < l .l2
   column-low = placed z single-open .1 .0
 
-  abbrev Line-at : Line
-  Line-at = lineOf strings l (getD (cells .block) z 0) (getD (cells .column) z 0)
+  -- it can be mended by its sum
+  pub single-number : (Its-line .number < length numbers) × (length numbers ≤ 526)
+  single-number =
+      let e = given .is-legal in (
+        number-inside l e Block Column block-low column-low given strings,
+        numbers-few l e Block Column block-low column-low given,
+      )
+
+  pub single-ready : Ready (l .nc) y (getD (cells .place) z 0) Its-line (getD numbers (Its-line .number) 0)
+  single-ready =
+      let e = given .is-legal in
+      record {
+        inside = line-inside l e Block Column block-low column-low strings;
+        some-bits = omega (arith, legal-bounds l e .nc-low);
+        marked = mark-inside l e Block Column block-low column-low strings;
+        sum-low = sum-low l e Block Column block-low column-low given strings;
+        starts = placed z single-open .1 .1;
+        bits = given .bits;
+      }
 
   -- a consistent row under the state has the sum there, and lost one bit in the cell
-  module _ (b : length (cells .block) ≡ 12) (c : length (cells .column) ≡ 12) (row x : List ℕ) (sent : Sent l numbers y x)
+  module _ (b : length (cells .block) ≡ 12) (c : length (cells .column) ≡ 12) {row x : List ℕ} (sent : Sent l numbers y x)
       (u : Under l y cells row x) where
     single-around : (k : Bool) → SingleAt (keysOf k cells) (cells .lost) z
-        → let n = lineOf k l (getD (cells .block) z 0) (getD (cells .column) z 0) in
-        (t : ℕ) → t < n .count → (t ≡ n .hole → ⊥) → getD (values l x) (n .start + t * n .stride) 0 ≡ getD row (n .start + t * n .stride) 0
+        → let n = lineOf k l Block Column in
+        (t : ℕ) → t < n .count → (t ≡ n .hole → ⊥)
+        → getD (values l x) (n .start + t * n .stride) 0 ≡ getD row (n .start + t * n .stride) 0
     single-around true s = single-column l y cells row x u z c h column-low s
     single-around false s = single-block l y cells row x u z b h block-low s
 
-    at-hole : Line-at .start + Line-at .hole * Line-at .stride ≡ chunkOf l cells z
-    at-hole = hole-chunk l (given .is-legal) (getD (cells .block) z 0) (getD (cells .column) z 0) block-low column-low strings
+    its-chunk : chunkAt Its-line (values l x) ≡ getD (values l x) (chunkOf l cells z) 0
+    its-chunk =
+        let e = given .is-legal in
+        ap (λ (k : ℕ). getD (values l x) k 0) (mark-chunk l e Block Column block-low column-low strings)
 
-    pub single-short : Short (l .nc) Line-at (getD numbers (Line-at .number) 0) (drop (getD (cells .place) z 0) y) row (values l x)
+    pub single-short : Short (l .nc) Its-line (getD numbers (Its-line .number) 0) (drop (getD (cells .place) z 0) y) row
+        (values l x)
     single-short =
         record {
           around = single-around strings single;
-          has-sum = sum-given l (given .is-legal) (getD (cells .block) z 0) (getD (cells .column) z 0) block-low column-low numbers y given strings x sent;
-          loses = rw at-hole (u .loses z single-open ∙ single .one);
-          small = value-low l x (sent .0) (Line-at .start + Line-at .hole * Line-at .stride);
+          has-sum = sum-given l (given .is-legal) Block Column block-low column-low given strings x sent;
+          loses = rw its-chunk (u .loses z single-open ∙ single .one);
+          small = value-low l x (sent .0) (Its-line .start + Its-line .hole * Its-line .stride);
         }
 
-    -- so when the chunk is found there, the row is under the state with that cell found
-    pub single-found : (v : ℕ) → length row ≡ 255 → v ≡ getD (values l x) (Line-at .start + Line-at .hole * Line-at .stride) 0
+    -- so where the chunk is found there, the row is under the state with that cell found
+    pub single-found : {v : ℕ} → length row ≡ 255 → v ≡ chunkAt Its-line (values l x)
         → Under l y (found cells z) (set row (chunkOf l cells z) v) x
-    single-found v m e =
+    single-found {v} m e =
         decide l y cells row x u z v
-        (omega (arith, chunk-low l (given .is-legal) (getD (cells .block) z 0) (getD (cells .column) z 0) block-low column-low))
-        (sym (e ∙ ap (λ (k : ℕ). getD (values l x) k 0) at-hole))
+        (omega (arith, chunk-low l (given .is-legal) Block Column block-low column-low)) (sym (e ∙ its-chunk))

@@ -1,5 +1,5 @@
-// Mending by turns: chunk-strings and blocks that have exactly one open loss are mended by their sums, until neither kind has one.
-// Contracts cite specs/Turns.antt.
+// Mending by turns: chunk-strings and blocks that have exactly one open loss are mended by their sums, until neither kind has
+// one. Contracts cite specs/Turns.antt.
 use cells::Cells;
 use lines::Mended;
 use message::Layout;
@@ -7,17 +7,15 @@ use rows::Kept;
 ghost use mathlib.Core.Path.{_≡_};
 ghost use mathlib.Core.Bool.{true};
 ghost use mathlib.Core.List.{List};
-ghost use Prim.Native.Nat.{ℕ, _+_, _*_, _<_, _≤_};
-ghost use lib.ListN.{length, getD, drop};
-ghost use Rattle.bits.specs.Bits.{AllBits};
+ghost use Prim.Native.Nat.{ℕ, _<_, _≤_};
+ghost use lib.ListN.{length, drop};
 ghost use Rattle.message.specs.Layout.{legal as isLegal};
-ghost use Rattle.lines.specs.Lines.{Inside};
 ghost use Rattle.found.specs.Found.{Given, Sent, Holding, Grown};
 ghost use Rattle.cells.specs.Cells.{NoSingle, SingleAt, Placed, Under, found};
-ghost use Rattle.turns.specs.Turns.{keysOf, lineOf, Short, Turned};
+ghost use Rattle.turns.specs.Turns.{keysOf, lineOf, Ready, chunkAt, Short, Turned};
 
-// A line of chunks with one of them marked: its first chunk, how far its chunks stand apart, how many they are, which one is marked,
-// and which of the numbers given is the line's sum.
+// A line of chunks with one of them marked: its first chunk, how far its chunks stand apart, how many they are, which one is
+// marked, and which of the numbers given is the line's sum.
 pub struct Line {
     pub start: usize,
     pub stride: usize,
@@ -71,13 +69,12 @@ fn single(strings: bool, cells: Cells) -> usize
     cells::single(block, lost)
 }
 
-// The chunk of a cell that lost one bit, mended in its line by the line's sum. It fails where too few bits are left, where the line
-// does not give its other chunks back, or where the chunk found does not lose just one bit against y from the place on.
+// The chunk of a cell that lost one bit, mended in its line by the line's sum. It fails where too few bits are left, where the
+// line does not give its other chunks back, or where the chunk found does not lose just one bit against y from the place on.
 fn mend_cell(nc: usize, y: &[u8], place: usize, n: Line, sum: usize, row: [u8; 255]) -> Mended
-    requires { ⌜ Inside nc (n .start) (n .stride) (n .count) 255 × ((1 ≤ nc) × ((n .hole < n .count) × ((sum ≤ n .count * nc)
-        × ((place ≤ length (now y)) × AllBits (now y))))) ⌝ }
+    requires { ⌜ Ready nc (now y) place n sum ⌝ }
     ensures { λ r. ⌜ ((us : List ℕ) → Short nc n sum (drop place (now (y .entry))) row us
-        → (r .ok ≡ true) × (r .value ≡ getD us (n .start + n .hole * n .stride) 0)) ⌝ }
+        → (r .ok ≡ true) × (r .value ≡ chunkAt n us)) ⌝ }
 {
     let none = Mended {
         ok: false,
@@ -171,8 +168,8 @@ fn take_turn(
     t
 }
 
-// Chunk-strings are mended, where no block has exactly one open loss. If one was, the blocks have their turn; if none was, the cells
-// that are left are filled.
+// Chunk-strings are mended, where no block has exactly one open loss. If one was, the blocks have their turn; if none was, the
+// cells that are left are filled.
 pub fn mend_strings(
     l: Layout,
     y: &[u8],
@@ -200,8 +197,8 @@ pub fn mend_strings(
     mend_blocks(l, y, numbers, rest, held, cap, list, kept)
 }
 
-// Blocks are mended, where no chunk-string has exactly one open loss. If one was, the chunk-strings have their turn; if none was, the
-// cells that are left are filled.
+// Blocks are mended, where no chunk-string has exactly one open loss. If one was, the chunk-strings have their turn; if none
+// was, the cells that are left are filled.
 pub fn mend_blocks(
     l: Layout,
     y: &[u8],

@@ -6,7 +6,7 @@ use mathlib.Core.Logic.{⊎-elim}
 use native.Mathlib.Omega.{arith}
 use borrow.Author.Count.{below-more}
 use borrow.Author.Needs.{needs}
-use lib.ListN.{length, getD}
+use lib.ListN.{length}
 use Rattle.cells.specs.Cells.{share, SingleAt}
 use Rattle.cells.proofs.Shares.{none-single}
 use Rattle.cells.proofs.single.Statement.{statement}

@@ -1,5 +1,5 @@
--- `turns::mend_blocks` and `turns::mend_strings` meet their contracts, by one induction on the losses that are open: each calls the
--- other only after a cell was found. Assumes nothing.
+-- `turns::mend_blocks` and `turns::mend_strings` meet their contracts, by one induction on the losses that are open: each calls
+-- the other only after a cell was found. Assumes nothing.
 use mathlib.Core.Bool.{true, false}
 use native.Mathlib.Omega.{arith}
 use borrow.Author.Needs.{needs}
@@ -68,7 +68,7 @@ mend-blocks-returns : (t : ℕ) → mend-blocks-lts.Need-returns (
 ) (mend-blocks-at t) mend-blocks.Post
 mend-blocks-returns t c =
     let s = c .before .before .before .before .before .before in
-    grown-failed (s .args .l) (s .args .numbers .now) (s .args .y .now) (s .args .cells) (s .args .row) (c .before .before .take-turn .result) (c .before .before .take-turn .ensures .0) (s .pre .1 .1 .0) (not-true _ (c .if1 .taken))
+    grown-failed (c .before .before .take-turn .ensures .0) (s .pre .1 .1 .0) (not-true _ (c .if1 .taken))
 
 mend-blocks-fill-requires : (t : ℕ) → mend-blocks-lts.Need-fill-requires (
   take-turn-reads.Asked,
@@ -80,19 +80,10 @@ mend-blocks-fill-requires : (t : ℕ) → mend-blocks-lts.Need-fill-requires (
 ) (mend-blocks-at t) mend-blocks.Post
 mend-blocks-fill-requires t c κs =
     let s = c .before .before .before .before .before .before .before .before .before .before .before in
-    let q = c .before .before .before .before .before .before .before .take-turn in (
-      s .pre .1 .0,
-      (
-        s .pre .1 .1 .0,
-        (
-          q .ensures .0 .placed,
-          (
-            q .ensures .1 (not-false _ (c .before .before .before .before .before .if1 .left)),
-            still-none (s .args .l) (s .args .numbers .now) (s .args .y .now) (s .args .cells) (s .args .row) (q .result) (q .ensures .0) true (not-true _ (c .before .if2 .taken)) (s .pre .1 .1 .1 .1),
-          ),
-        ),
-      ),
-    )
+    let q = c .before .before .before .before .before .before .before .take-turn in
+    let own = q .ensures .1 (not-false _ (c .before .before .before .before .before .if1 .left)) in
+    let other = still-none (q .ensures .0) true (not-true _ (c .before .if2 .taken)) (s .pre .1 .1 .1 .1) in
+    (s .pre .1 .0, (s .pre .1 .1 .0, (q .ensures .0 .placed, (own, other))))
 
 mend-blocks-same-length : (t : ℕ) → mend-blocks-lts.Need-same-length (
   take-turn-reads.Asked,
@@ -115,7 +106,7 @@ mend-blocks-returns-2 : (t : ℕ) → mend-blocks-lts.Need-returns-2 (
 mend-blocks-returns-2 t c =
     let s = c .before .before .before .before .before .before .before .before .before .before .before .before .before .before in
     let q = c .before .before .before .before .before .before .before .before .before .before .take-turn in
-    grown-advanced (s .args .l) (s .args .numbers .now) (s .args .y .now) (s .args .cells) (s .args .row) (q .result) (q .ensures .0) (c .before .before .fill .ensures)
+    grown-advanced (q .ensures .0) (c .before .before .fill .ensures)
 
 mend-blocks-mend-strings-requires : (t : ℕ) → mend-blocks-lts.Need-mend-strings-requires (
   take-turn-reads.Asked,
@@ -127,10 +118,10 @@ mend-blocks-mend-strings-requires : (t : ℕ) → mend-blocks-lts.Need-mend-stri
 ) (mend-blocks-at t) mend-blocks.Post
 mend-blocks-mend-strings-requires t c κs =
     let s = c .before .before .before .before .before .before .before .before .before .before .before in
-    let q = c .before .before .before .before .before .before .before .take-turn in (
-      omega (arith, s .pre .0, q .ensures .0 .fewer (not-false _ (c .before .if2 .left))),
-      (s .pre .1 .0, (s .pre .1 .1 .0, (q .ensures .0 .placed, q .ensures .1 (not-false _ (c .before .before .before .before .before .if1 .left))))),
-    )
+    let q = c .before .before .before .before .before .before .before .take-turn in
+    let ok = not-false _ (c .before .before .before .before .before .if1 .left) in
+    let less = q .ensures .0 .fewer (not-false _ (c .before .if2 .left)) in
+    (omega (arith, s .pre .0, less), (s .pre .1 .0, (s .pre .1 .1 .0, (q .ensures .0 .placed, q .ensures .1 ok))))
 
 mend-blocks-same-length-2 : (t : ℕ) → mend-blocks-lts.Need-same-length-2 (
   take-turn-reads.Asked,
@@ -153,7 +144,7 @@ mend-blocks-returns-3 : (t : ℕ) → mend-blocks-lts.Need-returns-3 (
 mend-blocks-returns-3 t c =
     let s = c .before .before .before .before .before .before .before .before .before .before .before .before .before .before in
     let q = c .before .before .before .before .before .before .before .before .before .before .take-turn in
-    grown-advanced (s .args .l) (s .args .numbers .now) (s .args .y .now) (s .args .cells) (s .args .row) (q .result) (q .ensures .0) (c .before .before .mend-strings .ensures)
+    grown-advanced (q .ensures .0) (c .before .before .mend-strings .ensures)
 
 mend-strings-take-turn-requires : (t : ℕ) → mend-strings-lts.Need-take-turn-requires (
   take-turn-reads.Asked,
@@ -177,7 +168,7 @@ mend-strings-returns : (t : ℕ) → mend-strings-lts.Need-returns (
 ) (mend-strings-at t) mend-strings.Post
 mend-strings-returns t c =
     let s = c .before .before .before .before .before .before in
-    grown-failed (s .args .l) (s .args .numbers .now) (s .args .y .now) (s .args .cells) (s .args .row) (c .before .before .take-turn .result) (c .before .before .take-turn .ensures .0) (s .pre .1 .1 .0) (not-true _ (c .if1 .taken))
+    grown-failed (c .before .before .take-turn .ensures .0) (s .pre .1 .1 .0) (not-true _ (c .if1 .taken))
 
 mend-strings-fill-requires : (t : ℕ) → mend-strings-lts.Need-fill-requires (
   take-turn-reads.Asked,
@@ -189,19 +180,10 @@ mend-strings-fill-requires : (t : ℕ) → mend-strings-lts.Need-fill-requires (
 ) (mend-strings-at t) mend-strings.Post
 mend-strings-fill-requires t c κs =
     let s = c .before .before .before .before .before .before .before .before .before .before .before in
-    let q = c .before .before .before .before .before .before .before .take-turn in (
-      s .pre .1 .0,
-      (
-        s .pre .1 .1 .0,
-        (
-          q .ensures .0 .placed,
-          (
-            still-none (s .args .l) (s .args .numbers .now) (s .args .y .now) (s .args .cells) (s .args .row) (q .result) (q .ensures .0) false (not-true _ (c .before .if2 .taken)) (s .pre .1 .1 .1 .1),
-            q .ensures .1 (not-false _ (c .before .before .before .before .before .if1 .left)),
-          ),
-        ),
-      ),
-    )
+    let q = c .before .before .before .before .before .before .before .take-turn in
+    let own = q .ensures .1 (not-false _ (c .before .before .before .before .before .if1 .left)) in
+    let other = still-none (q .ensures .0) false (not-true _ (c .before .if2 .taken)) (s .pre .1 .1 .1 .1) in
+    (s .pre .1 .0, (s .pre .1 .1 .0, (q .ensures .0 .placed, (other, own))))
 
 mend-strings-same-length : (t : ℕ) → mend-strings-lts.Need-same-length (
   take-turn-reads.Asked,
@@ -224,7 +206,7 @@ mend-strings-returns-2 : (t : ℕ) → mend-strings-lts.Need-returns-2 (
 mend-strings-returns-2 t c =
     let s = c .before .before .before .before .before .before .before .before .before .before .before .before .before .before in
     let q = c .before .before .before .before .before .before .before .before .before .before .take-turn in
-    grown-advanced (s .args .l) (s .args .numbers .now) (s .args .y .now) (s .args .cells) (s .args .row) (q .result) (q .ensures .0) (c .before .before .fill .ensures)
+    grown-advanced (q .ensures .0) (c .before .before .fill .ensures)
 
 mend-strings-mend-blocks-requires : (t : ℕ) → mend-strings-lts.Need-mend-blocks-requires (
   take-turn-reads.Asked,
@@ -236,10 +218,10 @@ mend-strings-mend-blocks-requires : (t : ℕ) → mend-strings-lts.Need-mend-blo
 ) (mend-strings-at t) mend-strings.Post
 mend-strings-mend-blocks-requires t c κs =
     let s = c .before .before .before .before .before .before .before .before .before .before .before in
-    let q = c .before .before .before .before .before .before .before .take-turn in (
-      omega (arith, s .pre .0, q .ensures .0 .fewer (not-false _ (c .before .if2 .left))),
-      (s .pre .1 .0, (s .pre .1 .1 .0, (q .ensures .0 .placed, q .ensures .1 (not-false _ (c .before .before .before .before .before .if1 .left))))),
-    )
+    let q = c .before .before .before .before .before .before .before .take-turn in
+    let ok = not-false _ (c .before .before .before .before .before .if1 .left) in
+    let less = q .ensures .0 .fewer (not-false _ (c .before .if2 .left)) in
+    (omega (arith, s .pre .0, less), (s .pre .1 .0, (s .pre .1 .1 .0, (q .ensures .0 .placed, q .ensures .1 ok))))
 
 mend-strings-same-length-2 : (t : ℕ) → mend-strings-lts.Need-same-length-2 (
   take-turn-reads.Asked,
@@ -262,7 +244,7 @@ mend-strings-returns-3 : (t : ℕ) → mend-strings-lts.Need-returns-3 (
 mend-strings-returns-3 t c =
     let s = c .before .before .before .before .before .before .before .before .before .before .before .before .before .before in
     let q = c .before .before .before .before .before .before .before .before .before .before .take-turn in
-    grown-advanced (s .args .l) (s .args .numbers .now) (s .args .y .now) (s .args .cells) (s .args .row) (q .result) (q .ensures .0) (c .before .before .mend-blocks .ensures)
+    grown-advanced (q .ensures .0) (c .before .before .mend-blocks .ensures)
 
 pub +mend-blocks+mend-strings-spec : {M : Type 1} → statement M
 +mend-blocks+mend-strings-spec = close μ-mend-blocks μ-mend-strings (λ t. mend-blocks-lts.spec (

@@ -1,21 +1,41 @@
--- `turns::mend_one` meets its contract: a consistent row under the state has the line's sum and lost one bit in the cell, so the cell
--- is mended to its chunk. Assumes nothing.
+-- `turns::mend_one` meets its contract: a consistent row under the state has the line's sum and lost one bit in the cell, so the
+-- cell is mended to its chunk. Assumes nothing.
 use Prim.Native.Nat.{ℕ, _+_, _*_, _<_, _≤_}
 use mathlib.Core.Path.{_≡_, refl, sym, ap, ap₂, _∙_, subst}
-use mathlib.Core.List.{List}
 use native.Mathlib.Omega.{arith}
 use borrow.Author.Needs.{needs}
-use lib.ListN.{length, getD, drop, set}
-use Rattle.lines.specs.Lines.{values, Inside}
-use Rattle.found.specs.Found.{Sent}
-use Rattle.message.proofs.Legal.{legal-bounds}
-use Rattle.cells.specs.Cells.{chunkOf, Under, found}
+use lib.ListN.{length, getD, drop}
+use Rattle.lines.specs.Lines.{values}
+use Rattle.cells.specs.Cells.{chunkOf}
 use Rattle.cells.proofs.State.{chunk-low}
-use Rattle.turns.specs.Turns.{lineOf, Short}
+use Rattle.turns.specs.Turns.{lineOf, Ready, chunkAt, Short}
 use Rattle.turns.specs.declared.Line.{Line}
-use Rattle.turns.proofs.Short.{line-inside, hole-inside, number-inside, numbers-few, sum-low, single-open, block-low, column-low, single-short, single-found}
+use Rattle.turns.proofs.Short.{block-low, column-low, single-number, single-ready, single-short, single-found}
 use Rattle.turns.proofs.mend_one.Statement.{statement}
 use Rattle.turns.proofs.mend_one.Tie as tie
+
+-- ---- the cell
+-- the cells and the row are arrays
+lengths : (s : tie.Start) →
+    (length (s .args .t5 .block) ≡ 12) × ((length (s .args .t5 .column) ≡ 12) × (length (s .args .row) ≡ 255))
+lengths s = (search needs, (search needs, search needs))
+
+abbrev block-of : tie.Start → ℕ
+block-of s = getD (s .args .t5 .block) (s .args .z) 0
+
+abbrev column-of : tie.Start → ℕ
+column-of s = getD (s .args .t5 .column) (s .args .z) 0
+
+abbrev its-line : tie.Start → Line
+its-line s = lineOf (s .args .strings) (s .args .l) (block-of s) (column-of s)
+
+-- its block and its column are in the layout
+in-layout : (s : tie.Start) → (block-of s < s .args .l .l1) × (column-of s < s .args .l .l2)
+in-layout s =
+    let p = s .pre .1 in (
+      block-low (s .pre .0) (s .args .t5) (p .0) (s .args .strings) (p .1 .0) (p .1 .1),
+      column-low (s .pre .0) (s .args .t5) (p .0) (s .args .strings) (p .1 .0) (p .1 .1),
+    )
 
 element-copy-out-wide : tie.Need-element-copy-out-wide
 element-copy-out-wide c = search needs
@@ -29,48 +49,31 @@ element-copy-out-wide-2 c = search needs
 wide-requires-2 : tie.Need-wide-requires-2
 wide-requires-2 c κs = search needs
 
--- the cells and the row are arrays
-lengths : (s : tie.Start) → (length (s .args .t5 .block) ≡ 12) × ((length (s .args .t5 .column) ≡ 12) × (length (s .args .row) ≡ 255))
-lengths s = (search needs, (search needs, search needs))
-
--- the block and the column of the cell are in the layout
-block-in : (c : tie.After-shared-slice-known2) → let s = c .before .before in getD (s .args .t5 .block) (s .args .z) 0 < s .args .l .l1
-block-in c =
-    let s = c .before .before in
-    block-low (s .args .l) (s .args .numbers .now) (s .args .y .now) (s .pre .0) (s .args .t5) (s .pre .1 .0) (s .args .strings) (s .args .z) (s .pre .1 .1 .0) (s .pre .1 .1 .1)
-
-column-in : (c : tie.After-shared-slice-known2) → let s = c .before .before in getD (s .args .t5 .column) (s .args .z) 0 < s .args .l .l2
-column-in c =
-    let s = c .before .before in
-    column-low (s .args .l) (s .args .numbers .now) (s .args .y .now) (s .pre .0) (s .args .t5) (s .pre .1 .0) (s .args .strings) (s .args .z) (s .pre .1 .1 .0) (s .pre .1 .1 .1)
-
+-- ---- its line
 line-of-requires : tie.Need-line-of-requires
 line-of-requires c κs =
-    let p = c .before .before .before .before in
-    (p .before .before .pre .0 .is-legal, (rw (c .before .before .wide .ensures) (block-in p), rw (c .wide2 .ensures) (column-in p)))
+    let s = c .before .before .before .before .before .before in
+    let i = in-layout s in
+    (s .pre .0 .is-legal, (rw (c .before .before .wide .ensures) (i .0), rw (c .wide2 .ensures) (i .1)))
 
--- the line is that of the cell
-line-here : (c : tie.After-line-of) →
-    let s = c .before .before .before .before .before .before .before in
-    c .line-of .result ≡ lineOf (s .args .strings) (s .args .l) (getD (s .args .t5 .block) (s .args .z) 0) (getD (s .args .t5 .column) (s .args .z) 0)
+abbrev start : tie.After-line-of → tie.Start
+start c = c .before .before .before .before .before .before .before
+
+line-here : (c : tie.After-line-of) → c .line-of .result ≡ its-line (start c)
 line-here c =
-    let s = c .before .before .before .before .before .before .before in
-    c .line-of .ensures
-    ∙ ap₂ (lineOf (s .args .strings) (s .args .l)) (c .before .before .before .wide .ensures) (c .before .wide2 .ensures)
+    let a = start c .args in
+    c .line-of .ensures ∙ ap₂ (lineOf (a .strings) (a .l)) (c .before .before .before .wide .ensures) (c .before .wide2 .ensures)
 
 -- its sum is one of the few numbers
 number-here : (c : tie.After-line-of) →
-    let s = c .before .before .before .before .before .before .before in
-    (c .line-of .result .number < length (s .args .numbers .now)) × (length (s .args .numbers .now) ≤ 526)
+    let ns = start c .args .numbers .now in
+    (c .line-of .result .number < length ns) × (length ns ≤ 526)
 number-here c =
-    let p = c .before .before .before .before .before in
-    let s = p .before .before in
-    let i = getD (s .args .t5 .block) (s .args .z) 0 in
-    let j = getD (s .args .t5 .column) (s .args .z) 0 in (
-      subst (λ (n : Line). n .number < length (s .args .numbers .now)) (sym (line-here c))
-          (number-inside (s .args .l) (s .pre .0 .is-legal) i j (block-in p) (column-in p) (s .args .numbers .now) (s .args .y .now) (s .pre .0) (s .args .strings)),
-      numbers-few (s .args .l) (s .pre .0 .is-legal) i j (block-in p) (column-in p) (s .args .numbers .now) (s .args .y .now) (s .pre .0),
-    )
+    let s = start c in
+    let p = s .pre .1 in
+    subst (λ (n : Line). (n .number < length (s .args .numbers .now)) × (length (s .args .numbers .now) ≤ 526))
+    (sym (line-here c))
+    (single-number (s .pre .0) (s .args .t5) (p .0) (s .args .strings) (p .1 .0) (p .1 .1))
 
 mul-sum : tie.Need-mul-sum
 mul-sum c = record { fits = omega (arith, number-here c) }
@@ -89,49 +92,30 @@ element-copy-out-mend-cell c = search needs
 
 mend-cell-requires : tie.Need-mend-cell-requires
 mend-cell-requires c κs =
-    let p = c .before .before .before .before .before .before .before in
-    let s = p .before .before in
-    let i = getD (s .args .t5 .block) (s .args .z) 0 in
-    let j = getD (s .args .t5 .column) (s .args .z) 0 in
-    let e = s .pre .0 .is-legal in (
-      subst (λ (n : Line). Inside (s .args .l .nc) (n .start) (n .stride) (n .count) 255) (sym (line-here (c .before .before)))
-          (line-inside (s .args .l) e i j (block-in p) (column-in p) (s .args .strings)),
-      (
-        omega (arith, legal-bounds (s .args .l) e .nc-low),
-        (
-          subst (λ (n : Line). n .hole < n .count) (sym (line-here (c .before .before)))
-              (hole-inside (s .args .l) e i j (block-in p) (column-in p) (s .args .strings)),
-          (
-            subst (λ (n : Line). getD (s .args .numbers .now) (n .number) 0 ≤ n .count * s .args .l .nc) (sym (line-here (c .before .before)))
-                (sum-low (s .args .l) e i j (block-in p) (column-in p) (s .args .numbers .now) (s .args .y .now) (s .pre .0) (s .args .strings)),
-            (
-              s .pre .1 .0 (s .args .z) (single-open (s .args .l) (s .args .numbers .now) (s .args .y .now) (s .pre .0) (s .args .t5) (s .pre .1 .0) (s .args .strings) (s .args .z) (s .pre .1 .1 .0) (s .pre .1 .1 .1)) .1 .1,
-              s .pre .0 .bits,
-            ),
-          ),
-        ),
-      ),
-    )
-
--- the place that is written is the cell's chunk, one of the row's
-chunk-here : (c : tie.After-line-of) →
-    let s = c .before .before .before .before .before .before .before in
-    c .before .before .before .wide .result * s .args .l .l2 + c .before .wide2 .result ≡ chunkOf (s .args .l) (s .args .t5) (s .args .z)
-chunk-here c =
-    let s = c .before .before .before .before .before .before .before in
-    ap₂ (λ (i j : ℕ). i * s .args .l .l2 + j) (c .before .before .before .wide .ensures) (c .before .wide2 .ensures)
-
-chunk-in : (c : tie.After-line-of) →
-    let s = c .before .before .before .before .before .before .before in
-    c .before .before .before .wide .result * s .args .l .l2 + c .before .wide2 .result < 255
-chunk-in c =
-    let p = c .before .before .before .before .before in
-    let s = p .before .before in
-    rw (chunk-here c)
-    (chunk-low (s .args .l) (s .pre .0 .is-legal) (getD (s .args .t5 .block) (s .args .z) 0) (getD (s .args .t5 .column) (s .args .z) 0) (block-in p) (column-in p))
+    let s = start (c .before .before) in
+    let a = s .args in
+    let p = s .pre .1 in
+    subst (λ (n : Line). Ready (a .l .nc) (a .y .now) (getD (a .t5 .place) (a .z) 0) n (getD (a .numbers .now) (n .number) 0))
+    (sym (line-here (c .before .before)))
+    (single-ready (s .pre .0) (a .t5) (p .0) (a .strings) (p .1 .0) (p .1 .1))
 
 element-write-next : tie.Need-element-write-next
 element-write-next c = search needs
+
+-- ---- the place that is written is the cell's chunk, one of the row's
+chunk-here : (c : tie.After-line-of) →
+    let a = start c .args in
+    c .before .before .before .wide .result * a .l .l2 + c .before .wide2 .result ≡ chunkOf (a .l) (a .t5) (a .z)
+chunk-here c =
+    let a = start c .args in
+    ap₂ (λ (i j : ℕ). i * a .l .l2 + j) (c .before .before .before .wide .ensures) (c .before .wide2 .ensures)
+
+chunk-in : (c : tie.After-line-of) →
+    c .before .before .before .wide .result * start c .args .l .l2 + c .before .wide2 .result < 255
+chunk-in c =
+    let s = start c in
+    let i = in-layout s in
+    rw (chunk-here c) (chunk-low (s .args .l) (s .pre .0 .is-legal) (block-of s) (column-of s) (i .0) (i .1))
 
 mul-at : tie.Need-mul-at
 mul-at c = record { fits = omega (arith, chunk-in (c .before .before .before .before)) }
@@ -142,24 +126,30 @@ add-at c = record { fits = omega (arith, chunk-in (c .before .before .before .be
 array-write-mended : tie.Need-array-write-mended
 array-write-mended c = chunk-in (c .before .before .before .before)
 
+-- ---- what is found there
 returns : tie.Need-returns
 returns c =
     let q = c .before .before .before .before in
-    let s = q .before .before .before .before .before .before .before in
-    let b = lengths s .0 in
-    let d = lengths s .1 .0 in
-    let r = lengths s .1 .1 in (
+    let s = start q in
+    let a = s .args in
+    let p = s .pre .1 in
+    let w = lengths s in
+    let ns = a .numbers .now in
+    let z = drop (getD (a .t5 .place) (a .z) 0) (a .y .now) in (
       refl,
       (
         refl,
         λ x t u.
-            let short = single-short (s .args .l) (s .args .numbers .now) (s .args .y .now) (s .pre .0) (s .args .t5) (s .pre .1 .0) (s .args .strings) (s .args .z) (s .pre .1 .1 .0) (s .pre .1 .1 .1) b d (s .args .row) x t u in
-            let m = c .before .mend-cell .ensures (values (s .args .l) x)
-            (subst (λ (n : Line). Short (s .args .l .nc) n (getD (s .args .numbers .now) (n .number) 0) (drop (getD (s .args .t5 .place) (s .args .z) 0) (s .args .y .now)) (s .args .row) (values (s .args .l) x)) (sym (line-here q)) short) in (
+            let vs = values (a .l) x in
+            let short = single-short (s .pre .0) (a .t5) (p .0) (a .strings) (p .1 .0) (p .1 .1) (w .0) (w .1 .0) t u in
+            let m =
+            c .before .mend-cell .ensures vs
+            (subst (λ (n : Line). Short (a .l .nc) n (getD ns (n .number) 0) z (a .row) vs) (sym (line-here q)) short)
+            in (
               m .0,
               rw (chunk-here q)
-                  (single-found (s .args .l) (s .args .numbers .now) (s .args .y .now) (s .pre .0) (s .args .t5) (s .pre .1 .0) (s .args .strings) (s .args .z) (s .pre .1 .1 .0) (s .pre .1 .1 .1) b d (s .args .row) x t u (c .before .mend-cell .result .value) r
-                  (m .1 ∙ ap (λ (n : Line). getD (values (s .args .l) x) (n .start + n .hole * n .stride) 0) (line-here q))),
+                  (single-found (s .pre .0) (a .t5) (p .0) (a .strings) (p .1 .0) (p .1 .1) (w .0) (w .1 .0) t u (w .1 .1)
+                  (m .1 ∙ ap (λ (n : Line). chunkAt n vs) (line-here q))),
             ),
       ),
     )

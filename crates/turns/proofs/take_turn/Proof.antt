@@ -1,5 +1,5 @@
--- `turns::take_turn` meets its contract. The loop's invariant: the cells found so far are found rightly, and z is a cell that has the
--- only open loss of its line, or there is none. The measure is the losses that are open. Assumes nothing.
+-- `turns::take_turn` meets its contract. The loop's invariant: the cells found so far are found rightly, and z is a cell that
+-- has the only open loss of its line, or there is none. The measure is the losses that are open. Assumes nothing.
 use Prim.Native.Nat.{_<_, _≤_}
 use mathlib.Core.Path.{_≡_, sym, _∙_}
 use mathlib.Core.Bool.{false≢true}
@@ -18,7 +18,8 @@ abbrev Inv-loop : tie.InvT-loop
 Inv-loop strings l y numbers t₀ z₀ t z =
     Advanced l numbers y (t₀ .cells) (t₀ .row) t
     × ((z ≤ 12)
-    × ((z < 12 → SingleAt (keysOf strings (t .cells)) (t .cells .lost) z) × (z ≡ 12 → NoSingle (keysOf strings (t .cells)) (t .cells .lost))))
+    × ((z < 12 → SingleAt (keysOf strings (t .cells)) (t .cells .lost) z)
+    × (z ≡ 12 → NoSingle (keysOf strings (t .cells)) (t .cells .lost))))
 
 abbrev μ-loop : tie.MeasureT-loop
 μ-loop strings l y numbers t₀ z₀ t z = inAll (t .cells .lost)
@@ -29,30 +30,32 @@ single-requires c κs = search needs
 loop-holds : tie.Need-loop-holds Inv-loop μ-loop
 loop-holds c =
     let s = c .before .before .before in
-    (advanced-none (s .args .l) (s .args .numbers .now) (s .args .y .now) (s .args .cells) (s .args .row) (s .pre .1), c .single .ensures)
+    (advanced-none (s .args .numbers .now) (s .pre .1), c .single .ensures)
 
 mend-one-requires : tie.Need-mend-one-requires Inv-loop μ-loop
 mend-one-requires c κs =
     let s = c .before .before .before .before .before .before .before in
     let p = c .before .before .before .loop in
-    let h = c .before .before .loop-test .taken in
+    let h : p .z < 12 = omega (arith, c .before .before .loop-test .taken) in
     (s .pre .0, (p .inv .0 .placed, (h, p .inv .1 .1 .0 h)))
 
--- one cell more is found
-open-at : (c : tie.After-mend-one Inv-loop μ-loop) → let p = c .before .before .before .before .loop in 0 < getD (p .t .cells .lost) (p .z) 0
-open-at c =
+-- the cell that is found is one that was open
+was-open : (c : tie.After-mend-one Inv-loop μ-loop) →
     let p = c .before .before .before .before .loop in
-    omega (arith, p .inv .1 .1 .0 (c .before .before .before .loop-test .taken) .one)
+    0 < getD (p .t .cells .lost) (p .z) 0
+was-open c =
+    let p = c .before .before .before .before .loop in
+    let h : p .z < 12 = omega (arith, c .before .before .before .loop-test .taken) in
+    omega (arith, p .inv .1 .1 .0 h .one)
 
+-- one more is found
 one-more : (c : tie.After-mend-one Inv-loop μ-loop) →
-    let s = c .before .before .before .before .before .before .before .before in
-    Advanced (s .args .l) (s .args .numbers .now) (s .args .y .now) (s .args .cells) (s .args .row) (c .mend-one .result)
+    let a = c .before .before .before .before .before .before .before .before .args in
+    Advanced (a .l) (a .numbers .now) (a .y .now) (a .cells) (a .row) (c .mend-one .result)
 one-more c =
-    let s = c .before .before .before .before .before .before .before .before in
     let p = c .before .before .before .before .loop in
     let m = c .mend-one .ensures in
-    advanced-next (s .args .l) (s .args .numbers .now) (s .args .y .now) (s .args .cells) (s .args .row) (p .t) (p .inv .0) (p .z)
-    (open-at c) (c .mend-one .result) (m .1 .0) (m .0) (m .1 .1)
+    advanced-next (p .inv .0) (p .z) (c .mend-one .result) (was-open c) (m .1 .0) (m .0) (m .1 .1)
 
 returns : tie.Need-returns Inv-loop μ-loop
 returns c =
@@ -64,10 +67,8 @@ single-requires-2 c κs = search needs
 loop-less : tie.Need-loop-less Inv-loop μ-loop
 loop-less c =
     let q = c .before .before .before .before in
-    let s = q .before .before .before .before .before .before .before .before in
     let p = q .before .before .before .before .loop in
-    falls (s .args .l) (s .args .numbers .now) (s .args .y .now) (s .args .cells) (s .args .row) (p .t) (p .inv .0) (p .z)
-    (open-at q) (q .mend-one .result) (q .mend-one .ensures .1 .0)
+    falls (p .inv .0) (p .z) (q .mend-one .result) (was-open q) (q .mend-one .ensures .1 .0)
 
 loop-again : tie.Need-loop-again Inv-loop μ-loop
 loop-again c = (one-more (c .before .before .before .before), c .single2 .ensures)
