@@ -21,7 +21,7 @@ use Rattle.message.proofs.Fields.{fields-at, length-fields}
 use Rattle.consistent.specs.Greedy.{losses}
 use Rattle.consistent.proofs.Greedy.{losses-most, piece, whole}
 use Rattle.consistent.proofs.Rule.{block-not-one, block-mended}
-use Rattle.search.specs.Patterns.{hasSum, Tried}
+use Rattle.search.specs.Patterns.{hasSum, Loses, Tried}
 
 -- ---- whether the next nb bits have a sum
 module _ (nb s : ℕ) (rest : List ℕ) where
@@ -69,53 +69,44 @@ module _ (l : Layout) (i : ℕ) (p entry exit : List ℕ) (h : i * l .l2 + l .l2
 
 -- ---- what trying a block answers
 module _ (l : Layout) (s i a : ℕ) (rest entry : List ℕ) where
-  -- the block of a row that has the sum s and loses just a bits
-  abbrev Loses : List ℕ → Type 0
-  Loses b = AllBits b × ((length b ≡ blockBits l) × ((sum b ≡ s) × (losses b rest ≡ a)))
-
-  -- there is none
-  tried-not : ((b : List ℕ) → Loses b → ⊥) → Tried l s i a rest entry entry false
+  -- no block loses so many bits
+  tried-not : ((b : List ℕ) → Loses l s a rest b → ⊥) → Tried l s i a rest entry entry false
   tried-not n =
-      record {
-        stays = refl;
-        within = λ e. absurd (false≢true e);
-        can = λ b q k m o. absurd (n b (q, (k, (m, o))));
-        light = λ b q k m o. absurd (n b (q, (k, (m, o))));
-      }
+      record { stays = refl; within = λ e. absurd (false≢true e); can = λ b q. absurd (n b q); light = λ b q. absurd (n b q) }
 
   -- whatever block it is, it is p, which is put in its place
   tried-put : (p exit : List ℕ) → a ≤ blockBits l → blockBits l - a ≤ length rest → i * l .l2 + l .l2 ≤ length entry
       → exit ≡ take (i * l .l2) entry ++ fields (l .l2) (l .nc) p ++ drop (i * l .l2 + l .l2) entry
-      → ((b : List ℕ) → Loses b → b ≡ p) → Tried l s i a rest entry exit true
+      → ((b : List ℕ) → Loses l s a rest b → b ≡ p) → Tried l s i a rest entry exit true
   tried-put p exit f g h e is =
       record {
         stays = put-stays l i p entry exit h e;
         within = λ t. (f, g);
-        can = λ b q k m o. refl;
-        light = λ b q k m o t j u. put-at l i p entry exit h e j u ∙ fields-at (l .l2) (l .nc) j p u ∙ rw (← is b (q, (k, (m, o)))) refl;
+        can = λ b q. refl;
+        light = λ b q t j u. put-at l i p entry exit h e j u ∙ fields-at (l .l2) (l .nc) j p u ∙ rw (← is b q) refl;
       }
 
   -- a block with two losses or more is not looked for here
   pub tried-more : 2 ≤ a → a ≤ blockBits l → blockBits l - a ≤ length rest → Tried l s i a rest entry entry true
   tried-more h f g =
-      record { stays = refl; within = λ t. (f, g); can = λ b q k m o. refl; light = λ b q k m o t. absurd (omega arith) }
+      record { stays = refl; within = λ t. (f, g); can = λ b q. refl; light = λ b q t. absurd (omega arith) }
 
   -- a block does not lose more bits than it has, and as many bits as it keeps remain
   pub too-many : blockBits l < a → Tried l s i a rest entry entry false
-  too-many h = tried-not (λ b q. omega (arith, losses-most b rest))
+  too-many h = tried-not (λ b q. omega (arith, losses-most b rest, q .size, q .own))
 
   pub too-short : length rest < blockBits l - a → Tried l s i a rest entry entry false
-  too-short h = tried-not (λ b q. omega (arith, piece (blockBits l) a b rest (q .1 .0) (q .1 .1 .1) .within))
+  too-short h = tried-not (λ b q. omega (arith, piece (blockBits l) a b rest (q .size) (q .own) .within))
 
 module _ (l : Layout) (s i : ℕ) (rest entry : List ℕ) where
   -- without a loss: the next bits, where these have the sum
   pub whole-not : hasSum (blockBits l) s rest ≡ false → Tried l s i 0 rest entry entry false
   whole-not e = tried-not l s i 0 rest entry (λ b q. false≢true (sym e ∙ has b q))
     where
-      has : (b : List ℕ) → Loses l s i 0 rest entry b → hasSum (blockBits l) s rest ≡ true
+      has : (b : List ℕ) → Loses l s 0 rest b → hasSum (blockBits l) s rest ≡ true
       has b q =
-          let n : blockBits l ≤ length rest = omega (arith, piece (blockBits l) 0 b rest (q .1 .0) (q .1 .1 .1) .within) in
-          sum-has (blockBits l) s rest n (rw (← q .1 .0, ← whole b rest (q .1 .1 .1)) (q .1 .1 .0))
+          let n : blockBits l ≤ length rest = omega (arith, piece (blockBits l) 0 b rest (q .size) (q .own) .within) in
+          sum-has (blockBits l) s rest n (rw (← q .size, ← whole b rest (q .own)) (q .has-sum))
 
   pub whole-put : (exit : List ℕ) → hasSum (blockBits l) s rest ≡ true → i * l .l2 + l .l2 ≤ length entry
       → exit ≡ take (i * l .l2) entry ++ fields (l .l2) (l .nc) (take (blockBits l) rest) ++ drop (i * l .l2 + l .l2) entry
@@ -123,40 +114,38 @@ module _ (l : Layout) (s i : ℕ) (rest entry : List ℕ) where
   whole-put exit e h f =
       let n = sum-within (blockBits l) s rest e in
       tried-put l s i 0 rest entry (take (blockBits l) rest) exit (omega arith) (omega arith) h f
-      (λ b q. whole b rest (q .1 .1 .1) ∙ rw (q .1 .0) refl)
+      (λ b q. whole b rest (q .own) ∙ rw (q .size) refl)
 
   -- with one loss: never where the next bits have the sum, else the mended string of the next bits, one fewer
   pub one-not : AllBits rest → hasSum (blockBits l) s rest ≡ true → Tried l s i 1 rest entry entry false
   one-not a e =
       let n = sum-within (blockBits l) s rest e in
       tried-not l s i 1 rest entry
-      (λ b q. block-not-one b rest (q .0) a (omega (arith, q .1 .0)) (rw (q .1 .0) (sum-is (blockBits l) s rest e ∙ sym (q .1 .1 .0))) (q .1 .1 .1))
+      (λ b q.
+      let same : sum (take (length b) rest) ≡ sum b = rw (q .size) (sum-is (blockBits l) s rest e ∙ sym (q .has-sum)) in
+      block-not-one b rest (q .bits) a (omega (arith, q .size)) same (q .own))
 
   pub one-put : (exit : List ℕ) → 1 ≤ blockBits l → blockBits l - 1 ≤ length rest → i * l .l2 + l .l2 ≤ length entry
-      → exit ≡ take (i * l .l2) entry ++ fields (l .l2) (l .nc) (mended (blockBits l) s (take (blockBits l - 1) rest)) ++ drop (i * l .l2 + l .l2) entry
-      → Tried l s i 1 rest entry exit true
+      → exit ≡ take (i * l .l2) entry ++ fields (l .l2) (l .nc) (mended (blockBits l) s (take (blockBits l - 1) rest))
+      ++ drop (i * l .l2 + l .l2) entry → Tried l s i 1 rest entry exit true
   one-put exit g k h f =
       tried-put l s i 1 rest entry (mended (blockBits l) s (take (blockBits l - 1) rest)) exit g k h f
-      (λ b q. block-mended (blockBits l) b rest (q .0) (q .1 .0) (q .1 .1 .1) ∙ rw (q .1 .1 .0) refl)
+      (λ b q. block-mended (blockBits l) b rest (q .bits) (q .size) (q .own) ∙ rw (q .has-sum) refl)
 
--- ---- a slice at whose start the next bits, one fewer than nb, were mended
-module _ (nb s : ℕ) (rest : List ℕ) (low : 1 ≤ nb) (enough : nb - 1 ≤ length rest) (a : AllBits rest) (small : s ≤ nb) where
-  -- what is mended
-  abbrev short : List ℕ
-  short = take (nb - 1) rest
+-- ---- the string that is mended from the next bits, one fewer than nb
+pub record MendedNext (nb s : ℕ) (rest : List ℕ) : Type 0 where
+  pub short : length (take (nb - 1) rest) + 1 ≡ nb
+  pub bits : AllBits (mended nb s (take (nb - 1) rest))
+  pub size : length (mended nb s (take (nb - 1) rest)) ≡ nb
 
-  pub length-short : length short + 1 ≡ nb
-  length-short = omega (arith, length-take-le (nb - 1) rest enough)
+pub mended-next : (nb s : ℕ) (rest : List ℕ) → 1 ≤ nb → nb - 1 ≤ length rest → AllBits rest → s ≤ nb → MendedNext nb s rest
+mended-next nb s rest low enough a small =
+    let n : length (take (nb - 1) rest) + 1 ≡ nb = omega (arith, length-take-le (nb - 1) rest enough) in
+    let m = mended-mends nb s (take (nb - 1) rest) (bits-take (nb - 1) rest a) n small in
+    record { short = n; bits = m .row .1; size = m .row .0 }
 
-  mends-short : Mends nb s short (mended nb s short)
-  mends-short = mended-mends nb s short (bits-take (nb - 1) rest a) length-short small
-
-  pub bits-mended : AllBits (mended nb s short)
-  bits-mended = mends-short .row .1
-
-  pub length-mended : length (mended nb s short) ≡ nb
-  length-mended = mends-short .row .0
-
-  pub starts-mended : (q t : List ℕ) → q ≡ mended (length short + 1) s short ++ t → take nb q ≡ mended nb s short
-  starts-mended q t e =
-      ap (take nb) (e ∙ ap (λ (w : ℕ). mended w s short ++ t) length-short) ∙ take-at (mended nb s short) t nb length-mended
+-- at the start of a slice
+pub starts-mended : (nb s : ℕ) (rest : List ℕ) → MendedNext nb s rest → (q t : List ℕ)
+    → q ≡ mended (length (take (nb - 1) rest) + 1) s (take (nb - 1) rest) ++ t → take nb q ≡ mended nb s (take (nb - 1) rest)
+starts-mended nb s rest m q t e =
+    ap (take nb) (e ∙ ap (λ (w : ℕ). mended w s (take (nb - 1) rest) ++ t) (m .short)) ∙ take-at (mended nb s (take (nb - 1) rest)) t nb (m .size)

@@ -17,10 +17,10 @@ use Rattle.cells.proofs.Shares.{share-some, share-single}
 use Rattle.found.specs.Found.{Given, Sent, InHand}
 use Rattle.tables.specs.Tables.{reached, Sound}
 use Rattle.tables.specs.Tables.{Under as UnderTable}
-use Rattle.tables.specs.declared.Heavy.{Heavy}
+use Rattle.live.specs.declared.Heavy.{Heavy}
 use Rattle.tables.specs.declared.Table.{Table}
 use Rattle.search.specs.Patterns.{Under, HeavyIn}
-use Rattle.search.proofs.Counts.{blocks-lose}
+use Rattle.search.proofs.Losses.{blocks-lose}
 use Rattle.search.proofs.Totals.{total-next}
 
 -- the counts of a consistent row are all losses
@@ -30,6 +30,12 @@ all-counts {l} given counts row x sent u = sym (u .own (l .l1) (omega arith)) �
 
 module _ (l : Layout) (y counts : List ℕ) (heavy : Heavy) (left : List ℕ) (q : HeavyIn counts (l .l1) heavy left) where
   -- no block is heavy
+  light : heavy .n ≡ 0 → (b : ℕ) → b < l .l1 → getD counts b 0 ≤ 1
+  light z b h =
+      ⊎-elim (λ p. omega arith)
+      (λ (p : 2 ≤ getD counts b 0). let w = q .every b h p in absurd (omega (arith, w .1 .0)))
+      (lt-or-ge (getD counts b 0) 2)
+
   pub all-in-hand : 1 ≤ l .l2 → heavy .n ≡ 0 → (row x : List ℕ) → Under l y counts (l .l1) row x → InHand l row x
   all-in-hand low z row x u c h =
       let b : ℕ = c / l .l2 in
@@ -37,26 +43,27 @@ module _ (l : Layout) (y counts : List ℕ) (heavy : Heavy) (left : List ℕ) (q
       let e : b * l .l2 + j ≡ c = div-add-mod' c (l .l2) in
       let k : j < l .l2 = mod-lt c (omega arith) in
       let m : b < l .l1 = div-lt-iff-lt-mul {k = l .l2} {x = c} {y = l .l1} (omega arith) .1 h in
-      let few : getD counts b 0 ≤ 1 =
-      ⊎-elim (λ p. omega arith) (λ (p : 2 ≤ getD counts b 0). let w = q .every b m p in absurd (omega (arith, w .1 .0))) (lt-or-ge (getD counts b 0) 2)
-      in
-      rw e at (u .light b j m k few)
+      rw e at (u .light b j m k (light z b m))
 
 -- a table of which nothing is shared yet
-module _ (l : Layout) (m : ℕ) (counts : List ℕ) (heavy : Heavy) (t : Table) (q : HeavyIn counts (l .l1) heavy (t .left)) (none : t .cells .n ≡ 0)
+module _ (l : Layout) (counts : List ℕ) (heavy : Heavy) (t : Table) (q : HeavyIn counts (l .l1) heavy (t .left)) (none : t .cells .n ≡ 0)
     (closed : (z : ℕ) → getD (t .cells .lost) z 0 ≡ 0) where
+  none-reached : (s : ℕ) → reached 0 0 s ≡ 0
+  none-reached s = rw (le-ltb s 0 (omega arith)) refl
+
   no-share : (i : ℕ) → share (t .cells .block) (t .cells .lost) i ≡ 0
   no-share i =
       ⊎-elim (λ p. omega arith)
-      (λ (p : 1 ≤ share (t .cells .block) (t .cells .lost) i). let w = share-some (t .cells .block) (t .cells .lost) i p in absurd (omega (arith, w .1 .1 .1, closed (w .0))))
+      (λ (p : 1 ≤ share (t .cells .block) (t .cells .lost) i).
+      let w = share-some (t .cells .block) (t .cells .lost) i p in absurd (omega (arith, w .1 .1 .1, closed (w .0))))
       (lt-or-ge (share (t .cells .block) (t .cells .lost) i) 1)
 
   -- a heavy block has two losses or more
   not-one : (s : ℕ) → getD (t .left) s 0 ≡ 1 → ⊥
   not-one s e = ⊎-elim (λ k. omega (arith, q .many s k)) (λ k. omega (arith, q .spare s k)) (lt-or-ge s (heavy .n))
 
-  pub starts-sound : inAll (take (l .l1) counts) ≤ 12 → Sound l m heavy t
-  starts-sound h =
+  pub starts-sound : (m : ℕ) → inAll (take (l .l1) counts) ≤ 12 → Sound l m heavy t
+  starts-sound m h =
       record {
         few = omega (arith, q .few);
         inside = q .inside;
@@ -68,23 +75,21 @@ module _ (l : Layout) (m : ℕ) (counts : List ℕ) (heavy : Heavy) (t : Table) 
       }
 
   -- every row under the pattern is under it
-  pub starts-under : (y : List ℕ) → l .l1 ≤ length counts → (x : List ℕ) → Under l y counts (l .l1) (t .row) x → UnderTable l y heavy 0 0 t x
+  pub starts-under : (y : List ℕ) → l .l1 ≤ length counts → (x : List ℕ) → Under l y counts (l .l1) (t .row) x
+      → UnderTable l y heavy 0 0 t x
   starts-under y room x u =
       record {
         ends = λ s k. u .own (getD (heavy .block) s 0 + 1) (omega (arith, q .inside s k)) ∙ sym (q .end s k);
         shifts = λ s k.
             let b : ℕ = getD (heavy .block) s 0 in
             let i : b < l .l1 = q .inside s k in
-            let z : reached 0 0 s ≡ 0 = rw (le-ltb s 0 (omega arith)) refl in
-            let n : (b * l .l2 + reached 0 0 s) * l .nc ≡ b * blockBits l = rw (z, add-zero) (mul-assoc b (l .l2) (l .nc)) in
-            let o : losses (take ((b * l .l2 + reached 0 0 s) * l .nc) x) y ≡ inAll (take b counts) = ap (λ (p : ℕ). losses (take p x) y) n ∙ u .own b (omega arith) in
+            let n : (b * l .l2 + reached 0 0 s) * l .nc ≡ b * blockBits l = rw (none-reached s, add-zero) (mul-assoc b (l .l2) (l .nc)) in
+            let o = ap (λ (p : ℕ). losses (take p x) y) n ∙ u .own b (omega arith) in
             omega (arith, o, q .lost s k, q .end s k, total-next counts b (omega arith));
         decided = λ i c h k. ⊎-elim
             (λ (p : getD counts i 0 < 2). inr (inr (u .light i c h k (omega arith))))
             (λ (p : 2 ≤ getD counts i 0).
-            let w = q .every i h p in
-            let z : reached 0 0 (w .0) ≡ 0 = rw (le-ltb (w .0) 0 (omega arith)) refl in
-            inl (w .0, (w .1 .0, (w .1 .1, omega (arith, z)))))
+            let w = q .every i h p in inl (w .0, (w .1 .0, (w .1 .1, omega (arith, none-reached (w .0))))))
             (lt-or-ge (getD counts i 0) 2);
         loses = λ z o. absurd (omega (arith, closed z, o .1));
       }

@@ -12,7 +12,7 @@ use Rattle.message.specs.Layout.{rowBits, blockBits}
 use Rattle.message.specs.declared.Layout.{Layout}
 use Rattle.consistent.specs.Greedy.{losses, inAll}
 use Rattle.lines.specs.Lines.{values}
-use Rattle.tables.specs.declared.Heavy.{Heavy}
+use Rattle.live.specs.declared.Heavy.{Heavy}
 
 -- the row x is under the first i counts: they are its own losses, block by block, and its blocks with none or one loss are those in
 -- hand
@@ -29,14 +29,20 @@ unfoldable pub hasSum : (nb s : ℕ) (rest : List ℕ) → Bool
 unfolding sum
 hasSum nb s rest = leb nb (length rest) && eqb (sum (take nb rest)) s
 
--- what it is to try block i, whose sum is s, with a losses against the rest of the received row: an answer that says whether it can
--- be, true for whatever block loses just so many; a block with none or one loss then stands in the row in hand, whose earlier
--- blocks stay
+-- the block b has the sum s, and against the rest of the received row it loses just a bits
+pub record Loses (l : Layout) (s a : ℕ) (rest b : List ℕ) : Type 0 where
+  pub bits : AllBits b
+  pub size : length b ≡ blockBits l
+  pub has-sum : sum b ≡ s
+  pub own : losses b rest ≡ a
+
+-- what it is to try block i, whose sum is s, with a losses: the answer is true where some block loses just so many, and then as many
+-- bits remain as such a block keeps; with none or one loss the block stands in the row in hand, whose earlier blocks stay
 pub record Tried (l : Layout) (s i a : ℕ) (rest entry exit : List ℕ) (ok : Bool) : Type 0 where
   pub stays : take (i * l .l2) exit ≡ take (i * l .l2) entry
   pub within : ok ≡ true → (a ≤ blockBits l) × (blockBits l - a ≤ length rest)
-  pub can : (b : List ℕ) → AllBits b → length b ≡ blockBits l → sum b ≡ s → losses b rest ≡ a → ok ≡ true
-  pub light : (b : List ℕ) → AllBits b → length b ≡ blockBits l → sum b ≡ s → losses b rest ≡ a → a ≤ 1
+  pub can : (b : List ℕ) → Loses l s a rest b → ok ≡ true
+  pub light : (b : List ℕ) → Loses l s a rest b → a ≤ 1
       → (j : ℕ) → j < l .l2 → getD exit (i * l .l2 + j) 0 ≡ number (l .nc) (drop (j * l .nc) b)
 
 -- the heavy blocks among the first i, those with two losses or more: each with its losses and those up to its end
@@ -61,7 +67,6 @@ pub record Joined (heavy : Heavy) (left : List ℕ) (i a e : ℕ) (after : Heavy
 -- where a search stands once the first i blocks have their counts: these lost the total, which is no more than all losses, and the
 -- rest of the received row starts at block i
 pub record Begun (l : Layout) (y rest counts row : List ℕ) (i total : ℕ) : Type 0 where
-  pub place : i ≤ l .l1
   pub sums : total ≡ inAll (take i counts)
   pub most : total + length y ≤ rowBits l
   pub before : total ≤ i * blockBits l

@@ -1,8 +1,8 @@
 // The search for all consistent rows: loss patterns, block by block. Contracts cite specs/Patterns.antt.
 use cells::Cells;
+use live::Heavy;
 use message::Layout;
 use rows::Kept;
-use tables::Heavy;
 use tables::Table;
 ghost use mathlib.Core.Path.{_≡_};
 ghost use mathlib.Core.Bool.{true};
@@ -37,7 +37,8 @@ fn has_sum(nb: usize, s: usize, rest: &[u8]) -> bool
 // The numbers of the l2 chunks of a block's bits, in block i of the row in hand.
 fn put_block(nc: usize, l2: usize, bits: &[u8], row: &mut [u8], i: usize)
     requires { ⌜ AllBits (now bits) × ((nc ≤ 8) × ((length (now bits) ≡ l2 * nc) × (i * l2 + l2 ≤ length (now row)))) ⌝ }
-    ensures { λ _. ⌜ now (row .exit) ≡ take (i * l2) (now (row .entry)) ++ fields l2 nc (now (bits .entry)) ++ drop (i * l2 + l2) (now (row .entry)) ⌝ }
+    ensures { λ _. ⌜ now (row .exit) ≡ take (i * l2) (now (row .entry)) ++ fields l2 nc (now (bits .entry))
+        ++ drop (i * l2 + l2) (now (row .entry)) ⌝ }
 {
     let at = i * l2;
     let mut j: usize = 0;
@@ -60,8 +61,8 @@ fn whole_block(l: Layout, s: usize, i: usize, rest: &[u8], row: &mut [u8]) -> bo
     true
 }
 
-// Block i, whose sum is s, with one loss: it is mended from the next nb - 1 bits. Where the next nb bits have its sum, one loss yields
-// no row that none does not also yield; where fewer than nb bits remain, they have none.
+// Block i, whose sum is s, with one loss: it is mended from the next nb - 1 bits. Where the next nb bits have its sum, one loss
+// yields no row that zero losses don't also yield. Near the row's end fewer than nb bits remain, and one loss is still tried.
 fn mended_block(l: Layout, s: usize, i: usize, rest: &[u8], row: &mut [u8]) -> bool
     requires { ⌜ (legal l ≡ true) × (AllBits (now rest) × ((s ≤ blockBits l) × (i * l .l2 + l .l2 ≤ length (now row)))) ⌝ }
     ensures { λ r. ⌜ Tried l s i 1 (now (rest .entry)) (now (row .entry)) (now (row .exit)) r ⌝ }
@@ -210,7 +211,8 @@ fn one_pattern(
 ) -> Kept
     requires { ⌜ Given l (now numbers) (now y) × (Holding l (now numbers) (now y) cap (now list) (kept .count) (kept .more)
         × ((length (now row) ≡ 255) × (pattern .total ≡ inAll (take (l .l1) (pattern .counts))))) ⌝ }
-    ensures { λ r. ⌜ Grown l (now (numbers .entry)) (now (y .entry)) cap (Under l (now (y .entry)) (pattern .counts) (l .l1) (now (row .entry)))
+    ensures { λ r. ⌜ Grown l (now (numbers .entry)) (now (y .entry)) cap
+        (Under l (now (y .entry)) (pattern .counts) (l .l1) (now (row .entry)))
         (now (list .entry)) (kept .count) (kept .more) (now (list .exit)) (r .count) (r .more) ⌝ }
 {
     let k = l.l1 * l.l2 * l.nc - y.len();
@@ -238,7 +240,8 @@ fn patterns(
 ) -> Kept
     requires { ⌜ (Given l (now numbers) (now y) × Holding l (now numbers) (now y) cap (now list) (kept .count) (kept .more))
         × ((later ≤ l .l1) × Begun l (now y) (now rest) (pattern .counts) (now row) (l .l1 - later) (pattern .total)) ⌝ }
-    ensures { λ r. ⌜ Grown l (now (numbers .entry)) (now (y .entry)) cap (Under l (now (y .entry)) (pattern .counts) (l .l1 - later) (now (row .entry)))
+    ensures { λ r. ⌜ Grown l (now (numbers .entry)) (now (y .entry)) cap
+        (Under l (now (y .entry)) (pattern .counts) (l .l1 - later) (now (row .entry)))
         (now (list .entry)) (kept .count) (kept .more) (now (list .exit)) (r .count) (r .more)
         × (take ((l .l1 - later) * l .l2) (now (row .exit)) ≡ take ((l .l1 - later) * l .l2) (now (row .entry))) ⌝ }
 {
@@ -279,7 +282,8 @@ fn patterns(
 // All consistent rows: the first of them, as many as fit, in the list slice.
 pub fn search(l: Layout, y: &[u8], numbers: &[u16], cap: usize, list: &mut [u8]) -> Kept
     requires { ⌜ Given l (now numbers) (now y) × (cap * bytesFor (rowBits l) ≤ length (now list)) ⌝ }
-    ensures { λ r. ⌜ Listed l (now (numbers .entry)) (now (y .entry)) cap (now (list .entry)) (now (list .exit)) (r .count) (r .more) ⌝ }
+    ensures { λ r. ⌜ Listed l (now (numbers .entry)) (now (y .entry)) cap (now (list .entry)) (now (list .exit))
+        (r .count) (r .more) ⌝ }
 {
     let start = Pattern {
         counts: [0; 255],

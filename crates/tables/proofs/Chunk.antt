@@ -1,5 +1,5 @@
--- A chunk of a row and its own losses: where it is read in the received row, what it loses there, and that a chunk without a loss is
--- the next bits of the received row. Assumes nothing.
+-- A chunk of a row and its own losses: where it is read in the received row, what it loses there, and that a chunk without a
+-- loss is the next bits of the received row. Assumes nothing.
 use Prim.Native.Nat.{ℕ, _+_, _*_, _-_, _<_, _≤_}
 use mathlib.Core.Path.{_≡_, refl, sym, ap, _∙_}
 use mathlib.Core.List.{List}
@@ -35,7 +35,8 @@ pub chunk-next : (c nc : ℕ) → (c + 1) * nc ≡ c * nc + nc
 chunk-next c nc = omega (arith, add-mul c 1 nc, one-mul nc)
 
 -- as many bits are lost before a later chunk, or more
-pub lost-grows : (l : Layout) (y x : List ℕ) → Row (rowBits l) x → (c e : ℕ) → c ≤ e → e ≤ l .l1 * l .l2 → lostBefore l y x c ≤ lostBefore l y x e
+pub lost-grows : (l : Layout) (y x : List ℕ) → Row (rowBits l) x → (c e : ℕ) → c ≤ e → e ≤ l .l1 * l .l2
+    → lostBefore l y x c ≤ lostBefore l y x e
 lost-grows l y x row c e h g =
     let a : c * l .nc ≤ e * l .nc = mul-le-mul-right (l .nc) h in
     let b : e * l .nc ≤ rowBits l = mul-le-mul-right (l .nc) g in
@@ -55,34 +56,35 @@ module _ (l : Layout) (y x : List ℕ) (row : Row (rowBits l) x) (c : ℕ) (insi
   -- the received row reaches to where the chunk is read
   pub place-within : c * l .nc - lostBefore l y x c ≤ length y
   place-within =
-      piece (c * l .nc) (lostBefore l y x c) (take (c * l .nc) x) y (length-take-le (c * l .nc) x (omega (arith, room))) refl .within
+      let n = length-take-le (c * l .nc) x (omega (arith, room)) in
+      piece (c * l .nc) (lostBefore l y x c) (take (c * l .nc) x) y n refl .within
 
-  module _ (d a : ℕ) (shift : lostBefore l y x c ≡ d) (own : Loses l y x c a) where
-    -- the bits that the chunk is matched against
+  -- it is matched against the bits from that place on, and has a losses
+  module _ (a : ℕ) (own : Loses l y x c a) where
+    abbrev chunk : List ℕ
+    chunk = take (l .nc) (drop (c * l .nc) x)
+
     abbrev rest : List ℕ
-    rest = drop (c * l .nc - d) y
+    rest = drop (c * l .nc - lostBefore l y x c) y
 
-    loses-bits : losses (take (l .nc) (drop (c * l .nc) x)) rest ≡ a
+    loses-bits : losses chunk rest ≡ a
     loses-bits =
-        piece-loses x y (c * l .nc) (l .nc) d a (omega (arith, room)) shift
-        (ap (λ (s : ℕ). losses (take s x) y) (sym (chunk-next c (l .nc))) ∙ own ∙ ap (λ (s : ℕ). s + a) shift)
+        piece-loses x y (c * l .nc) (l .nc) (lostBefore l y x c) a (omega (arith, room)) refl
+        (ap (λ (s : ℕ). losses (take s x) y) (sym (chunk-next c (l .nc))) ∙ own)
 
-    length-chunk : length (take (l .nc) (drop (c * l .nc) x)) ≡ l .nc
+    length-chunk : length chunk ≡ l .nc
     length-chunk = length-take-le (l .nc) (drop (c * l .nc) x) (simp length-drop (omega (arith, room)))
 
-    -- the chunk has its own losses against them
     pub chunk-loses : losses (digits (l .nc) (getD (values l x) c 0)) rest ≡ a
     chunk-loses = rw (chunk-digits l x row c inside) loses-bits
 
-    -- without a loss there are nc of them, and they are the chunk
-    pub chunk-within : a ≡ 0 → c * l .nc - d + l .nc ≤ length y
+    -- without a loss there are nc bits from that place on, and they are the chunk
+    pub chunk-within : a ≡ 0 → c * l .nc - lostBefore l y x c + l .nc ≤ length y
     chunk-within z =
-        let p = piece (l .nc) 0 (take (l .nc) (drop (c * l .nc) x)) rest length-chunk (loses-bits ∙ z) in
-        omega (arith, p .within, length-drop (c * l .nc - d) y, place-within, shift)
+        let p = piece (l .nc) 0 chunk rest length-chunk (loses-bits ∙ z) in
+        omega (arith, p .within, length-drop (c * l .nc - lostBefore l y x c) y, place-within)
 
     pub chunk-read : a ≡ 0 → getD (values l x) c 0 ≡ number (l .nc) rest
     chunk-read z =
-        let e : take (l .nc) (drop (c * l .nc) x) ≡ take (l .nc) rest =
-        whole (take (l .nc) (drop (c * l .nc) x)) rest (loses-bits ∙ z) ∙ ap (λ (n : ℕ). take n rest) length-chunk
-        in
+        let e : chunk ≡ take (l .nc) rest = whole chunk rest (loses-bits ∙ z) ∙ ap (λ (n : ℕ). take n rest) length-chunk in
         value-at l x c inside ∙ sym (number-take (l .nc) (drop (c * l .nc) x)) ∙ ap (number (l .nc)) e ∙ number-take (l .nc) rest

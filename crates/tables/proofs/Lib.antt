@@ -3,3 +3,4 @@ pub mod Chunk
 pub mod Making
 pub mod Sharing
 pub mod Trying
+pub mod Own

@@ -9,7 +9,7 @@ use mathlib.Core.List.{List, [], _∷_}
 use native.Mathlib.Nat.{mul-assoc, add-comm}
 use native.Mathlib.Omega.{arith}
 use borrow.Author.Tests.{lt-ltb, le-ltb}
-use lib.Dec.{eqb, ltb}
+use lib.Dec.{eqb}
 use lib.ListN.{length, getD, set, take, drop}
 use lib.Seq.{getD-set-same, getD-set-other, set-set}
 use Rattle.bits.specs.Bits.{digits}
@@ -23,12 +23,14 @@ use Rattle.message.proofs.Fields.{field-room}
 use Rattle.consistent.specs.Greedy.{losses, inAll}
 use Rattle.lines.specs.Lines.{values, line}
 use Rattle.lines.proofs.Lines.{string-line, line-same}
-use Rattle.cells.specs.Cells.{share, NoSingle, Open, OpenAt, Placed}
+use Rattle.cells.specs.Cells.{share, NoSingle, Open, OpenAt}
 use Rattle.cells.specs.declared.Cells.{Cells}
 use Rattle.cells.proofs.Shares.{share-found, all-found}
 use Rattle.cells.proofs.State.{same-or-not, none-open}
-use Rattle.tables.specs.Tables.{reached, Undecided, chunkAt, lostBefore, Loses, Sound, Under, pushed, withChunk, withCell, ColumnDecided, NoneLeft, Whole}
-use Rattle.tables.specs.declared.Heavy.{Heavy}
+use Rattle.live.specs.Live.{chunkAt}
+use Rattle.tables.specs.Tables.{reached, Undecided, lostBefore, Loses, Sound, Under}
+use Rattle.tables.specs.Tables.{pushed, withChunk, withCell, ColumnDecided, NoneLeft, Whole}
+use Rattle.live.specs.declared.Heavy.{Heavy}
 use Rattle.tables.specs.declared.Table.{Table}
 use Rattle.tables.proofs.Chunk.{chunk-next, lost-grows}
 
@@ -59,13 +61,15 @@ share-set keys lost key z a h g f =
     let m = share-found keys (set lost z (getD lost z 0 - a)) key z h in
     go (eqb (getD keys z 0) key) (rw (set-set lost z (getD lost z 0 - a) 0, e) at m) (share-found keys lost key z h)
   where
-    go : (t : Bool) → share keys (set lost z 0) key + cond t (getD lost z 0 - a) 0 ≡ share keys (set lost z (getD lost z 0 - a)) key
+    go : (t : Bool)
+        → share keys (set lost z 0) key + cond t (getD lost z 0 - a) 0 ≡ share keys (set lost z (getD lost z 0 - a)) key
         → share keys (set lost z 0) key + cond t (getD lost z 0) 0 ≡ share keys lost key
         → share keys (set lost z (getD lost z 0 - a)) key + cond t a 0 ≡ share keys lost key
     go true p q = omega arith
     go false p q = omega arith
 
-all-set : (lost : List ℕ) (z a : ℕ) → z < length lost → a ≤ getD lost z 0 → inAll (set lost z (getD lost z 0 - a)) + a ≡ inAll lost
+all-set : (lost : List ℕ) (z a : ℕ) → z < length lost → a ≤ getD lost z 0
+    → inAll (set lost z (getD lost z 0 - a)) + a ≡ inAll lost
 all-set lost z a g f =
     let e = getD-set-same lost z (getD lost z 0 - a) 0 g in
     let m = rw (set-set lost z (getD lost z 0 - a) 0, e) at (all-found (set lost z (getD lost z 0 - a)) z) in
@@ -93,7 +97,8 @@ share-pushed (n ∷ keys) (b ∷ lost) key zero k a h g f = go (eqb n key) (eqb 
     go : (t u : Bool) → cond u a 0 + share keys lost key ≡ cond t b 0 + share keys lost key + cond u a 0
     go true u = omega arith
     go false u = omega arith
-share-pushed (n ∷ keys) (b ∷ lost) key (suc z) k a h g f = omega (arith, share-pushed keys lost key z k a (omega arith) (omega arith) f)
+share-pushed (n ∷ keys) (b ∷ lost) key (suc z) k a h g f =
+    omega (arith, share-pushed keys lost key z k a (omega arith) (omega arith) f)
 
 -- ---- one more cell
 -- there is room for twelve cells
@@ -107,7 +112,8 @@ pub record Twelve (cells : Cells) : Type 0 where
 abbrev At : (P : (block column lost place : ℕ) → Type 0) → Cells → ℕ → Type 0
 At P cells z = P (getD (cells .block) z 0) (getD (cells .column) z 0) (getD (cells .lost) z 0) (getD (cells .place) z 0)
 
-module _ (cells : Cells) (twelve : Twelve cells) (room : cells .n < 12) (unused : getD (cells .lost) (cells .n) 0 ≡ 0) (i j a place : ℕ) where
+module _ (cells : Cells) (twelve : Twelve cells) (room : cells .n < 12) (unused : getD (cells .lost) (cells .n) 0 ≡ 0)
+    (i j a place : ℕ) where
   -- the cells that were open are others, and are so still
   open-kept : (z : ℕ) → Open cells z → (z ≡ cells .n → ⊥) × Open (pushed cells i j a place) z
   open-kept z o =
@@ -121,7 +127,9 @@ module _ (cells : Cells) (twelve : Twelve cells) (room : cells .n < 12) (unused 
   at-kept : (b c : ℕ) → OpenAt cells b c → OpenAt (pushed cells i j a place) b c
   at-kept b c (z, (o, (p, q))) =
       let k = open-kept z o in
-      (z, (k .1, (rw (getD-set-other (cells .block) (cells .n) z i 0 (k .0)) p, rw (getD-set-other (cells .column) (cells .n) z j 0 (k .0)) q)))
+      let in-block : getD (set (cells .block) (cells .n) i) z 0 ≡ b = getD-set-other (cells .block) (cells .n) z i 0 (k .0) ∙ p in
+      let in-column : getD (set (cells .column) (cells .n) j) z 0 ≡ c = getD-set-other (cells .column) (cells .n) z j 0 (k .0) ∙ q in
+      (z, (k .1, (in-block, in-column)))
 
   -- the new cell is open
   at-new : 0 < a → OpenAt (pushed cells i j a place) i j
@@ -158,7 +166,8 @@ module _ (cells : Cells) (twelve : Twelve cells) (room : cells .n < 12) (unused 
           ) (old z (open-old z n o))
 
 -- ---- a share: the rows under the table
-module _ {l : Layout} {y : List ℕ} {heavy : Heavy} {j h : ℕ} {t : Table} {x : List ℕ} (u : Under l y heavy j h t x) (some : h < heavy .n) where
+module _ {l : Layout} {y : List ℕ} {heavy : Heavy} {j h : ℕ} {t : Table} {x : List ℕ} (u : Under l y heavy j h t x)
+    (some : h < heavy .n) where
   -- the losses before the chunk that is shared out to are those of the block's end without those left
   pub shift-at : lostBefore l y x (chunkAt l heavy j h) + getD (t .left) h 0 ≡ getD (heavy .end) h 0
   shift-at =
@@ -201,7 +210,11 @@ module _ {l : Layout} {y : List ℕ} {heavy : Heavy} {j h : ℕ} {t : Table} {x 
       record {
         ends = u .ends;
         shifts = shifts-next (t .left) 0 own (omega arith) (λ s n. refl);
-        decided = λ i c p q. ⊎-elim (λ w. fresh i c (undecided-next i c w)) (λ w. inr (⊎-elim inl (λ e. inr (kept (i * l .l2 + c) e)) w)) (u .decided i c p q);
+        decided = λ i c p q.
+            ⊎-elim
+            (λ w. fresh i c (undecided-next i c w))
+            (λ w. inr (⊎-elim inl (λ e. inr (kept (i * l .l2 + c) e)) w))
+            (u .decided i c p q);
         loses = u .loses;
       }
     where
@@ -212,10 +225,13 @@ module _ {l : Layout} {y : List ℕ} {heavy : Heavy} {j h : ℕ} {t : Table} {x 
       there k e = rw e (is ∙ sym (getD-set-same (t .row) (chunkAt l heavy j h) v 0 in-row))
 
       kept : (k : ℕ) → getD (values l x) k 0 ≡ getD (t .row) k 0 → getD (values l x) k 0 ≡ getD new k 0
-      kept k e = ⊎-elim (there k) (λ n. e ∙ sym (getD-set-other (t .row) (chunkAt l heavy j h) k v 0 n)) (same-or-not k (chunkAt l heavy j h))
+      kept k e =
+          ⊎-elim (there k) (λ n. e ∙ sym (getD-set-other (t .row) (chunkAt l heavy j h) k v 0 n))
+          (same-or-not k (chunkAt l heavy j h))
 
       fresh : (i c : ℕ) → Undecided heavy j (h + 1) i c ⊎ ((getD (heavy .block) h 0 ≡ i) × (j ≡ c))
-          → Undecided heavy j (h + 1) i c ⊎ (OpenAt (t .cells) i c ⊎ (getD (values l x) (i * l .l2 + c) 0 ≡ getD new (i * l .l2 + c) 0))
+          → Undecided heavy j (h + 1) i c
+          ⊎ (OpenAt (t .cells) i c ⊎ (getD (values l x) (i * l .l2 + c) 0 ≡ getD new (i * l .l2 + c) 0))
       fresh i c (inl w) = inl w
       fresh i c (inr w) = inr (inr (there (i * l .l2 + c) (rw (w .0, w .1) refl)))
 
@@ -229,7 +245,11 @@ module _ {l : Layout} {y : List ℕ} {heavy : Heavy} {j h : ℕ} {t : Table} {x 
         ends = u .ends;
         shifts = shifts-next left a own (omega (arith, getD-set-same (t .left) h (getD (t .left) h 0 - a) 0 in-left))
             (λ s n. getD-set-other (t .left) h s (getD (t .left) h 0 - a) 0 n);
-        decided = λ i c p q. ⊎-elim (λ w. fresh i c (undecided-next i c w)) (λ w. inr (⊎-elim (λ o. inl (at-kept (t .cells) twelve room unused block j a place i c o)) inr w)) (u .decided i c p q);
+        decided = λ i c p q.
+            ⊎-elim
+            (λ w. fresh i c (undecided-next i c w))
+            (λ w. inr (⊎-elim (λ o. inl (at-kept (t .cells) twelve room unused block j a place i c o)) inr w))
+            (u .decided i c p q);
         loses = each-pushed (t .cells) twelve room unused block j a place
             (λ b c lost p. losses (digits (l .nc) (getD (values l x) (b * l .l2 + c) 0)) (drop p y) ≡ lost) (u .loses) is;
       }
@@ -241,7 +261,8 @@ module _ {l : Layout} {y : List ℕ} {heavy : Heavy} {j h : ℕ} {t : Table} {x 
       block = getD (heavy .block) h 0
 
       fresh : (i c : ℕ) → Undecided heavy j (h + 1) i c ⊎ ((block ≡ i) × (j ≡ c))
-          → Undecided heavy j (h + 1) i c ⊎ (OpenAt (pushed (t .cells) block j a place) i c ⊎ (getD (values l x) (i * l .l2 + c) 0 ≡ getD (t .row) (i * l .l2 + c) 0))
+          → Undecided heavy j (h + 1) i c
+          ⊎ (OpenAt (pushed (t .cells) block j a place) i c ⊎ (getD (values l x) (i * l .l2 + c) 0 ≡ getD (t .row) (i * l .l2 + c) 0))
       fresh i c (inl w) = inl w
       fresh i c (inr w) = inr (inl (rw (← w .0, ← w .1) (at-new (t .cells) twelve room unused block j a place pos)))
 
@@ -265,7 +286,8 @@ module _ {l : Layout} {m : ℕ} {heavy : Heavy} {t : Table} (s : Sound l m heavy
     pub room-cell : 0 < a → t .cells .n < 12
     room-cell p = omega (arith, all-set (t .left) h a (omega (arith, s .few)) less, s .room)
 
-    pub sound-cell : 0 < a → j < l .l2 → place ≤ m → Twelve (t .cells) → Sound l m heavy (withCell t h (getD (heavy .block) h 0) j a place)
+    pub sound-cell : 0 < a → j < l .l2 → place ≤ m → Twelve (t .cells)
+        → Sound l m heavy (withCell t h (getD (heavy .block) h 0) j a place)
     sound-cell p inside within twelve =
         record {
           few = s .few;
@@ -275,7 +297,7 @@ module _ {l : Layout} {m : ℕ} {heavy : Heavy} {t : Table} (s : Sound l m heavy
           room = omega (arith, all-set (t .left) h a (omega (arith, s .few)) less, s .room);
           fresh = λ z k. getD-set-other (t .cells .lost) (t .cells .n) z a 0 (λ e. absurd (omega arith)) ∙ s .fresh z (omega arith);
           spare = λ r k. getD-set-other (t .left) h r (getD (t .left) h 0 - a) 0 (λ e. absurd (omega arith)) ∙ s .spare r k;
-          not-one = λ i e. s .not-one i (omega (arith, share-set (heavy .block) (t .left) i h a (omega (arith, s .few)) (omega (arith, s .few)) less, share-pushed (t .cells .block) (t .cells .lost) i (t .cells .n) block a (omega (arith, room)) (omega (arith, room)) unused));
+          not-one = λ i e. s .not-one i (omega (arith, fewer i, more i));
         }
       where
         block : ℕ
@@ -286,6 +308,18 @@ module _ {l : Layout} {m : ℕ} {heavy : Heavy} {t : Table} (s : Sound l m heavy
 
         unused : getD (t .cells .lost) (t .cells .n) 0 ≡ 0
         unused = s .fresh (t .cells .n) (omega arith)
+
+        -- what block i has left falls by what its cells gain
+        fewer : (i : ℕ)
+            → share (heavy .block) (set (t .left) h (getD (t .left) h 0 - a)) i + cond (eqb block i) a 0 ≡ share (heavy .block) (t .left) i
+        fewer i = share-set (heavy .block) (t .left) i h a (omega (arith, s .few)) (omega (arith, s .few)) less
+
+        more : (i : ℕ)
+            → share (set (t .cells .block) (t .cells .n) block) (set (t .cells .lost) (t .cells .n) a) i
+            ≡ share (t .cells .block) (t .cells .lost) i + cond (eqb block i) a 0
+        more i =
+            share-pushed (t .cells .block) (t .cells .lost) i (t .cells .n) block a (omega (arith, room)) (omega (arith, room))
+            unused
 
 -- ---- the end of a column, and of the last
 module _ {l : Layout} {y : List ℕ} {heavy : Heavy} {t : Table} {x : List ℕ} where
@@ -302,15 +336,19 @@ module _ {l : Layout} {y : List ℕ} {heavy : Heavy} {t : Table} {x : List ℕ} 
       record {
         ends = u .ends;
         shifts = λ s k. rw (same s k) (u .shifts s k);
-        decided = λ i c p q. ⊎-elim (λ w. inl (w .0, (w .1 .0, (w .1 .1 .0, omega (arith, w .1 .1 .1, same (w .0) (w .1 .0)))))) inr (u .decided i c p q);
+        decided = λ i c p q. ⊎-elim (λ w. inl (still w)) inr (u .decided i c p q);
         loses = u .loses;
       }
     where
       same : (s : ℕ) → s < heavy .n → reached (j + 1) 0 s ≡ reached j (heavy .n) s
       same s k = reached-not (j + 1) 0 s (omega arith) ∙ sym (reached-past j (heavy .n) s k)
 
+      still : {i c : ℕ} → Undecided heavy j (heavy .n) i c → Undecided heavy (j + 1) 0 i c
+      still w = (w .0, (w .1 .0, (w .1 .1 .0, omega (arith, w .1 .1 .1, same (w .0) (w .1 .0)))))
+
   -- the losses of a heavy block's end
-  end-at : {j h : ℕ} → Under l y heavy j h t x → (s : ℕ) → s < heavy .n → lostBefore l y x (chunkAt l heavy (l .l2) s) ≡ getD (heavy .end) s 0
+  pub end-at : {j h : ℕ} → Under l y heavy j h t x → (s : ℕ) → s < heavy .n
+      → lostBefore l y x (chunkAt l heavy (l .l2) s) ≡ getD (heavy .end) s 0
   end-at u s k =
       let b = getD (heavy .block) s 0 in
       let e : (b * l .l2 + l .l2) * l .nc ≡ (b + 1) * blockBits l =
@@ -337,11 +375,13 @@ module _ {l : Layout} {y : List ℕ} {heavy : Heavy} {t : Table} {x : List ℕ} 
       past c q w = omega (arith, w .1 .1 .1, reached-not (l .l2) 0 (w .0) (omega arith))
 
   -- ---- how many losses a chunk can have
-  module _ {j h : ℕ} (row : Row (rowBits l) x) (u : Under l y heavy j h t x) (some : h < heavy .n) (block : getD (heavy .block) h 0 < l .l1) (column : j < l .l2) where
+  module _ {j h : ℕ} (row : Row (rowBits l) x) (u : Under l y heavy j h t x) (some : h < heavy .n)
+      (block : getD (heavy .block) h 0 < l .l1) (column : j < l .l2) where
     -- no more than are left
     pub share-most : lostBefore l y x (chunkAt l heavy j h + 1) ≤ lostBefore l y x (chunkAt l heavy j h) + getD (t .left) h 0
     share-most =
-        let g = lost-grows l y x row (chunkAt l heavy j h + 1) (chunkAt l heavy (l .l2) h) (omega arith) (field-room (l .l1) (l .l2) (getD (heavy .block) h 0) block) in
+        let f = field-room (l .l1) (l .l2) (getD (heavy .block) h 0) block in
+        let g = lost-grows l y x row (chunkAt l heavy j h + 1) (chunkAt l heavy (l .l2) h) (omega arith) f in
         omega (arith, g, end-at u h some, shift-at u some)
 
     -- and in the last column all that are left

@@ -1,18 +1,21 @@
 -- What sharing out answers: a chunk is read, or becomes a cell, or no row under the table has that share. Assumes nothing.
 use Prim.Native.Nat.{ℕ, _+_, _*_, _-_, _<_, _≤_}
-use mathlib.Core.Path.{_≡_, refl, sym, ap, _∙_}
+use mathlib.Core.Path.{_≡_, refl}
 use mathlib.Core.Bool.{true, false}
 use mathlib.Core.List.{List}
 use native.Mathlib.Omega.{arith}
 use lib.ListN.{length, getD, drop}
-use Rattle.bits.specs.Bits.{longest, number}
+use Rattle.bits.specs.Bits.{longest, number, digits}
 use Rattle.rows.specs.Order.{Row}
 use Rattle.message.specs.Layout.{rowBits}
 use Rattle.message.specs.declared.Layout.{Layout}
 use Rattle.message.proofs.Fields.{field-room}
-use Rattle.message.proofs.Legal.{legal-bounds, sizes}
-use Rattle.tables.specs.Tables.{chunkAt, lostBefore, Under, withChunk, withCell, Sharable, Shared}
-use Rattle.tables.specs.declared.Heavy.{Heavy}
+use Rattle.message.proofs.Legal.{Sizes, legal-bounds, sizes}
+use Rattle.consistent.specs.Greedy.{losses}
+use Rattle.lines.specs.Lines.{values}
+use Rattle.live.specs.Live.{chunkAt}
+use Rattle.tables.specs.Tables.{lostBefore, Loses, Under, withChunk, withCell, Sharable, Shared}
+use Rattle.live.specs.declared.Heavy.{Heavy}
 use Rattle.tables.specs.declared.Table.{Table}
 use Rattle.tables.proofs.Chunk.{chunk-inside, lost-before, place-within, chunk-within, chunk-read, chunk-loses}
 use Rattle.tables.proofs.Making.{Twelve, shift-at, under-read, under-cell, sound-read, room-cell, sound-cell}
@@ -22,63 +25,70 @@ module _ {l : Layout} {y : List ℕ} {heavy : Heavy} {j h a : ℕ} {t : Table} (
   inside : chunkAt l heavy j h < l .l1 * l .l2
   inside = chunk-inside (l .l1) (l .l2) (getD (heavy .block) h 0) j (q .sound .inside h (q .some)) (q .column)
 
+  size : Sizes l
+  size = sizes l (legal-bounds l (q .is-legal))
+
   -- what follows for its number, for its place, and for the column
   pub chunk-low : chunkAt l heavy j h < 255
-  chunk-low = omega (arith, inside, sizes l (legal-bounds l (q .is-legal)) .chunks)
+  chunk-low = omega (arith, inside, size .chunks)
 
   pub start-low : chunkAt l heavy j h * l .nc ≤ longest
-  start-low = omega (arith, field-room (l .l1 * l .l2) (l .nc) (chunkAt l heavy j h) inside, sizes l (legal-bounds l (q .is-legal)) .row)
+  start-low = omega (arith, field-room (l .l1 * l .l2) (l .nc) (chunkAt l heavy j h) inside, size .row)
 
   pub received-low : length y ≤ longest
-  received-low = omega (arith, q .short, sizes l (legal-bounds l (q .is-legal)) .row)
+  received-low = omega (arith, q .short, size .row)
 
   pub column-low : j < 255
-  column-low = omega (arith, q .column, sizes l (legal-bounds l (q .is-legal)) .l2-high)
+  column-low = omega (arith, q .column, size .l2-high)
 
   pub chunk-bits : l .nc ≤ 8
   chunk-bits = legal-bounds l (q .is-legal) .nc-high
 
--- where the chunk is read is known
+-- where the chunk is read: the place for the losses that a row has before it
 module _ {l : Layout} {y : List ℕ} {heavy : Heavy} {j h a : ℕ} {t : Table} (q : Sharable l y heavy j h a t) (place : ℕ)
     (read : (d : ℕ) → d + getD (t .left) h 0 ≡ getD (heavy .end) h 0 → d ≤ chunkAt l heavy j h * l .nc
     → chunkAt l heavy j h * l .nc - d ≤ length y → place ≡ chunkAt l heavy j h * l .nc - d) where
-  -- a row under the table
+  -- a row under the table: its chunk is read there
   module _ (x : List ℕ) (row : Row (rowBits l) x) (u : Under l y heavy j h t x) where
-    abbrev lost : ℕ
-    lost = lostBefore l y x (chunkAt l heavy j h)
+    abbrev chunk : ℕ
+    chunk = chunkAt l heavy j h
 
-    place-at : place ≡ chunkAt l heavy j h * l .nc - lost
-    place-at = read lost (shift-at u (q .some)) (lost-before l y x row (chunkAt l heavy j h) (inside q)) (place-within l y x row (chunkAt l heavy j h) (inside q))
+    place-at : place ≡ chunk * l .nc - lostBefore l y x chunk
+    place-at =
+        read (lostBefore l y x chunk) (shift-at u (q .some)) (lost-before l y x row chunk (inside q))
+        (place-within l y x row chunk (inside q))
+
+    reaches : place ≤ length y
+    reaches = rw place-at (place-within l y x row chunk (inside q))
+
+    module _ (own : Loses l y x chunk a) where
+      loses : losses (digits (l .nc) (getD (values l x) chunk 0)) (drop place y) ≡ a
+      loses = rw place-at (chunk-loses l y x row chunk (inside q) a own)
+
+      fits : a ≡ 0 → place + l .nc ≤ length y
+      fits z = rw place-at (chunk-within l y x row chunk (inside q) a own z)
+
+      is-read : a ≡ 0 → getD (values l x) chunk 0 ≡ number (l .nc) (drop place y)
+      is-read z = rw place-at (chunk-read l y x row chunk (inside q) a own z)
 
   -- too few bits are left to read the chunk
   pub shared-short : a ≡ 0 → length y < place + l .nc → Shared l y heavy j h a t false t
-  shared-short z short =
-      record {
-        sound = q .sound;
-        under = λ x row u own. absurd (omega (arith, place-at x row u, chunk-within l y x row (chunkAt l heavy j h) (inside q) (lost x row u) a refl own z));
-      }
+  shared-short z short = record { sound = q .sound; under = λ x row u own. absurd (omega (arith, fits x row u own z)) }
 
   -- the chunk is read
   pub shared-read : a ≡ 0 → length (t .row) ≡ 255
       → Shared l y heavy j h a t true (withChunk t (chunkAt l heavy j h) (number (l .nc) (drop place y)))
   shared-read z n =
+      let v = number (l .nc) (drop place y) in
       record {
-        sound = sound-read (q .sound) (chunkAt l heavy j h) (number (l .nc) (drop place y));
-        under = λ x row u own. (
-          refl,
-          under-read u (q .some) (number (l .nc) (drop place y)) (rw z at own)
-              (chunk-read l y x row (chunkAt l heavy j h) (inside q) (lost x row u) a refl own z ∙ ap (λ (p : ℕ). number (l .nc) (drop p y)) (sym (place-at x row u)))
-              (omega (arith, chunk-low q)),
-        );
+        sound = sound-read (q .sound) (chunkAt l heavy j h) v;
+        under = λ x row u own.
+            (refl, under-read u (q .some) v (rw z at own) (is-read x row u own z) (omega (arith, chunk-low q)));
       }
 
   -- the received row does not reach to where the chunk would be read
   pub shared-beyond : length y < place → Shared l y heavy j h a t false t
-  shared-beyond beyond =
-      record {
-        sound = q .sound;
-        under = λ x row u own. absurd (omega (arith, place-at x row u, place-within l y x row (chunkAt l heavy j h) (inside q)));
-      }
+  shared-beyond beyond = record { sound = q .sound; under = λ x row u own. absurd (omega (arith, reaches x row u)) }
 
   -- the chunk becomes a cell
   module _ (pos : 0 < a) (in-left : length (t .left) ≡ 6) (in-block : length (heavy .block) ≡ 6) (twelve : Twelve (t .cells)) where
@@ -87,11 +97,10 @@ module _ {l : Layout} {y : List ℕ} {heavy : Heavy} {j h a : ℕ} {t : Table} (
 
     pub shared-cell : place ≤ length y → Shared l y heavy j h a t true (withCell t h (getD (heavy .block) h 0) j a place)
     shared-cell within =
+        let in-range : h < length (t .left) = omega (arith, q .some, q .sound .few) in
+        let unused = q .sound .fresh (t .cells .n) (omega arith) in
         record {
           sound = sound-cell (q .sound) j h a place (q .some) (q .less) in-left in-block pos (q .column) within twelve;
-          under = λ x row u own. (
-            refl,
-            under-cell u (q .some) a place own pos (q .less) (omega (arith, q .some, q .sound .few)) twelve cell-room (q .sound .fresh (t .cells .n) (omega arith))
-                (rw (place-at x row u) (chunk-loses l y x row (chunkAt l heavy j h) (inside q) (lost x row u) a refl own)),
-          );
+          under = λ x row u own.
+              (refl, under-cell u (q .some) a place own pos (q .less) in-range twelve cell-room unused (loses x row u own));
         }

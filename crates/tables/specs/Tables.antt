@@ -15,7 +15,9 @@ use Rattle.consistent.specs.Greedy.{losses, inAll}
 use Rattle.lines.specs.Lines.{values}
 use Rattle.cells.specs.Cells.{share, Open, OpenAt, Placed, chunkOf, Under as UnderCells}
 use Rattle.cells.specs.declared.Cells.{Cells}
-use Rattle.tables.specs.declared.Heavy.{Heavy}
+use Rattle.live.specs.Live.{stride, state, chunkAt, Live, each, Shaped}
+use Rattle.live.specs.declared.Heavy.{Heavy}
+use Rattle.live.specs.declared.Shape.{Shape}
 use Rattle.tables.specs.declared.Table.{Table}
 
 -- the column that heavy block s has come to, where in column j the first h heavy blocks have their share
@@ -25,10 +27,6 @@ reached j h s = cond (ltb s h) (j + 1) j
 -- chunk c of block i is one whose share is not chosen yet
 abbrev pub Undecided : Heavy → (j h i c : ℕ) → Type 0
 Undecided heavy j h i c = (s : ℕ) × ((s < heavy .n) × ((getD (heavy .block) s 0 ≡ i) × (reached j h s ≤ c)))
-
--- the chunk of heavy block h in column j, counted in row order
-abbrev pub chunkAt : Layout → Heavy → (j h : ℕ) → ℕ
-chunkAt l heavy j h = getD (heavy .block) h 0 * l .l2 + j
 
 -- the losses of the row x before its chunk c
 abbrev pub lostBefore : Layout → (y x : List ℕ) → (c : ℕ) → ℕ
@@ -53,11 +51,39 @@ pub record Sound (l : Layout) (m : ℕ) (heavy : Heavy) (t : Table) : Type 0 whe
 -- to come as are left, and its chunks are those in hand but for those not decided yet and the cells
 pub record Under (l : Layout) (y : List ℕ) (heavy : Heavy) (j h : ℕ) (t : Table) (x : List ℕ) : Type 0 where
   pub ends : (s : ℕ) → s < heavy .n → losses (take ((getD (heavy .block) s 0 + 1) * blockBits l) x) y ≡ getD (heavy .end) s 0
-  pub shifts : (s : ℕ) → s < heavy .n → lostBefore l y x (chunkAt l heavy (reached j h s) s) + getD (t .left) s 0 ≡ getD (heavy .end) s 0
+  pub shifts : (s : ℕ) → s < heavy .n
+      → lostBefore l y x (chunkAt l heavy (reached j h s) s) + getD (t .left) s 0 ≡ getD (heavy .end) s 0
   pub decided : (i c : ℕ) → i < l .l1 → c < l .l2
       → Undecided heavy j h i c ⊎ (OpenAt (t .cells) i c ⊎ (getD (values l x) (i * l .l2 + c) 0 ≡ getD (t .row) (i * l .l2 + c) 0))
   pub loses : (z : ℕ) → Open (t .cells) z
-      → losses (digits (l .nc) (getD (values l x) (chunkOf l (t .cells) z) 0)) (drop (getD (t .cells .place) z 0) y) ≡ getD (t .cells .lost) z 0
+      → losses (digits (l .nc) (getD (values l x) (chunkOf l (t .cells) z) 0)) (drop (getD (t .cells .place) z 0) y)
+      ≡ getD (t .cells .lost) z 0
+
+-- the losses that the row x has in heavy block s from column j on
+abbrev pub ownLeft : Layout → (y : List ℕ) → Heavy → (x : List ℕ) → (j s : ℕ) → ℕ
+ownLeft l y heavy x j s = getD (heavy .end) s 0 - lostBefore l y x (chunkAt l heavy j s)
+
+-- the shape is that of the loss states of the heavy blocks
+abbrev pub ShapeOf : Heavy → Shape → Type 0
+ShapeOf heavy shape = (shape .n ≡ heavy .n) × Shaped (shape .n) (shape .size) (shape .stride) (shape .states)
+
+-- the entry of a loss state in column j of the table of live states
+abbrev pub entryOf : Shape → (j : ℕ) → (left : ℕ → ℕ) → ℕ
+entryOf shape j left = j * stride (each (shape .size)) (shape .n) + state (each (shape .size)) left (shape .n)
+
+-- the columns begin with a table without cells, and the table of its live states is made
+pub record Begun (l : Layout) (y numbers : List ℕ) (heavy : Heavy) (t : Table) (shape : Shape) (live : List ℕ) : Type 0 where
+  pub no-cells : t .cells .n ≡ 0
+  pub of-left : shape .size ≡ t .left
+  pub made : Live l y numbers heavy (t .row) (each (t .left)) live
+
+-- the loss states that the row x comes through are live, where there is a table of them
+abbrev pub Lives : Layout → (y : List ℕ) → Heavy → Shape → (live x : List ℕ) → Type 0
+Lives l y heavy shape live x = 0 < shape .states → (j : ℕ) → j < l .l2 → 0 < getD live (entryOf shape j (ownLeft l y heavy x j)) 0
+
+-- the row x is under the state, and comes through live ones
+abbrev pub UnderLive : Layout → (y : List ℕ) → Heavy → Shape → (live : List ℕ) → (j h : ℕ) → Table → (x : List ℕ) → Type 0
+UnderLive l y heavy shape live j h t x = Under l y heavy j h t x × Lives l y heavy shape live x
 
 -- the cells with one more
 abbrev pub pushed : Cells → (i j a place : ℕ) → Cells

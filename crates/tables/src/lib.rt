@@ -1,6 +1,6 @@
 // Loss tables: how the losses of the heavy blocks are shared among their chunks. Contracts cite specs/Tables.antt.
 ghost use mathlib.Core.Path.{_≡_};
-ghost use mathlib.Core.Bool.{true};
+ghost use mathlib.Core.Bool.{true, false};
 ghost use mathlib.Core.Logic.{_⊎_};
 ghost use mathlib.Core.List.{List};
 ghost use Prim.Native.Nat.{ℕ, _+_, _-_, _*_, _<_, _≤_};
@@ -11,6 +11,7 @@ ghost use Rattle.message.specs.Layout.{legal, rowBits};
 ghost use Rattle.message.specs.Message.{stringSums};
 ghost use Rattle.cells.specs.Cells.{NoSingle, Placed};
 ghost use Rattle.found.specs.Found.{Given, Holding, Grown};
+ghost use Rattle.live.specs.Live.{each, Shaped};
 ghost use Rattle.tables.specs.Tables.{
   pushed,
   withChunk,
@@ -22,17 +23,16 @@ ghost use Rattle.tables.specs.Tables.{
   Whole,
   Sound,
   Under,
+  ShapeOf,
+  entryOf,
+  Begun,
+  UnderLive,
 };
 use cells::Cells;
+use live::Heavy;
+use live::Shape;
 use message::Layout;
 use rows::Kept;
-
-// The blocks with two losses or more, at most six: each block, and the losses up to its end.
-pub struct Heavy {
-    pub n: usize,
-    pub block: [u8; 6],
-    pub end: [u8; 6],
-}
 
 // A table as it is made: the losses that each heavy block has left to share, the short chunks so far, and the chunks in hand.
 pub struct Table {
@@ -201,13 +201,27 @@ fn mend_table(
     kept
 }
 
-// All rows under a table of which in column j the first h heavy blocks have their share: each share of the next block is tried, at
-// the end of a column its sum is looked at, and after the last column the cells are mended.
+// Whether a column may be gone on with: at its start, where h = 0, the loss state may be live.
+fn goes_on(shape: Shape, live: &[u8], left: [u8; 6], j: usize, h: usize) -> bool
+    requires { ⌜ (shape .n ≤ 6) × ((j ≤ 255) × Shaped (shape .n) (shape .size) (shape .stride) (shape .states)) ⌝ }
+    ensures { λ r. ⌜ (r ≡ false → (h ≡ 0) × ((0 < shape .states) × (getD (now (live .entry)) (entryOf shape j (each left)) 0 ≡ 0))) ⌝ }
+{
+    if h != 0 {
+        return true;
+    }
+    live::alive(shape, left, j, live)
+}
+
+// All rows under a table of which in column j the first h heavy blocks have their share: at the start of a column the table is left
+// where its loss state is not live, each share of the next block is tried, at the end of a column its sum is looked at, and after the
+// last column the cells are mended. The states come in the order of j * 7 + h, and the last is column l2 with h = 0.
 fn columns(
     l: Layout,
     y: &[u8],
     numbers: &[u16],
     heavy: Heavy,
+    shape: Shape,
+    live: &[u8],
     j: usize,
     h: usize,
     t: Table,
@@ -216,17 +230,34 @@ fn columns(
     kept: Kept,
 ) -> Kept
     requires { ⌜ Given l (now numbers) (now y) × (Holding l (now numbers) (now y) cap (now list) (kept .count) (kept .more)
-        × (Sound l (length (now y)) heavy t × ((h ≤ heavy .n) × (j * 7 + h ≤ l .l2 * 7)))) ⌝ }
-    ensures { λ r. ⌜ Grown l (now (numbers .entry)) (now (y .entry)) cap (Under l (now (y .entry)) heavy j h t)
+        × (Sound l (length (now y)) heavy t × ((h ≤ heavy .n) × ((j * 7 + h ≤ l .l2 * 7) × ShapeOf heavy shape)))) ⌝ }
+    ensures { λ r. ⌜ Grown l (now (numbers .entry)) (now (y .entry)) cap (UnderLive l (now (y .entry)) heavy shape (now (live .entry)) j h t)
         (now (list .entry)) (kept .count) (kept .more) (now (list .exit)) (r .count) (r .more) ⌝ }
 {
     if j == l.l2 {
         return mend_table(l, y, numbers, t, cap, list, kept);
     }
+    let lefts = t.left;
+    if !goes_on(shape, live, lefts, j, h) {
+        return kept;
+    }
     if h == heavy.n {
         let row = t.row;
         if column_fits(l, numbers, j, t.cells, row) {
-            return columns(l, y, numbers, heavy, j + 1, 0, t, cap, list, kept);
+            return columns(
+                l,
+                y,
+                numbers,
+                heavy,
+                shape,
+                live,
+                j + 1,
+                0,
+                t,
+                cap,
+                list,
+                kept,
+            );
         }
         return kept;
     }
@@ -236,14 +267,53 @@ fn columns(
     for a in first..=left {
         let s = share_out(l, y, heavy, j, h, a, t);
         if s.ok {
-            k = columns(l, y, numbers, heavy, j, h + 1, s.table, cap, list, k);
+            k = columns(
+                l,
+                y,
+                numbers,
+                heavy,
+                shape,
+                live,
+                j,
+                h + 1,
+                s.table,
+                cap,
+                list,
+                k,
+            );
         }
     }
     k
 }
 
+// The live loss states of a table with which the columns begin; none are kept where it has cells, since these are not read.
+fn live_states(
+    l: Layout,
+    y: &[u8],
+    numbers: &[u16],
+    heavy: Heavy,
+    t: Table,
+    live: &mut [u8],
+) -> Shape
+    requires { ⌜ Given l (now numbers) (now y) × Sound l (length (now y)) heavy t ⌝ }
+    ensures { λ r. ⌜ ShapeOf heavy r
+        × (0 < r .states → Begun l (now (y .entry)) (now (numbers .entry)) heavy t r (now (live .exit))) ⌝ }
+{
+    let left = t.left;
+    let row = t.row;
+    let mut shape = live::prepare(l, y, numbers, heavy, left, row, live);
+    if t.cells.n == 0 {
+        return shape;
+    }
+    shape.states = 0;
+    shape
+}
+
+// The most entries of a table of live states: it is made where they are enough.
+const ENTRIES: usize = 32768;
+
 // All rows whose losses are those of the pattern that the heavy blocks come from: their losses are shared among their chunks in every
-// way.
+// way that comes through live loss states.
 pub fn tables(
     l: Layout,
     y: &[u8],
@@ -259,5 +329,7 @@ pub fn tables(
     ensures { λ r. ⌜ Grown l (now (numbers .entry)) (now (y .entry)) cap (Under l (now (y .entry)) heavy 0 0 t)
         (now (list .entry)) (kept .count) (kept .more) (now (list .exit)) (r .count) (r .more) ⌝ }
 {
-    columns(l, y, numbers, heavy, 0, 0, t, cap, list, kept)
+    let mut live: [u8; ENTRIES] = [0; ENTRIES];
+    let shape = live_states(l, y, numbers, heavy, t, &mut live);
+    columns(l, y, numbers, heavy, shape, &live, 0, 0, t, cap, list, kept)
 }

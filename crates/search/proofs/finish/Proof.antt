@@ -34,9 +34,10 @@ returns c =
     let h = w .before .before .before in
     let s = h .before .before .before .before in
     let a = s .args in
+    let low = legal-bounds (a .l) (s .pre .0 .is-legal) .l2-low in
+    let f = h .heavy-of in
     grown-weaken
-    (λ x k u. all-in-hand (a .l) (a .y .now) (a .pattern .counts) (h .heavy-of .result .heavy) (h .heavy-of .result .left) (h .heavy-of .ensures)
-    (legal-bounds (a .l) (s .pre .0 .is-legal) .l2-low) (w .if1 .taken) _ x u)
+    (λ x k u. all-in-hand (a .l) (a .y .now) (a .pattern .counts) (f .result .heavy) (f .result .left) (f .ensures) low (w .if1 .taken) _ x u)
     (c .before .before .add-row .ensures)
 
 tables-requires : tie.Need-tables-requires
@@ -44,7 +45,9 @@ tables-requires c κs =
     let h = c .before .before .before .before .before in
     let s = h .before .before .before .before in
     let a = s .args in
-    (s .pre .0, (s .pre .1 .0, starts-sound (a .l) (length (a .y .now)) (a .pattern .counts) (h .heavy-of .result .heavy) _ (h .heavy-of .ensures) refl (zeros 12) (s .pre .1 .1)))
+    let f = h .heavy-of in
+    let sound = starts-sound (a .l) (a .pattern .counts) (f .result .heavy) _ (f .ensures) refl (zeros 12) (length (a .y .now)) (s .pre .1 .1) in
+    (s .pre .0, (s .pre .1 .0, sound))
 
 same-length-2 : tie.Need-same-length-2
 same-length-2 c = search needs
@@ -55,8 +58,9 @@ returns-2 c =
     let h = t .before .before .before .before .before .before in
     let s = h .before .before .before .before in
     let a = s .args in
+    let f = h .heavy-of in
     grown-weaken
-    (λ x k u. starts-under (a .l) (length (a .y .now)) (a .pattern .counts) (h .heavy-of .result .heavy) _ (h .heavy-of .ensures) refl (zeros 12) (a .y .now) (counted s) x u)
+    (λ x k u. starts-under (a .l) (a .pattern .counts) (f .result .heavy) _ (f .ensures) refl (zeros 12) (a .y .now) (counted s) x u)
     (t .tables .ensures)
 
 pub finish-spec : {M : Type 1} → statement M

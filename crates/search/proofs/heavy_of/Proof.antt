@@ -1,3 +1,5 @@
+-- `search::heavy_of` meets its contract. The loop's invariant: the heavy blocks among the first i are gathered, and end is the total of
+-- the first i counts. Assumes nothing.
 use borrow.Author.Needs.{needs}
 use Prim.Native.Nat.{_+_, _-_, _<_, _≤_}
 use mathlib.Core.Path.{_≡_, refl}
@@ -12,7 +14,8 @@ use Rattle.search.proofs.heavy_of.Statement.{statement}
 use Rattle.search.proofs.heavy_of.Tie as tie
 
 abbrev Inv-loop : tie.InvT-loop
-Inv-loop l1 pattern hs₀ end₀ i₀ hs end i = (i ≤ l1) × ((end ≡ inAll (take i (pattern .counts))) × HeavyIn (pattern .counts) i (hs .heavy) (hs .left))
+Inv-loop l1 pattern hs₀ end₀ i₀ hs end i =
+    (i ≤ l1) × ((end ≡ inAll (take i (pattern .counts))) × HeavyIn (pattern .counts) i (hs .heavy) (hs .left))
 
 abbrev μ-loop : tie.MeasureT-loop
 μ-loop l1 pattern hs₀ end₀ i₀ hs end i = l1 - i
@@ -35,7 +38,8 @@ total c =
     let a = p .before .args in
     let n : length (a .t2 .counts) ≡ 255 = search needs in
     let e = total-next (a .t2 .counts) (p .loop .i) (omega arith) in
-    (omega (arith, c .wide .ensures, p .loop .inv .1 .0), omega (arith, total-grows (a .t2 .counts) (p .loop .i + 1) (a .l1) (omega arith)))
+    let g = total-grows (a .t2 .counts) (p .loop .i + 1) (a .l1) (omega arith) in
+    (omega (arith, c .wide .ensures, p .loop .inv .1 .0), omega arith)
 
 add-end : tie.Need-add-end Inv-loop μ-loop
 add-end c = omega (arith, total c .0, total c .1)
@@ -46,7 +50,8 @@ with-block-requires c κs =
     let a = p .before .args in
     let n : length (a .t2 .counts) ≡ 255 = search needs in
     let e = total-next (a .t2 .counts) (p .loop .i) (omega arith) in
-    (omega (arith, p .loop .inv .1 .1 .few, total (c .before) .1), (omega arith, omega (arith, total (c .before) .0, total (c .before) .1)))
+    let z = total (c .before) in
+    (omega (arith, p .loop .inv .1 .1 .few), (omega arith, omega arith))
 
 add-i : tie.Need-add-i Inv-loop μ-loop
 add-i c = search needs
@@ -54,23 +59,27 @@ add-i c = search needs
 loop-less : tie.Need-loop-less Inv-loop μ-loop
 loop-less c = search needs
 
-loop-again : tie.Need-loop-again Inv-loop μ-loop
-loop-again c =
+-- after a turn the heavy blocks among the first i + 1 are gathered
+gathered : (c : tie.Joined1 Inv-loop μ-loop) → let p = c .before .before .before .before in
+    HeavyIn (p .before .args .t2 .counts) (p .loop .i + 1) (c .if1 .hs .heavy) (c .if1 .hs .left)
+gathered c =
     let p = c .before .before .before .before in
-    let a = p .before .args in
-    let n : length (a .t2 .counts) ≡ 255 = search needs in
+    let hs = p .loop .hs in
+    let k = p .before .args .t2 .counts in
+    let n : length k ≡ 255 = search needs in
+    let h : p .loop .i < length k = omega arith in
     let q = p .loop .inv .1 .1 in
-    let e = total-next (a .t2 .counts) (p .loop .i) (omega arith) in
-    let h : p .loop .i < length (a .t2 .counts) = omega arith in (
-      omega arith,
-      (
-        total (c .before) .0,
-        ⊎-elim
-            (λ w. rw (w .2) (heavy-more (a .t2 .counts) (p .loop .i) (p .loop .hs .heavy) (p .loop .hs .left) q h _ _ _ (w .1 .ensures) (omega (arith, total (c .before) .1, q .few, w .0 .taken)) (total (c .before) .0) (w .0 .taken)))
-            (λ w. rw (w .1) (heavy-light (a .t2 .counts) (p .loop .i) (p .loop .hs .heavy) (p .loop .hs .left) q h (w .0 .left)))
-            (c .if1 .came),
-      ),
-    )
+    let e = total-next k (p .loop .i) h in
+    let z = total (c .before) in
+    ⊎-elim
+    (λ w.
+    let room : hs .heavy .n < 6 = omega (arith, q .few, w .0 .taken) in
+    rw (w .2) (heavy-more k (p .loop .i) (hs .heavy) (hs .left) q h _ _ _ (w .1 .ensures) room (z .0) (w .0 .taken)))
+    (λ w. rw (w .1) (heavy-light k (p .loop .i) (hs .heavy) (hs .left) q h (w .0 .left)))
+    (c .if1 .came)
+
+loop-again : tie.Need-loop-again Inv-loop μ-loop
+loop-again c = (omega arith, (total (c .before) .0, gathered c))
 
 returns : tie.Need-returns Inv-loop μ-loop
 returns c =

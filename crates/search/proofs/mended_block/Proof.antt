@@ -6,10 +6,10 @@ use native.Mathlib.Nat.{mul-le-mul}
 use native.Mathlib.Omega.{arith}
 use lib.ListN.{length, take}
 use Rattle.bits.proofs.Laws.{bits-take}
-use Rattle.vt.specs.Mend.{mended}
+use Rattle.vt.specs.Mend.{mended as mendedBits}
 use Rattle.message.specs.Layout.{blockBits}
 use Rattle.message.proofs.Legal.{Bounds, Sizes, legal-bounds, sizes}
-use Rattle.search.proofs.Blocks.{one-not, one-put, too-short, length-short, bits-mended, length-mended, starts-mended}
+use Rattle.search.proofs.Blocks.{one-not, one-put, too-short, MendedNext, mended-next, starts-mended}
 use Rattle.search.proofs.mended_block.Statement.{statement}
 use Rattle.search.proofs.mended_block.Tie as tie
 
@@ -35,7 +35,7 @@ sub-short c = omega (arith, low (c .before .before .before))
 returns : tie.Need-returns
 returns c =
     let a = c .before .before .before .before .args in
-    too-short (a .l) (a .s) (a .i) 1 (a .rest .now) (a .row .now) (c .if1 .taken)
+    too-short (a .l) (a .s) (a .i) 1 (a .rest .now) (a .row .now) (omega arith)
 
 has-sum-requires : tie.Need-has-sum-requires
 has-sum-requires c κs = let s = c .before .before .before .before in (s .pre .1 .0, high s .block)
@@ -59,6 +59,13 @@ part-mend-bits-end c = search needs
 slice-aggregate-mend-bits : tie.Need-slice-aggregate-mend-bits
 slice-aggregate-mend-bits c = search needs
 
+-- the block that is mended
+mended : (c : tie.Else1) → let a = c .before .before .before .before .args in MendedNext (blockBits (a .l)) (a .s) (a .rest .now)
+mended c =
+    let s = c .before .before .before .before in
+    let a = s .args in
+    mended-next (blockBits (a .l)) (a .s) (a .rest .now) (low s) (omega arith) (s .pre .1 .0) (s .pre .1 .1 .0)
+
 mend-bits-requires : tie.Need-mend-bits-requires
 mend-bits-requires c κs =
     let e = c .before .before .before .before in
@@ -66,13 +73,14 @@ mend-bits-requires c κs =
     let a = s .args in
     let n = blockBits (a .l) in
     let y : n - 1 - 0 ≡ n - 1 = omega arith in
-    let k : length (take (n - 1) (a .rest .now)) + 1 ≡ n = length-short n (a .s) (a .rest .now) (low s) (e .if1 .left) (s .pre .1 .0) (s .pre .1 .1 .0) in
+    let k = mended e .short in
     let h = high s .block in
     rw y ((bits-take (n - 1) (a .rest .now) (s .pre .1 .0), omega arith), (omega arith, omega arith))
 
--- the block that is mended
+-- it stands at the start of the slice
 block : (c : tie.After-mend-bits) → let a = c .before .before .before .before .before .before .before .before .before .args in
-    take (blockBits (a .l) - 0) (c .mend-bits .last .1 .1 .0) ≡ mended (blockBits (a .l)) (a .s) (take (blockBits (a .l) - 1) (a .rest .now))
+    take (blockBits (a .l) - 0) (c .mend-bits .last .1 .1 .0)
+    ≡ mendedBits (blockBits (a .l)) (a .s) (take (blockBits (a .l) - 1) (a .rest .now))
 block c =
     let e = c .before .before .before .before .before in
     let s = e .before .before .before .before in
@@ -80,7 +88,7 @@ block c =
     let n = blockBits (a .l) in
     let z : n - 0 ≡ n = omega arith in
     let y : n - 1 - 0 ≡ n - 1 = omega arith in
-    rw z (starts-mended n (a .s) (a .rest .now) (low s) (e .if1 .left) (s .pre .1 .0) (s .pre .1 .1 .0) (c .mend-bits .last .1 .1 .0) _ (rw y at (c .mend-bits .ensures)))
+    rw z (starts-mended n (a .s) (a .rest .now) (mended e) (c .mend-bits .last .1 .1 .0) _ (rw y at (c .mend-bits .ensures)))
 
 sub-put-block : tie.Need-sub-put-block
 sub-put-block c = search needs
@@ -89,18 +97,16 @@ part-put-block-start : tie.Need-part-put-block-start
 part-put-block-start c = search needs
 
 part-put-block-end : tie.Need-part-put-block-end
-part-put-block-end c = omega (arith, high (c .before .before .before .before .before .before .before .before .before .before .before) .block)
+part-put-block-end c =
+    let s = c .before .before .before .before .before .before .before .before .before .before .before in
+    omega (arith, high s .block)
 
 put-block-requires : tie.Need-put-block-requires
 put-block-requires c κs =
     let m = c .before .before .before .before in
     let e = m .before .before .before .before .before in
     let s = e .before .before .before .before in
-    let a = s .args in
-    let n = blockBits (a .l) in
-    let b = bits-mended n (a .s) (a .rest .now) (low s) (e .if1 .left) (s .pre .1 .0) (s .pre .1 .1 .0) in
-    let k = length-mended n (a .s) (a .rest .now) (low s) (e .if1 .left) (s .pre .1 .0) (s .pre .1 .1 .0) in
-    (rw (block m) b, (bounds s .nc-high, (rw (block m) k, s .pre .1 .1 .1)))
+    (rw (block m) (mended e .bits), (bounds s .nc-high, (rw (block m) (mended e .size), s .pre .1 .1 .1)))
 
 same-length : tie.Need-same-length
 same-length c = search needs
@@ -112,7 +118,7 @@ returns-3 c =
     let e = m .before .before .before .before .before in
     let s = e .before .before .before .before in
     let a = s .args in
-    one-put (a .l) (a .s) (a .i) (a .rest .now) (a .row .now) (p .put-block .last .1 .1 .1 .0) (low s) (e .if1 .left) (s .pre .1 .1 .1)
+    one-put (a .l) (a .s) (a .i) (a .rest .now) (a .row .now) (p .put-block .last .1 .1 .1 .0) (low s) (omega arith) (s .pre .1 .1 .1)
     (rw (block m) at (p .put-block .ensures))
 
 pub mended-block-spec : {M : Type 1} → statement M

@@ -50,7 +50,9 @@ returns-2 c =
     let k = c .before .before .before .before .before in
     let s = k .before .before .before .before .before .before .before .before .before .before in
     let a = s .args in
-    rw (copied (a .row .now) (replicate 255 0) (k .copy-to .last .1 .0) (omega (arith, s .pre .1 .1 .0)) (k .copy-to .ensures)) at (c .before .before .finish .ensures)
+    let n = s .pre .1 .1 .0 in
+    let hand = copied (a .row .now) (replicate 255 0) (k .copy-to .last .1 .0) (omega arith) (k .copy-to .ensures) in
+    rw hand at (c .before .before .finish .ensures)
 
 pub one-pattern-spec : {M : Type 1} → statement M
 one-pattern-spec =

@@ -28,7 +28,8 @@ loop-holds c =
     (search needs, (search needs, paste-zero (a .row .now) (a .i * a .l2) (fields (a .l2) (a .nc) (a .bits .now))))
 
 -- chunk j stands in the block
-room : (c : tie.In-loop Inv-loop μ-loop) → let a = c .before .before .before .before .args in c .before .loop .j * a .nc + a .nc ≤ length (a .bits .now)
+room : (c : tie.In-loop Inv-loop μ-loop) → let a = c .before .before .before .before .args in
+    c .before .loop .j * a .nc + a .nc ≤ length (a .bits .now)
 room c =
     let s = c .before .before .before .before in
     let a = s .args in
@@ -61,7 +62,9 @@ loop-again c =
     let f : List ℕ = fields (a .l2) (a .nc) (a .bits .now) in
     let h : p .j < a .l2 = omega arith in
     let v : c .number-at .result ≡ getD f (p .j) 0 = c .number-at .ensures ∙ sym (fields-at (a .l2) (a .nc) (p .j) (a .bits .now) h) in
-    (omega arith, (simp length-set (p .inv .1 .0), rw (p .inv .1 .1, v) (paste-next (a .row .now) (a .i * a .l2) f (p .j) (omega arith) (omega (arith, length-fields (a .l2) (a .nc) (a .bits .now))))))
+    let n : length f ≡ a .l2 = length-fields (a .l2) (a .nc) (a .bits .now) in
+    let next = paste-next (a .row .now) (a .i * a .l2) f (p .j) (omega arith) (omega arith) in
+    (omega arith, (simp length-set (p .inv .1 .0), rw (p .inv .1 .1, v) next))
 
 same-length : tie.Need-same-length Inv-loop μ-loop
 same-length c = search needs

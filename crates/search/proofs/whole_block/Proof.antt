@@ -1,10 +1,11 @@
--- `search::whole_block` meets its contract: a block without a loss is the next nb bits, and so these have its sum. Assumes nothing.
+-- `search::whole_block` meets its contract: a block without a loss is the next nb bits, so these have its sum. Rests on Blocks.antt.
+-- Assumes nothing.
 use borrow.Author.Needs.{needs}
 use Prim.Native.Nat.{_-_, _≤_}
 use mathlib.Core.Path.{_≡_, sym, _∙_}
 use native.Mathlib.Omega.{arith}
 use borrow.Author.Tests.{not-true, not-false}
-use lib.ListN.{length}
+use lib.ListN.{length, take}
 use lib.Seq.{length-take-le}
 use Rattle.bits.proofs.Laws.{bits-take}
 use Rattle.message.specs.Layout.{blockBits}
@@ -29,7 +30,8 @@ returns : tie.Need-returns
 returns c =
     let h = c .before in
     let a = h .before .before .before .before .args in
-    whole-not (a .l) (a .s) (a .i) (a .rest .now) (a .row .now) (sym (h .has-sum .ensures) ∙ not-true (h .has-sum .result) (c .if1 .taken))
+    whole-not (a .l) (a .s) (a .i) (a .rest .now) (a .row .now)
+    (sym (h .has-sum .ensures) ∙ not-true (h .has-sum .result) (c .if1 .taken))
 
 sub-put-block : tie.Need-sub-put-block
 sub-put-block c = search needs
@@ -53,7 +55,8 @@ put-block-requires c κs =
     let s = e .before .before .before .before .before in
     let a = s .args in
     let n = blockBits (a .l) in
-    (bits-take (n - 0) (a .rest .now) (s .pre .1 .0), (bounds s .nc-high, (length-take-le (n - 0) (a .rest .now) (omega (arith, within e)) ∙ omega arith, s .pre .1 .1)))
+    let size : length (take (n - 0) (a .rest .now)) ≡ n = length-take-le (n - 0) (a .rest .now) (omega (arith, within e)) ∙ omega arith in
+    (bits-take (n - 0) (a .rest .now) (s .pre .1 .0), (bounds s .nc-high, (size, s .pre .1 .1)))
 
 same-length : tie.Need-same-length
 same-length c = search needs
@@ -66,7 +69,8 @@ returns-2 c =
     let s = h .before .before .before .before in
     let a = s .args in
     let z : blockBits (a .l) - 0 ≡ blockBits (a .l) = omega arith in
-    whole-put (a .l) (a .s) (a .i) (a .rest .now) (a .row .now) (p .put-block .last .1 .1 .1 .0) (sym (h .has-sum .ensures) ∙ not-false (h .has-sum .result) (e .if1 .left)) (s .pre .1 .1)
+    let has = sym (h .has-sum .ensures) ∙ not-false (h .has-sum .result) (e .if1 .left) in
+    whole-put (a .l) (a .s) (a .i) (a .rest .now) (a .row .now) (p .put-block .last .1 .1 .1 .0) has (s .pre .1 .1)
     (rw z at (p .put-block .ensures))
 
 pub whole-block-spec : {M : Type 1} → statement M

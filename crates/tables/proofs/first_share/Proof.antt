@@ -4,18 +4,13 @@ use mathlib.Core.Logic.{inl, inr}
 use borrow.Author.Needs.{needs}
 use Rattle.tables.proofs.first_share.Statement.{statement}
 use Rattle.tables.proofs.first_share.Tie as tie
-use Rattle.tables.proofs.first_share.Reads as reads
-use Rattle.tables.proofs.first_share.Lts as lts
 
--- src/lib.rt:166:8
 add-if1 : tie.Need-add-if1
 add-if1 c = search needs
 
--- src/lib.rt:167:9
 returns : tie.Need-returns
 returns c = (search needs, inr (c .if1 .taken, refl))
 
--- src/lib.rt:162:1
 returns-2 : tie.Need-returns-2
 returns-2 c = (search needs, inl refl)
 

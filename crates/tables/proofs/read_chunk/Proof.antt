@@ -1,22 +1,16 @@
+-- `tables::read_chunk` meets its contract: the number that it writes is what `number_at` ensures. Assumes nothing.
 use mathlib.Core.Path.{ap}
 use Rattle.tables.specs.Tables.{withChunk}
 use borrow.Author.Needs.{needs}
-use borrow.Author.Needs.{needs}
 use Rattle.tables.proofs.read_chunk.Statement.{statement}
 use Rattle.tables.proofs.read_chunk.Tie as tie
-use Rattle.tables.proofs.read_chunk.Reads as reads
-use Rattle.tables.proofs.read_chunk.Lts as lts
-use Rattle.message.proofs.sums.number_at.Reads as number-at-reads
 
--- src/lib.rt:63:16
 number-at-requires : tie.Need-number-at-requires
 number-at-requires c κs = search needs
 
--- src/lib.rt:63:5
 element-write-r : tie.Need-element-write-r
 element-write-r c = search needs
 
--- src/lib.rt:58:1
 returns : tie.Need-returns
 returns c =
     let a = c .before .before .args in

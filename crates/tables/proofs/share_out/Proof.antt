@@ -1,21 +1,22 @@
--- `tables::share_out` meets its contract. Where the chunk is read is said by `place_of`; the four answers are laws of Sharing.antt.
--- Assumes nothing.
+-- `tables::share_out` meets its contract. Where the chunk is read is said by `place_of`; the four answers are laws of
+-- Sharing.antt. Assumes nothing.
 use borrow.Author.Needs.{needs}
-use Prim.Native.Nat.{_<_, _≤_}
+use Prim.Native.Nat.{_<_}
 use mathlib.Core.Path.{_≡_, subst, sym}
 use mathlib.Core.Bool.{true}
 use native.Mathlib.Omega.{arith}
 use lib.ListN.{length, getD}
 use Rattle.tables.specs.Tables.{Shared, withCell}
 use Rattle.tables.specs.declared.Table.{Table}
-use Rattle.tables.proofs.Sharing.{chunk-low, start-low, received-low, column-low, chunk-bits, shared-short, shared-read, shared-beyond, cell-room, shared-cell}
+use Rattle.tables.proofs.Sharing.{chunk-low, start-low, received-low, column-low, chunk-bits}
+use Rattle.tables.proofs.Sharing.{shared-short, shared-read, shared-beyond, cell-room, shared-cell}
 use Rattle.tables.proofs.Making.{Twelve}
 use Rattle.tables.proofs.share_out.Statement.{statement}
 use Rattle.tables.proofs.share_out.Tie as tie
-use Rattle.tables.proofs.share_out.Reads as reads
-use Rattle.tables.proofs.share_out.Lts as lts
 use Rattle.tables.proofs.place_of.Reads as place-of-reads
 use Rattle.tables.proofs.read_chunk.Reads as read-chunk-reads
+use Rattle.tables.proofs.share_out.Lts as lts
+use Rattle.tables.proofs.share_out.Reads as reads
 use Rattle.tables.proofs.take_cell.Reads as take-cell-reads
 
 element-copy-out-i : tie.Need-element-copy-out-i
@@ -50,7 +51,8 @@ add-if2 c =
 returns : tie.Need-returns
 returns c =
     let f = c .before .before .before in
-    shared-short (f .before .before .before .before .before .before .before .pre) (f .place-of .result) (f .place-of .ensures .1) (c .before .before .if1 .taken) (c .if2 .taken)
+    let p = f .before .before .before .before .before .before .before .pre in
+    shared-short p (f .place-of .result) (f .place-of .ensures .1) (c .before .before .if1 .taken) (c .if2 .taken)
 
 read-chunk-requires : tie.Need-read-chunk-requires
 read-chunk-requires c κs =
@@ -64,13 +66,15 @@ returns-2 c =
     let a = s .args in
     let g = s .good .1 .1 .1 .1 .1 .1 .0 in
     let n : length (a .t7 .row) ≡ 255 = search (needs, g .1 .1) in
-    subst (λ (t : Table). Shared (a .l) (a .y .now) (a .t3) (a .j) (a .h) (a .a) (a .t7) true t) (sym (c .read-chunk .ensures))
+    subst (λ (t : Table). Shared (a .l) (a .y .now) (a .t3) (a .j) (a .h) (a .a) (a .t7) true t)
+    (sym (c .read-chunk .ensures))
     (shared-read (s .pre) (f .place-of .result) (f .place-of .ensures .1) (c .before .before .before .if1 .taken) n)
 
 returns-3 : tie.Need-returns-3
 returns-3 c =
     let f = c .before .before in
-    shared-beyond (f .before .before .before .before .before .before .before .pre) (f .place-of .result) (f .place-of .ensures .1) (c .if3 .taken)
+    let p = f .before .before .before .before .before .before .before .pre in
+    shared-beyond p (f .place-of .result) (f .place-of .ensures .1) (c .if3 .taken)
 
 -- what holds where the chunk becomes a cell: there is room for it, and the answer is that table
 cell : (c : lts.Else3 (
@@ -80,9 +84,12 @@ cell : (c : lts.Else3 (
   read-chunk-reads.Learnt,
   take-cell-reads.Asked,
   take-cell-reads.Learnt,
-) reads.Pre reads.Post) → let f = c .before .before in let a = f .before .before .before .before .before .before .before .args in
+) reads.Pre reads.Post) →
+    let f = c .before .before in
+    let a = f .before .before .before .before .before .before .before .args in
     (a .t7 .cells .n < 12)
-    × Shared (a .l) (a .y .now) (a .t3) (a .j) (a .h) (a .a) (a .t7) true (withCell (a .t7) (a .h) (getD (a .t3 .block) (a .h) 0) (a .j) (a .a) (f .place-of .result))
+    × Shared (a .l) (a .y .now) (a .t3) (a .j) (a .h) (a .a) (a .t7) true
+    (withCell (a .t7) (a .h) (getD (a .t3 .block) (a .h) 0) (a .j) (a .a) (f .place-of .result))
 cell c =
     let f = c .before .before in
     let s = f .before .before .before .before .before .before .before in
@@ -115,10 +122,26 @@ returns-4 : tie.Need-returns-4
 returns-4 c =
     let s = c .before .before .before .before .before .before .before .before .before .before in
     let a = s .args in
-    subst (λ (t : Table). Shared (a .l) (a .y .now) (a .t3) (a .j) (a .h) (a .a) (a .t7) true t) (sym (c .take-cell .ensures))
+    subst (λ (t : Table). Shared (a .l) (a .y .now) (a .t3) (a .j) (a .h) (a .a) (a .t7) true t)
+    (sym (c .take-cell .ensures))
     (cell (c .before) .1)
 
 pub share-out-spec : {M : Type 1} → statement M
 share-out-spec =
     tie.close
-    (tie.spec element-copy-out-i element-copy-out-end element-copy-out-left cast-c mul-c add-c mul-place-of place-of-requires add-if2 returns read-chunk-requires returns-2 returns-3 take-cell-requires returns-4)
+    (tie.spec
+    element-copy-out-i
+    element-copy-out-end
+    element-copy-out-left
+    cast-c
+    mul-c
+    add-c
+    mul-place-of
+    place-of-requires
+    add-if2
+    returns
+    read-chunk-requires
+    returns-2
+    returns-3
+    take-cell-requires
+    returns-4)
