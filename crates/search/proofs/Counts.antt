@@ -1,5 +1,5 @@
 -- The rows under the first counts of a loss pattern, and the loop that tries the counts of the next block. Rests on the laws of steps
--- (found) and on those of a row's own losses. Assumes nothing.
+-- (found), on those of a row's own losses, and on those of the tables of a string (windows). Assumes nothing.
 use Prim.Native.Nat.{ℕ, _+_, _-_, _*_, _<_, _≤_}
 use mathlib.Core.Path.{_≡_, refl, sym, ap, _∙_}
 use mathlib.Core.Bool.{Bool, false, false≢true}
@@ -7,16 +7,20 @@ use mathlib.Core.Logic.{inl, inr, ⊎-elim}
 use mathlib.Core.List.{List}
 use native.Mathlib.Nat.{zero-mul, add-mul, one-mul, mul-le-mul-right}
 use native.Mathlib.Omega.{arith}
-use lib.ListN.{length, getD, take, drop, set, length-set}
+use lib.ListN.{length, getD, take, drop, set, length-set, length-drop}
 use lib.Seq.{getD-take, getD-set-same, getD-set-other, take-set-le, take-take, drop-drop}
+use Rattle.bits.specs.Bits.{longest}
 use Rattle.bits.proofs.Laws.{lt-or-ge}
 use Rattle.message.specs.Layout.{rowBits, blockBits}
 use Rattle.message.specs.declared.Layout.{Layout}
 use Rattle.message.proofs.Fields.{field-room}
+use Rattle.message.proofs.Legal.{legal-bounds, sizes}
 use Rattle.consistent.specs.Greedy.{losses, inAll}
+use Rattle.windows.specs.Windows.{Tables}
+use Rattle.windows.proofs.Windows.{tables-later}
 use Rattle.found.specs.Found.{Given, Sent, Holding, Grown}
 use Rattle.found.proofs.Found.{grown-nothing, grown-then, grown-weaken}
-use Rattle.search.specs.Patterns.{Under, lostIn, Tried, Begun}
+use Rattle.search.specs.Patterns.{Under, lostIn, Tabled, Tried, Begun}
 use Rattle.search.proofs.Losses.{lost-next, lost-most, lost-last, tried-can, tried-light}
 use Rattle.search.proofs.Totals.{total-next}
 
@@ -54,6 +58,15 @@ begun-start {l} {numbers} {y} given counts row n i e =
     let z : 0 * blockBits l - 0 ≡ 0 = omega (arith, zero-mul (blockBits l)) in
     rw e record { sums = refl; most = omega (arith, given .short); before = omega arith; reads = rw z refl; hand = n }
 
+pub received-short : {l : Layout} {numbers y : List ℕ} → Given l numbers y → length y ≤ longest
+received-short {l} given = omega (arith, given .short, sizes l (legal-bounds l (given .is-legal)) .row)
+
+pub tabled-start : {l : Layout} {numbers y ts cs : List ℕ} → Given l numbers y → Tables y 0 ts cs → (i : ℕ) → i ≡ 0
+    → Tabled y (i * blockBits l - 0) ts cs
+tabled-start {l} given t i e =
+    let z : 0 * blockBits l - 0 ≡ 0 = omega (arith, zero-mul (blockBits l)) in
+    rw (e, z) record { tables = t; short = omega (arith, received-short given) }
+
 -- block i, whose count is tried next, after blocks that lose the total
 pub record Next (l : Layout) (numbers y counts : List ℕ) (i total : ℕ) : Type 0 where
   pub given : Given l numbers y
@@ -74,20 +87,29 @@ pub record Tries (l : Layout) (numbers y : List ℕ) (cap : ℕ) (counts : List 
   pub known : Grown l numbers y cap (Fewer l y counts i total row₀ a) list₀ c m list d o
 
 module _ {l : Layout} {numbers y counts : List ℕ} {i total : ℕ} (n : Next l numbers y counts i total) where
+  -- where block i ends
+  end-next : (i + 1) * blockBits l ≡ i * blockBits l + blockBits l
+  end-next = omega (arith, add-mul i 1 (blockBits l), one-mul (blockBits l))
+
   -- one count more
   next-total : (a : ℕ) → inAll (take (i + 1) (set counts i a)) ≡ total + a
   next-total a =
       total-next (set counts i a) i (simp length-set (n .room))
       ∙ rw (take-set-le i counts i a (omega arith), getD-set-same counts i a 0 (n .room), n .sums) refl
 
+  -- the place in the received row then
+  place-next : (a : ℕ) → total ≤ i * blockBits l → a ≤ blockBits l
+      → i * blockBits l - total + (blockBits l - a) ≡ (i + 1) * blockBits l - (total + a)
+  place-next a h low = let f = end-next in omega arith
+
   -- where the search stands then
   pub begun-next : {rest row : List ℕ} → Begun l y rest counts row i total → (a : ℕ) → total + a + length y ≤ rowBits l → a ≤ blockBits l
       → (after : List ℕ) → length after ≡ length row → (j : ℕ) → j ≡ i + 1
       → Begun l y (drop (blockBits l - a) rest) (set counts i a) after j (total + a)
   begun-next b a most low after k j e =
-      let f : (i + 1) * blockBits l ≡ i * blockBits l + blockBits l = omega (arith, add-mul i 1 (blockBits l), one-mul (blockBits l)) in
+      let f = end-next in
       let h = b .before in
-      let d : i * blockBits l - total + (blockBits l - a) ≡ (i + 1) * blockBits l - (total + a) = omega arith in
+      let d = place-next a h low in
       rw e
       record {
         sums = sym (next-total a);
@@ -95,6 +117,18 @@ module _ {l : Layout} {numbers y counts : List ℕ} {i total : ℕ} (n : Next l 
         before = omega arith;
         reads = rw (b .reads) (drop-drop (blockBits l - a) (i * blockBits l - total) y ∙ ap (λ (m : ℕ). drop m y) d);
         hand = k ∙ b .hand;
+      }
+
+  -- and the tables of the rest
+  pub tabled-next : {rest row ts cs : List ℕ} → Begun l y rest counts row i total → (a : ℕ) → a ≤ blockBits l
+      → blockBits l - a ≤ length rest → Tabled rest (i * blockBits l - total) ts cs → (j : ℕ) → j ≡ i + 1
+      → Tabled (drop (blockBits l - a) rest) (j * blockBits l - (total + a)) (drop (blockBits l - a) ts) (drop (blockBits l - a) cs)
+  tabled-next {rest} {row} {ts} {cs} b a low h t j e =
+      let d : ℕ = blockBits l - a in
+      rw (e, ← place-next a (b .before) low)
+      record {
+        tables = tables-later rest (i * blockBits l - total) d ts cs h (t .tables);
+        short = omega (arith, length-drop d rest, t .short);
       }
 
   module _ (x : List ℕ) (sent : Sent l numbers y x) {row : List ℕ} (u : Under l y counts i row x) where

@@ -1,5 +1,5 @@
--- The rows under a whole pattern: without heavy blocks the row in hand is whole, and with them the loss tables start from it. Assumes
--- nothing.
+-- The rows under a whole pattern: without heavy blocks the row in hand is whole, and with them the loss tables start from it; and the
+-- one row that can be consistent where no bit is lost. Assumes nothing.
 use Prim.Native.Nat.{ℕ, _+_, _-_, _*_, _/_, _%_, _<_, _≤_}
 use mathlib.Core.Path.{_≡_, refl, sym, ap, _∙_}
 use mathlib.Core.Logic.{inl, inr, ⊎-elim}
@@ -9,12 +9,14 @@ use native.Mathlib.Omega.{arith}
 use borrow.Author.Tests.{le-ltb}
 use lib.ListN.{length, getD, take, drop, drop-of-length-le}
 use Rattle.bits.proofs.Laws.{lt-or-ge}
+use Rattle.rows.proofs.Deletion.{strikes, strikes-none}
 use Rattle.message.specs.Layout.{rowBits, blockBits}
 use Rattle.message.specs.declared.Layout.{Layout}
 use Rattle.consistent.specs.Greedy.{losses, inAll}
 use Rattle.cells.specs.Cells.{share}
 use Rattle.cells.proofs.Shares.{share-some, share-single}
 use Rattle.found.specs.Found.{Given, Sent, InHand}
+use Rattle.found.proofs.Found.{sent-parts}
 use Rattle.tables.specs.Tables.{reached, Sound}
 use Rattle.tables.specs.Tables.{Under as UnderTable}
 use Rattle.live.specs.declared.Heavy.{Heavy}
@@ -27,6 +29,13 @@ use Rattle.search.proofs.Totals.{total-next}
 pub all-counts : {l : Layout} {numbers y : List ℕ} (given : Given l numbers y) (counts row x : List ℕ) → Sent l numbers y x
     → Under l y counts (l .l1) row x → inAll (take (l .l1) counts) ≡ rowBits l - length y
 all-counts {l} given counts row x sent u = sym (u .own (l .l1) (omega arith)) ∙ blocks-lose given x sent
+
+-- where no bit is lost, a consistent row is the received one
+pub only-received : {l : Layout} {numbers y : List ℕ} → Given l numbers y → length y ≡ rowBits l → (x : List ℕ) → Sent l numbers y x
+    → x ≡ y
+only-received {l} {numbers} {y} given n x sent =
+    let z : rowBits l - length y ≡ 0 = omega arith in
+    strikes-none x y (strikes x 0 y (rw z at (sent-parts given x sent .comes)))
 
 module _ (l : Layout) (y counts : List ℕ) (heavy : Heavy) (left : List ℕ) (q : HeavyIn counts (l .l1) heavy left) where
   -- no block is heavy

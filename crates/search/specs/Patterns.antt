@@ -6,11 +6,12 @@ use mathlib.Core.Bool.{Bool, true, _&&_}
 use mathlib.Core.List.{List}
 use lib.Dec.{leb, eqb}
 use lib.ListN.{length, getD, take, drop, set}
-use Rattle.bits.specs.Bits.{AllBits, number}
+use Rattle.bits.specs.Bits.{AllBits, longest, number}
 use Rattle.vt.specs.Sum.{sum}
 use Rattle.message.specs.Layout.{rowBits, blockBits}
 use Rattle.message.specs.declared.Layout.{Layout}
 use Rattle.consistent.specs.Greedy.{losses, inAll}
+use Rattle.windows.specs.Windows.{Tables}
 use Rattle.lines.specs.Lines.{values}
 use Rattle.live.specs.declared.Heavy.{Heavy}
 
@@ -23,6 +24,11 @@ pub record Under (l : Layout) (y counts : List ℕ) (i : ℕ) (row x : List ℕ)
 -- the losses of block i of the row x itself, where the blocks before it lost so many
 abbrev pub lostIn : Layout → (y : List ℕ) (i total : ℕ) (x : List ℕ) → ℕ
 lostIn l y i total x = losses (take (blockBits l) (drop (i * blockBits l) x)) (drop (i * blockBits l - total) y)
+
+-- the tables of the rest of the received row, which starts at place p of it
+pub record Tabled (rest : List ℕ) (p : ℕ) (totals counts : List ℕ) : Type 0 where
+  pub tables : Tables rest p totals counts
+  pub short : p + length rest ≤ longest
 
 -- at least nb bits remain, and "the next nb bits have the block's sum"
 unfoldable pub hasSum : (nb s : ℕ) (rest : List ℕ) → Bool

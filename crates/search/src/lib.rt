@@ -9,13 +9,13 @@ ghost use mathlib.Core.Bool.{true};
 ghost use mathlib.Core.List.{_++_};
 ghost use Prim.Native.Nat.{_+_, _*_, _-_, _<_, _≤_};
 ghost use lib.ListN.{length, getD, take, drop};
-ghost use Rattle.bits.specs.Bits.{AllBits, longest, bytesFor};
+ghost use Rattle.bits.specs.Bits.{AllBits, bytesFor};
 ghost use Rattle.message.specs.Layout.{legal, rowBits, blockBits};
 ghost use Rattle.message.specs.Read.{fields};
 ghost use Rattle.consistent.specs.Consistent.{mostLosses};
 ghost use Rattle.consistent.specs.Greedy.{inAll};
 ghost use Rattle.found.specs.Found.{Given, Holding, Grown, Listed};
-ghost use Rattle.search.specs.Patterns.{Under, hasSum, Tried, HeavyIn, Joined, Begun};
+ghost use Rattle.search.specs.Patterns.{Under, hasSum, Tabled, Tried, HeavyIn, Joined, Begun};
 
 // One count for each block, and their sum.
 pub struct Pattern {
@@ -24,14 +24,14 @@ pub struct Pattern {
 }
 
 // Whether at least nb bits remain and the next nb have the sum s.
-fn has_sum(nb: usize, s: usize, rest: &[u8]) -> bool
-    requires { ⌜ AllBits (now rest) × (nb ≤ longest) ⌝ }
+fn has_sum(nb: usize, s: usize, rest: &[u8], totals: &[u32], counts: &[u16], p: usize) -> bool
+    requires { ⌜ AllBits (now rest) × Tabled (now rest) p (now totals) (now counts) ⌝ }
     ensures { λ r. ⌜ r ≡ hasSum nb s (now (rest .entry)) ⌝ }
 {
     if rest.len() < nb {
         return false;
     }
-    vt::sum(&rest[0..nb]) == s
+    windows::window_sum(rest, totals, counts, p, nb) == s
 }
 
 // The numbers of the l2 chunks of a block's bits, in block i of the row in hand.
@@ -49,12 +49,22 @@ fn put_block(nc: usize, l2: usize, bits: &[u8], row: &mut [u8], i: usize)
 }
 
 // Block i, whose sum is s, without a loss: it is the next nb bits, where these have its sum.
-fn whole_block(l: Layout, s: usize, i: usize, rest: &[u8], row: &mut [u8]) -> bool
-    requires { ⌜ (legal l ≡ true) × (AllBits (now rest) × (i * l .l2 + l .l2 ≤ length (now row))) ⌝ }
+fn whole_block(
+    l: Layout,
+    s: usize,
+    i: usize,
+    rest: &[u8],
+    totals: &[u32],
+    counts: &[u16],
+    p: usize,
+    row: &mut [u8],
+) -> bool
+    requires { ⌜ (legal l ≡ true) × (AllBits (now rest) × (Tabled (now rest) p (now totals) (now counts)
+        × (i * l .l2 + l .l2 ≤ length (now row)))) ⌝ }
     ensures { λ r. ⌜ Tried l s i 0 (now (rest .entry)) (now (row .entry)) (now (row .exit)) r ⌝ }
 {
     let nb = l.l2 * l.nc;
-    if !has_sum(nb, s, rest) {
+    if !has_sum(nb, s, rest, totals, counts, p) {
         return false;
     }
     put_block(l.nc, l.l2, &rest[0..nb], row, i);
@@ -63,8 +73,18 @@ fn whole_block(l: Layout, s: usize, i: usize, rest: &[u8], row: &mut [u8]) -> bo
 
 // Block i, whose sum is s, with one loss: it is mended from the next nb - 1 bits. Where the next nb bits have its sum, one loss
 // yields no row that zero losses don't also yield. Near the row's end fewer than nb bits remain, and one loss is still tried.
-fn mended_block(l: Layout, s: usize, i: usize, rest: &[u8], row: &mut [u8]) -> bool
-    requires { ⌜ (legal l ≡ true) × (AllBits (now rest) × ((s ≤ blockBits l) × (i * l .l2 + l .l2 ≤ length (now row)))) ⌝ }
+fn mended_block(
+    l: Layout,
+    s: usize,
+    i: usize,
+    rest: &[u8],
+    totals: &[u32],
+    counts: &[u16],
+    p: usize,
+    row: &mut [u8],
+) -> bool
+    requires { ⌜ (legal l ≡ true) × (AllBits (now rest) × (Tabled (now rest) p (now totals) (now counts)
+        × ((s ≤ blockBits l) × (i * l .l2 + l .l2 ≤ length (now row))))) ⌝ }
     ensures { λ r. ⌜ Tried l s i 1 (now (rest .entry)) (now (row .entry)) (now (row .exit)) r ⌝ }
 {
     let nb = l.l2 * l.nc;
@@ -72,7 +92,7 @@ fn mended_block(l: Layout, s: usize, i: usize, rest: &[u8], row: &mut [u8]) -> b
     if rest.len() < short {
         return false;
     }
-    if has_sum(nb, s, rest) {
+    if has_sum(nb, s, rest, totals, counts, p) {
         return false;
     }
     let mut bits: [u8; 2040] = [0; 2040];
@@ -82,17 +102,27 @@ fn mended_block(l: Layout, s: usize, i: usize, rest: &[u8], row: &mut [u8]) -> b
 }
 
 // Whether block i can lose a bits against the rest of the received row. With none or one loss it is put in the row in hand.
-fn try_block(l: Layout, numbers: &[u16], i: usize, a: usize, rest: &[u8], row: &mut [u8]) -> bool
-    requires { ⌜ (legal l ≡ true) × (AllBits (now rest) × ((i < length (now numbers)) × ((getD (now numbers) i 0 ≤ blockBits l)
-        × (i * l .l2 + l .l2 ≤ length (now row))))) ⌝ }
+fn try_block(
+    l: Layout,
+    numbers: &[u16],
+    i: usize,
+    a: usize,
+    rest: &[u8],
+    totals: &[u32],
+    counts: &[u16],
+    p: usize,
+    row: &mut [u8],
+) -> bool
+    requires { ⌜ (legal l ≡ true) × (AllBits (now rest) × (Tabled (now rest) p (now totals) (now counts)
+        × ((i < length (now numbers)) × ((getD (now numbers) i 0 ≤ blockBits l) × (i * l .l2 + l .l2 ≤ length (now row)))))) ⌝ }
     ensures { λ r. ⌜ Tried l (getD (now (numbers .entry)) i 0) i a (now (rest .entry)) (now (row .entry)) (now (row .exit)) r ⌝ }
 {
     let s = numbers[i] as usize;
     if a == 0 {
-        return whole_block(l, s, i, rest, row);
+        return whole_block(l, s, i, rest, totals, counts, p, row);
     }
     if a == 1 {
-        return mended_block(l, s, i, rest, row);
+        return mended_block(l, s, i, rest, totals, counts, p, row);
     }
     let nb = l.l2 * l.nc;
     if nb < a {
@@ -225,12 +255,14 @@ fn one_pattern(
 }
 
 // The rows under the first counts of a pattern: each count that block i can lose is tried in turn, and the later blocks share out what
-// is left; the last block takes all of it. The part of the received row that starts at block i is handed on.
+// is left; the last block takes all of it. The part of the received row that starts at block i is handed on, with its tables.
 fn patterns(
     l: Layout,
     y: &[u8],
     numbers: &[u16],
     rest: &[u8],
+    totals: &[u32],
+    counts: &[u16],
     later: usize,
     pattern: Pattern,
     row: &mut [u8],
@@ -239,7 +271,8 @@ fn patterns(
     kept: Kept,
 ) -> Kept
     requires { ⌜ (Given l (now numbers) (now y) × Holding l (now numbers) (now y) cap (now list) (kept .count) (kept .more))
-        × ((later ≤ l .l1) × Begun l (now y) (now rest) (pattern .counts) (now row) (l .l1 - later) (pattern .total)) ⌝ }
+        × ((later ≤ l .l1) × (Begun l (now y) (now rest) (pattern .counts) (now row) (l .l1 - later) (pattern .total)
+        × Tabled (now rest) ((l .l1 - later) * blockBits l - pattern .total) (now totals) (now counts))) ⌝ }
     ensures { λ r. ⌜ Grown l (now (numbers .entry)) (now (y .entry)) cap
         (Under l (now (y .entry)) (pattern .counts) (l .l1 - later) (now (row .entry)))
         (now (list .entry)) (kept .count) (kept .more) (now (list .exit)) (r .count) (r .more)
@@ -250,6 +283,7 @@ fn patterns(
     }
     let nb = l.l2 * l.nc;
     let i = l.l1 - later;
+    let p = i * nb - pattern.total;
     let most = l.l1 * nb - y.len() - pattern.total;
     let mut first: usize = 0;
     if later == 1 {
@@ -257,18 +291,20 @@ fn patterns(
     }
     let mut k = kept;
     for a in first..=most {
-        if try_block(l, numbers, i, a, rest, row) {
-            let mut p = pattern;
-            p.counts[i] = a as u8;
-            p.total = pattern.total + a;
+        if try_block(l, numbers, i, a, rest, totals, counts, p, row) {
+            let mut next = pattern;
+            next.counts[i] = a as u8;
+            next.total = pattern.total + a;
             let from = nb - a;
             k = patterns(
                 l,
                 y,
                 numbers,
                 &rest[from..],
+                &totals[from..],
+                &counts[from..],
                 later - 1,
-                p,
+                next,
                 row,
                 cap,
                 list,
@@ -279,8 +315,8 @@ fn patterns(
     k
 }
 
-// All consistent rows: the first of them, as many as fit, in the list slice.
-pub fn search(l: Layout, y: &[u8], numbers: &[u16], cap: usize, list: &mut [u8]) -> Kept
+// All consistent rows, by their loss patterns. The tables of the received row are made once for all patterns.
+fn all_patterns(l: Layout, y: &[u8], numbers: &[u16], cap: usize, list: &mut [u8]) -> Kept
     requires { ⌜ Given l (now numbers) (now y) × (cap * bytesFor (rowBits l) ≤ length (now list)) ⌝ }
     ensures { λ r. ⌜ Listed l (now (numbers .entry)) (now (y .entry)) cap (now (list .entry)) (now (list .exit))
         (r .count) (r .more) ⌝ }
@@ -293,6 +329,38 @@ pub fn search(l: Layout, y: &[u8], numbers: &[u16], cap: usize, list: &mut [u8])
         count: 0,
         more: false,
     };
+    let mut totals: [u32; 2041] = [0; 2041];
+    let mut counts: [u16; 2041] = [0; 2041];
+    windows::fill(y, &mut totals, &mut counts);
     let mut row: [u8; 255] = [0; 255];
-    patterns(l, y, numbers, y, l.l1, start, &mut row, cap, list, none)
+    patterns(
+        l,
+        y,
+        numbers,
+        y,
+        &totals,
+        &counts,
+        l.l1,
+        start,
+        &mut row,
+        cap,
+        list,
+        none,
+    )
+}
+
+// All consistent rows: the first of them, as many as fit, in the list slice. Where no bit is lost, only the received row can be one.
+pub fn search(l: Layout, y: &[u8], numbers: &[u16], cap: usize, list: &mut [u8]) -> Kept
+    requires { ⌜ Given l (now numbers) (now y) × (cap * bytesFor (rowBits l) ≤ length (now list)) ⌝ }
+    ensures { λ r. ⌜ Listed l (now (numbers .entry)) (now (y .entry)) cap (now (list .entry)) (now (list .exit))
+        (r .count) (r .more) ⌝ }
+{
+    if y.len() < l.l1 * l.l2 * l.nc {
+        return all_patterns(l, y, numbers, cap, list);
+    }
+    let none = Kept {
+        count: 0,
+        more: false,
+    };
+    found::add_bits(l, y, numbers, y, cap, list, none)
 }

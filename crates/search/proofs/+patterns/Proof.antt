@@ -6,6 +6,7 @@ use Prim.Native.Nat.{ℕ, _+_, _-_, _*_, _<_, _≤_}
 use mathlib.Core.Path.{_≡_, refl}
 use mathlib.Core.Logic.{⊎-elim}
 use mathlib.Core.List.{List}
+use native.Mathlib.Nat.{mul-le-mul-right}
 use native.Mathlib.Omega.{arith}
 use borrow.Fn.Kinds.{In}
 use borrow.Fn.PlainCycle.{Measures, is, falls, and}
@@ -16,7 +17,7 @@ use Rattle.message.specs.Layout.{rowBits, blockBits}
 use Rattle.message.proofs.Fields.{field-room}
 use Rattle.message.proofs.Legal.{Sizes, legal-bounds, sizes}
 use Rattle.found.proofs.Found.{grown-holding, grown-length}
-use Rattle.search.proofs.Counts.{Next, Tries, begun-next, tries-start, tries-none, tries-next, tries-all}
+use Rattle.search.proofs.Counts.{Next, Tries, begun-next, tabled-next, tries-start, tries-none, tries-next, tries-all}
 use Rattle.search.proofs.patterns.Reads as patterns
 use Rattle.search.proofs.patterns.Kinds as patterns-kinds
 use Rattle.search.proofs.+patterns.Lts-patterns as patterns-lts
@@ -25,22 +26,22 @@ use Rattle.search.proofs.try_block.Reads as try-block-reads
 use Rattle.search.proofs.+patterns.{statement}
 use Rattle.search.proofs.+patterns.Tie.{close}
 
-abbrev μ-patterns : Measures 5 patterns-kinds.ps ℕ
-μ-patterns κs a = a .1 .1 .1 .1 .0
+abbrev μ-patterns : Measures 7 patterns-kinds.ps ℕ
+μ-patterns κs a = a .1 .1 .1 .1 .1 .1 .0
 
-abbrev patterns-at : ℕ → In 5 patterns-kinds.ps
-patterns-at t = and 5 patterns-kinds.ps (is 5 patterns-kinds.ps μ-patterns t) patterns.Pre
+abbrev patterns-at : ℕ → In 7 patterns-kinds.ps
+patterns-at t = and 7 patterns-kinds.ps (is 7 patterns-kinds.ps μ-patterns t) patterns.Pre
 
-abbrev patterns-below : ℕ → In 5 patterns-kinds.ps
-patterns-below t = and 5 patterns-kinds.ps (falls 5 patterns-kinds.ps _<_ μ-patterns t) patterns.Pre
+abbrev patterns-below : ℕ → In 7 patterns-kinds.ps
+patterns-below t = and 7 patterns-kinds.ps (falls 7 patterns-kinds.ps _<_ μ-patterns t) patterns.Pre
 
 abbrev patterns-Inv-loop : patterns-lts.InvT-loop
-patterns-Inv-loop l y numbers rest later pattern row₀ cap list₀ nb i most first k₀ a₀ row list k a =
+patterns-Inv-loop l y numbers rest totals counts later pattern row₀ cap list₀ nb i p most first k₀ a₀ row list k a =
     (a ≤ most)
     × Tries l numbers y cap (pattern .counts) i (pattern .total) row₀ list₀ (k₀ .count) (k₀ .more) row list (k .count) (k .more) a
 
 abbrev patterns-μ-loop : patterns-lts.MeasureT-loop
-patterns-μ-loop l y numbers rest later pattern row₀ cap list₀ nb i most first k₀ a₀ row list k a = most - a
+patterns-μ-loop l y numbers rest totals counts later pattern row₀ cap list₀ nb i p most first k₀ a₀ row list k a = most - a
 
 -- what the functions that are called promise, this one below its measure
 abbrev called : ℕ → patterns-lts.Claims
@@ -70,7 +71,7 @@ abbrev Turned : ℕ → Type 0
 Turned t = patterns-lts.Joined3 (called t) (patterns-at t) patterns.Post patterns-Inv-loop patterns-μ-loop
 
 abbrev start : (t : ℕ) → Ready t → Start t
-start t c = c .before .before .before .before .before .before .before .before .before .before .before
+start t c = c .before .before .before .before .before .before .before .before .before .before .before .before .before .before
 
 abbrev loop : (t : ℕ) → Can t → Loop t
 loop t c = c .before .before .before .before .before .before
@@ -86,10 +87,10 @@ next : (t : ℕ) (c : Ready t) → let a = start t c .args in
     Next (a .l) (a .numbers .now) (a .y .now) (a .pattern .counts) (a .l .l1 - a .later) (a .pattern .total)
 next t c =
     let s = start t c in
-    let some = c .before .before .before .before .before .if1 .left in
+    let some = c .before .before .before .before .before .before .if1 .left in
     let few = s .pre .1 .1 .0 in
     let counted = length-counts t s in
-    record { given = s .pre .1 .0 .0; inside = omega arith; room = omega (arith, high t s .l1-high); sums = s .pre .1 .1 .1 .sums }
+    record { given = s .pre .1 .0 .0; inside = omega arith; room = omega (arith, high t s .l1-high); sums = s .pre .1 .1 .1 .0 .sums }
 
 -- the most that it can lose is what is left of all losses, at most twelve
 left-over : (t : ℕ) (s : Start t) → let a = s .args in
@@ -97,7 +98,7 @@ left-over : (t : ℕ) (s : Start t) → let a = s .args in
     × (rowBits (a .l) - length (a .y .now) ≤ 12)
 left-over t s =
     let few = s .pre .1 .0 .0 .few in
-    let most = s .pre .1 .1 .1 .most in
+    let most = s .pre .1 .1 .1 .0 .most in
     let all = high t s .l1-block in
     (omega arith, omega arith)
 
@@ -106,13 +107,21 @@ within : (t : ℕ) (c : Can t) → let p = loop t c in let a = start t (p .befor
     (p .loop .a ≤ blockBits (a .l)) × (blockBits (a .l) - p .loop .a ≤ length (a .rest .now))
 within t c = c .before .before .before .try-block .ensures .within (c .if3 .taken)
 
+-- and the tables go on behind these
+tabled-within : (t : ℕ) (c : Can t) → let p = loop t c in let a = start t (p .before) .args in
+    (blockBits (a .l) - p .loop .a ≤ length (a .totals .now)) × (blockBits (a .l) - p .loop .a ≤ length (a .counts .now))
+tabled-within t c =
+    let w = start t (loop t c .before) .pre .1 .1 .1 .1 .tables in
+    let h = within t c .1 in
+    (omega (arith, w .totals-long), omega (arith, w .counts-long))
+
 patterns-one-pattern-requires : (t : ℕ)
     → patterns-lts.Need-one-pattern-requires (called t) (patterns-at t) patterns.Post patterns-Inv-loop patterns-μ-loop
 patterns-one-pattern-requires t c κs =
-    let s = c .before .before .before .before .before .before .before .before in
+    let s = c .before .before .before .before .before .before .before .before .before .before in
     let last = c .before .before .if1 .taken in
     let e : s .args .l .l1 - s .args .later ≡ s .args .l .l1 = omega arith in
-    let b = s .pre .1 .1 .1 in
+    let b = s .pre .1 .1 .1 .0 in
     (s .pre .1 .0 .0, (s .pre .1 .0 .1, (b .hand, rw e at (b .sums))))
 
 patterns-same-length : (t : ℕ)
@@ -126,34 +135,46 @@ patterns-same-length-2 t c = search needs
 patterns-returns : (t : ℕ) → patterns-lts.Need-returns (called t) (patterns-at t) patterns.Post patterns-Inv-loop patterns-μ-loop
 patterns-returns t c =
     let o = c .before .before in
-    let s = o .before .before .before .before .before .before .before .before .before in
+    let s = o .before .before .before .before .before .before .before .before .before .before .before in
     let last = o .before .before .before .if1 .taken in
     let e : s .args .l .l1 - s .args .later ≡ s .args .l .l1 = omega arith in
     (rw e (o .one-pattern .ensures), refl)
 
 patterns-mul-nb : (t : ℕ) → patterns-lts.Need-mul-nb (called t) (patterns-at t) patterns.Post patterns-Inv-loop patterns-μ-loop
-patterns-mul-nb t c = omega (arith, high t (c .before .before .before .before .before .before .before) .block)
+patterns-mul-nb t c = omega (arith, high t (c .before .before .before .before .before .before .before .before .before) .block)
 
 patterns-sub-i : (t : ℕ) → patterns-lts.Need-sub-i (called t) (patterns-at t) patterns.Post patterns-Inv-loop patterns-μ-loop
-patterns-sub-i t c = c .before .before .before .before .before .before .before .before .pre .1 .1 .0
+patterns-sub-i t c = c .before .before .before .before .before .before .before .before .before .before .pre .1 .1 .0
+
+patterns-mul-p : (t : ℕ)
+    → patterns-lts.Need-mul-p (called t) (patterns-at t) patterns.Post patterns-Inv-loop patterns-μ-loop
+patterns-mul-p t c =
+    let s = c .before .before .before .before .before .before .before .before .before .before in
+    let l = s .args .l in
+    let h : l .l1 - s .args .later ≤ l .l1 = omega arith in
+    omega (arith, mul-le-mul-right (blockBits l) h, high t s .l1-block, high t s .row)
+
+patterns-sub-p : (t : ℕ)
+    → patterns-lts.Need-sub-p (called t) (patterns-at t) patterns.Post patterns-Inv-loop patterns-μ-loop
+patterns-sub-p t c = c .before .before .before .before .before .before .before .before .before .before .before .pre .1 .1 .1 .0 .before
 
 patterns-mul-most : (t : ℕ)
     → patterns-lts.Need-mul-most (called t) (patterns-at t) patterns.Post patterns-Inv-loop patterns-μ-loop
 patterns-mul-most t c =
-    let z = high t (c .before .before .before .before .before .before .before .before .before) in
+    let z = high t (c .before .before .before .before .before .before .before .before .before .before .before .before) in
     omega (arith, z .l1-block, z .row)
 
 patterns-sub-most : (t : ℕ)
     → patterns-lts.Need-sub-most (called t) (patterns-at t) patterns.Post patterns-Inv-loop patterns-μ-loop
 patterns-sub-most t c =
-    let s = c .before .before .before .before .before .before .before .before .before in
+    let s = c .before .before .before .before .before .before .before .before .before .before .before .before in
     omega (arith, high t s .l1-block, s .pre .1 .0 .0 .short)
 
 patterns-sub-most-2 : (t : ℕ)
     → patterns-lts.Need-sub-most-2 (called t) (patterns-at t) patterns.Post patterns-Inv-loop patterns-μ-loop
 patterns-sub-most-2 t c =
-    let s = c .before .before .before .before .before .before .before .before .before .before in
-    omega (arith, high t s .l1-block, s .pre .1 .1 .1 .most)
+    let s = c .before .before .before .before .before .before .before .before .before .before .before .before .before in
+    omega (arith, high t s .l1-block, s .pre .1 .1 .1 .0 .most)
 
 -- the first count that is tried: it is not above the most, and above 0 only for the last block, which loses all that is left
 first-most : (t : ℕ) (c : Ready t) → let a = start t c .args in
@@ -183,28 +204,28 @@ patterns-try-block-requires t c κs =
     let s = start t (p .before) in
     let a = s .args in
     let g = s .pre .1 .0 .0 in
-    let b = s .pre .1 .1 .1 in
+    let b = s .pre .1 .1 .1 .0 in
     let i : ℕ = a .l .l1 - a .later in
     let h = next t (p .before) .inside in
     let room : i * a .l .l2 + a .l .l2 ≤ a .l .l1 * a .l .l2 = field-room (a .l .l1) (a .l .l2) i h in
     let hand : i * a .l .l2 + a .l .l2 ≤ length (p .loop .row) = omega (arith, high t s .chunks, b .hand, p .loop .inv .1 .places) in
     let bits = bits-drop (i * blockBits (a .l) - a .pattern .total) (a .y .now) (g .bits) in
-    (g .is-legal, (rw (b .reads) bits, (omega (arith, g .count), (g .blocks i h, hand))))
+    (g .is-legal, (rw (b .reads) bits, (s .pre .1 .1 .1 .1, (omega (arith, g .count), (g .blocks i h, hand)))))
 
-patterns-cast-p : (t : ℕ) → patterns-lts.Need-cast-p (called t) (patterns-at t) patterns.Post patterns-Inv-loop patterns-μ-loop
-patterns-cast-p t c =
+patterns-cast-next : (t : ℕ) → patterns-lts.Need-cast-next (called t) (patterns-at t) patterns.Post patterns-Inv-loop patterns-μ-loop
+patterns-cast-next t c =
     let p = loop t (c .before) in
     let o = left-over t (start t (p .before)) in
     omega (arith, p .loop .inv .0)
 
-patterns-element-write-p : (t : ℕ)
-    → patterns-lts.Need-element-write-p (called t) (patterns-at t) patterns.Post patterns-Inv-loop patterns-μ-loop
-patterns-element-write-p t c =
+patterns-element-write-next : (t : ℕ)
+    → patterns-lts.Need-element-write-next (called t) (patterns-at t) patterns.Post patterns-Inv-loop patterns-μ-loop
+patterns-element-write-next t c =
     let r = loop t (c .before) .before in
     omega (arith, next t r .inside, high t (start t r) .l1-high)
 
-patterns-add-p : (t : ℕ) → patterns-lts.Need-add-p (called t) (patterns-at t) patterns.Post patterns-Inv-loop patterns-μ-loop
-patterns-add-p t c =
+patterns-add-next : (t : ℕ) → patterns-lts.Need-add-next (called t) (patterns-at t) patterns.Post patterns-Inv-loop patterns-μ-loop
+patterns-add-next t c =
     let p = loop t (c .before .before) in
     let o = left-over t (start t (p .before)) in
     omega (arith, p .loop .inv .0)
@@ -225,16 +246,48 @@ patterns-part-patterns-end : (t : ℕ)
     → patterns-lts.Need-part-patterns-end (called t) (patterns-at t) patterns.Post patterns-Inv-loop patterns-μ-loop
 patterns-part-patterns-end t c = search needs
 
+patterns-mul-patterns : (t : ℕ)
+    → patterns-lts.Need-mul-patterns (called t) (patterns-at t) patterns.Post patterns-Inv-loop patterns-μ-loop
+patterns-mul-patterns t c = omega (arith, high t (start t (loop t (c .before .before .before) .before)) .block)
+
 patterns-sub-patterns-2 : (t : ℕ)
     → patterns-lts.Need-sub-patterns-2 (called t) (patterns-at t) patterns.Post patterns-Inv-loop patterns-μ-loop
-patterns-sub-patterns-2 t c =
-    let some = loop t (c .before .before .before) .before .before .before .before .before .before .if1 .left in
+patterns-sub-patterns-2 t c = tabled-within t (c .before .before .before) .0
+
+patterns-part-patterns-start-2 : (t : ℕ)
+    → patterns-lts.Need-part-patterns-start-2 (called t) (patterns-at t) patterns.Post patterns-Inv-loop patterns-μ-loop
+patterns-part-patterns-start-2 t c = tabled-within t (c .before .before .before) .0
+
+patterns-part-patterns-end-2 : (t : ℕ)
+    → patterns-lts.Need-part-patterns-end-2 (called t) (patterns-at t) patterns.Post patterns-Inv-loop patterns-μ-loop
+patterns-part-patterns-end-2 t c = search needs
+
+patterns-mul-patterns-2 : (t : ℕ)
+    → patterns-lts.Need-mul-patterns-2 (called t) (patterns-at t) patterns.Post patterns-Inv-loop patterns-μ-loop
+patterns-mul-patterns-2 t c = omega (arith, high t (start t (loop t (c .before .before .before .before) .before)) .block)
+
+patterns-sub-patterns-3 : (t : ℕ)
+    → patterns-lts.Need-sub-patterns-3 (called t) (patterns-at t) patterns.Post patterns-Inv-loop patterns-μ-loop
+patterns-sub-patterns-3 t c = tabled-within t (c .before .before .before .before) .1
+
+patterns-part-patterns-start-3 : (t : ℕ)
+    → patterns-lts.Need-part-patterns-start-3 (called t) (patterns-at t) patterns.Post patterns-Inv-loop patterns-μ-loop
+patterns-part-patterns-start-3 t c = tabled-within t (c .before .before .before .before) .1
+
+patterns-part-patterns-end-3 : (t : ℕ)
+    → patterns-lts.Need-part-patterns-end-3 (called t) (patterns-at t) patterns.Post patterns-Inv-loop patterns-μ-loop
+patterns-part-patterns-end-3 t c = search needs
+
+patterns-sub-patterns-4 : (t : ℕ)
+    → patterns-lts.Need-sub-patterns-4 (called t) (patterns-at t) patterns.Post patterns-Inv-loop patterns-μ-loop
+patterns-sub-patterns-4 t c =
+    let some = loop t (c .before .before .before .before .before) .before .before .before .before .before .before .before .if1 .left in
     omega arith
 
 patterns-patterns-requires : (t : ℕ)
     → patterns-lts.Need-patterns-requires (called t) (patterns-at t) patterns.Post patterns-Inv-loop patterns-μ-loop
 patterns-patterns-requires t c κs =
-    let e = c .before .before .before .before .before in
+    let e = c .before .before .before .before .before .before .before in
     let q = e .before .before .before in
     let p = loop t e in
     let s = start t (p .before) in
@@ -243,12 +296,21 @@ patterns-patterns-requires t c κs =
     let h = n .inside in
     let o = left-over t s in
     let most : a .pattern .total + p .loop .a + length (a .y .now) ≤ rowBits (a .l) = omega (arith, p .loop .inv .0, s .pre .1 .0 .0 .short) in
-    let row : List ℕ = q .try-block .last .1 .1 .1 .1 .1 .0 in
-    let same : length row ≡ length (a .row .now) = omega (arith, q .try-block .kept .1 .1 .1 .1 .1 .0, p .loop .inv .1 .places) in
-    let b = begun-next n (s .pre .1 .1 .1) (p .loop .a) most (within t e .0) row same (a .l .l1 - (a .later - 1)) (omega arith) in
+    let row : List ℕ = q .try-block .last .1 .1 .1 .1 .1 .1 .1 .1 .0 in
+    let same : length row ≡ length (a .row .now) = omega (arith, q .try-block .kept .1 .1 .1 .1 .1 .1 .1 .1 .0, p .loop .inv .1 .places) in
+    let w = within t e in
+    let j : ℕ = a .l .l1 - (a .later - 1) in
+    let b = begun-next n (s .pre .1 .1 .1 .0) (p .loop .a) most (w .0) row same j (omega arith) in
+    let tabled = tabled-next n (s .pre .1 .1 .1 .0) (p .loop .a) (w .0) (w .1) (s .pre .1 .1 .1 .1) j (omega arith) in
+    let d : ℕ = blockBits (a .l) - p .loop .a in
     let held = grown-holding (s .pre .1 .0 .1) (p .loop .inv .1 .known) in
-    let falls : a .later - 1 < t = omega (arith, s .pre .0) in
-    (falls, ((s .pre .1 .0 .0, held), (omega arith, rw (part-to-end (a .rest .now) (blockBits (a .l) - p .loop .a)) b)))
+    let falls : a .later - 1 < t = omega (arith, s .pre .0) in (
+      falls,
+      (
+        (s .pre .1 .0 .0, held),
+        (omega arith, rw (part-to-end (a .rest .now) d, part-to-end (a .totals .now) d, part-to-end (a .counts .now) d) (b, tabled)),
+      ),
+    )
 
 patterns-add-a : (t : ℕ) → patterns-lts.Need-add-a (called t) (patterns-at t) patterns.Post patterns-Inv-loop patterns-μ-loop
 patterns-add-a t c =
@@ -276,12 +338,12 @@ after-turn t c =
     let n = next t (p .before) in
     let j : ℕ = a .l .l1 - (a .later - 1) in
     let after : j ≡ a .l .l1 - a .later + 1 = let h = n .inside in omega arith in
-    let reads = s .pre .1 .1 .1 .reads in
-    let same = q .try-block .kept .1 .1 .1 .1 .1 .0 in
+    let reads = s .pre .1 .1 .1 .0 .reads in
+    let same = q .try-block .kept .1 .1 .1 .1 .1 .1 .1 .1 .0 in
     ⊎-elim
-    (λ w. rw (w .11, w .12, w .13)
+    (λ w. rw (w .13, w .14, w .15)
     (tries-next n (p .loop .a) (p .loop .inv .1) (q .try-block .ensures) reads same (s .pre .1 .0 .1) j after
-    (w .6 .ensures .0) (w .6 .ensures .1) (w .6 .kept .1 .1 .1 .1 .1 .1 .0)))
+    (w .8 .ensures .0) (w .8 .ensures .1) (w .8 .kept .1 .1 .1 .1 .1 .1 .1 .1 .0)))
     (λ w. rw (w .1, w .2, w .3) (tries-none n (p .loop .a) (p .loop .inv .1) (q .try-block .ensures) reads same (w .0 .left)))
     (c .if3 .came)
 
@@ -340,19 +402,29 @@ pub +patterns-spec : {M : Type 1} → statement M
     (patterns-returns t)
     (patterns-mul-nb t)
     (patterns-sub-i t)
+    (patterns-mul-p t)
+    (patterns-sub-p t)
     (patterns-mul-most t)
     (patterns-sub-most t)
     (patterns-sub-most-2 t)
     (patterns-loop-holds t)
     (patterns-try-block-requires t)
-    (patterns-cast-p t)
-    (patterns-element-write-p t)
-    (patterns-add-p t)
+    (patterns-cast-next t)
+    (patterns-element-write-next t)
+    (patterns-add-next t)
     (patterns-sub-from t)
     (patterns-sub-patterns t)
     (patterns-part-patterns-start t)
     (patterns-part-patterns-end t)
+    (patterns-mul-patterns t)
     (patterns-sub-patterns-2 t)
+    (patterns-part-patterns-start-2 t)
+    (patterns-part-patterns-end-2 t)
+    (patterns-mul-patterns-2 t)
+    (patterns-sub-patterns-3 t)
+    (patterns-part-patterns-start-3 t)
+    (patterns-part-patterns-end-3 t)
+    (patterns-sub-patterns-4 t)
     (patterns-patterns-requires t)
     (patterns-add-a t)
     (patterns-loop-less t)

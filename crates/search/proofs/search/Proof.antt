@@ -1,34 +1,65 @@
--- `search::search` meets its contract: every row is under no counts, so after the patterns from the start all consistent rows are
--- known. Assumes nothing.
+-- `search::search` meets its contract: where no bit is lost, the received row is the only one that can be consistent. Assumes
+-- nothing.
 use borrow.Author.Needs.{needs}
-use Prim.Native.Nat.{_-_}
+use mathlib.Core.Path.{_≡_}
 use native.Mathlib.Omega.{arith}
-use mathlib.Core.Path.{refl}
+use lib.ListN.{length}
+use Rattle.message.specs.Layout.{rowBits}
+use Rattle.message.proofs.Legal.{Sizes, legal-bounds, sizes}
 use Rattle.found.proofs.Found.{holding-none, grown-weaken, grown-all}
-use Rattle.search.proofs.Counts.{under-start, begun-start}
+use Rattle.search.proofs.Leaves.{only-received}
 use Rattle.search.proofs.search.Statement.{statement}
 use Rattle.search.proofs.search.Tie as tie
 
-slice-aggregate-patterns : tie.Need-slice-aggregate-patterns
-slice-aggregate-patterns c = search needs
+high : (s : tie.Start) → Sizes (s .args .l)
+high s = sizes (s .args .l) (legal-bounds (s .args .l) (s .pre .0 .is-legal))
 
-patterns-requires : tie.Need-patterns-requires
-patterns-requires c κs =
-    let s = c .before .before .before .before .before in
-    let a = s .args in
-    let holding = holding-none (a .l) (a .numbers .now) (a .y .now) (a .cap) (a .list .now) (s .pre .1) in
-    ((s .pre .0, holding), (omega arith, begun-start (s .pre .0) _ _ refl (a .l .l1 - a .l .l1) (omega arith)))
+mul-if1 : tie.Need-mul-if1
+mul-if1 c = omega (arith, high (c .before .before .before .before) .chunks)
+
+mul-if1-2 : tie.Need-mul-if1-2
+mul-if1-2 c = omega (arith, high (c .before .before .before .before .before) .row)
+
+all-patterns-requires : tie.Need-all-patterns-requires
+all-patterns-requires c κs = search needs
 
 same-length : tie.Need-same-length
 same-length c = search needs
 
 returns : tie.Need-returns
-returns c =
-    let p = c .before .before .before in
-    let s = p .before .before .before .before .before .before in
+returns c = c .before .before .all-patterns .ensures
+
+-- no bit is lost
+whole : (c : tie.Else1) → let a = c .before .before .before .before .before .before .args in length (a .y .now) ≡ rowBits (a .l)
+whole c = let g = c .before .before .before .before .before .before .pre .0 .short in omega (arith, c .if1 .left)
+
+add-bits-requires : tie.Need-add-bits-requires
+add-bits-requires c κs =
+    let e = c .before in
+    let s = e .before .before .before .before .before .before in
     let a = s .args in
-    grown-all (s .pre .1)
-    (grown-weaken (λ x k u. under-start (a .l) (a .y .now) _ _ x (a .l .l1 - a .l .l1) (omega arith)) (p .patterns .ensures .0))
+    let holding = holding-none (a .l) (a .numbers .now) (a .y .now) (a .cap) (a .list .now) (s .pre .1) in
+    (s .pre .0, ((whole e, s .pre .0 .bits), holding))
+
+same-length-2 : tie.Need-same-length-2
+same-length-2 c = search needs
+
+returns-2 : tie.Need-returns-2
+returns-2 c =
+    let o = c .before .before in
+    let e = o .before .before in
+    let s = e .before .before .before .before .before .before in
+    grown-all (s .pre .1) (grown-weaken (λ x k u. only-received (s .pre .0) (whole e) x k) (o .add-bits .ensures))
 
 pub search-spec : {M : Type 1} → statement M
-search-spec = tie.close (tie.spec slice-aggregate-patterns patterns-requires same-length returns)
+search-spec =
+    tie.close
+    (tie.spec
+    mul-if1
+    mul-if1-2
+    all-patterns-requires
+    same-length
+    returns
+    add-bits-requires
+    same-length-2
+    returns-2)

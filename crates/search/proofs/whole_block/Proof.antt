@@ -21,15 +21,15 @@ high : (c : tie.Start) → Sizes (c .args .l)
 high c = sizes (c .args .l) (bounds c)
 
 mul-nb : tie.Need-mul-nb
-mul-nb c = omega (arith, high (c .before .before .before) .block)
+mul-nb c = omega (arith, high (c .before .before .before .before .before) .block)
 
 has-sum-requires : tie.Need-has-sum-requires
-has-sum-requires c κs = let s = c .before .before .before in (s .pre .1 .0, high s .block)
+has-sum-requires c κs = let s = c .before .before .before .before .before in (s .pre .1 .0, s .pre .1 .1 .0)
 
 returns : tie.Need-returns
 returns c =
     let h = c .before in
-    let a = h .before .before .before .before .args in
+    let a = h .before .before .before .before .before .before .args in
     whole-not (a .l) (a .s) (a .i) (a .rest .now) (a .row .now)
     (sym (h .has-sum .ensures) ∙ not-true (h .has-sum .result) (c .if1 .taken))
 
@@ -40,10 +40,10 @@ part-put-block-start : tie.Need-part-put-block-start
 part-put-block-start c = search needs
 
 -- enough bits remain
-within : (c : tie.Else1) → let a = c .before .before .before .before .before .args in blockBits (a .l) ≤ length (a .rest .now)
+within : (c : tie.Else1) → let a = c .before .before .before .before .before .before .before .args in blockBits (a .l) ≤ length (a .rest .now)
 within c =
     let h = c .before in
-    let a = h .before .before .before .before .args in
+    let a = h .before .before .before .before .before .before .args in
     sum-within (blockBits (a .l)) (a .s) (a .rest .now) (sym (h .has-sum .ensures) ∙ not-false (h .has-sum .result) (c .if1 .left))
 
 part-put-block-end : tie.Need-part-put-block-end
@@ -52,11 +52,11 @@ part-put-block-end c = within c
 put-block-requires : tie.Need-put-block-requires
 put-block-requires c κs =
     let e = c .before .before in
-    let s = e .before .before .before .before .before in
+    let s = e .before .before .before .before .before .before .before in
     let a = s .args in
     let n = blockBits (a .l) in
     let size : length (take (n - 0) (a .rest .now)) ≡ n = length-take-le (n - 0) (a .rest .now) (omega (arith, within e)) ∙ omega arith in
-    (bits-take (n - 0) (a .rest .now) (s .pre .1 .0), (bounds s .nc-high, (size, s .pre .1 .1)))
+    (bits-take (n - 0) (a .rest .now) (s .pre .1 .0), (bounds s .nc-high, (size, s .pre .1 .1 .1)))
 
 same-length : tie.Need-same-length
 same-length c = search needs
@@ -66,11 +66,11 @@ returns-2 c =
     let p = c .before .before in
     let e = p .before .before .before in
     let h = e .before in
-    let s = h .before .before .before .before in
+    let s = h .before .before .before .before .before .before in
     let a = s .args in
     let z : blockBits (a .l) - 0 ≡ blockBits (a .l) = omega arith in
     let has = sym (h .has-sum .ensures) ∙ not-false (h .has-sum .result) (e .if1 .left) in
-    whole-put (a .l) (a .s) (a .i) (a .rest .now) (a .row .now) (p .put-block .last .1 .1 .1 .0) has (s .pre .1 .1)
+    whole-put (a .l) (a .s) (a .i) (a .rest .now) (a .row .now) (p .put-block .last .1 .1 .1 .0) has (s .pre .1 .1 .1)
     (rw z at (p .put-block .ensures))
 
 pub whole-block-spec : {M : Type 1} → statement M

@@ -1,0 +1,66 @@
+-- `search::all_patterns` meets its contract: every row is under no counts, so after the patterns from the start all consistent rows
+-- are known. Assumes nothing.
+use borrow.Author.Needs.{needs}
+use Prim.Native.Nat.{_-_}
+use mathlib.Core.Path.{refl}
+use native.Mathlib.Omega.{arith}
+use Rattle.found.proofs.Found.{holding-none, grown-weaken, grown-all}
+use Rattle.search.proofs.Counts.{received-short, under-start, begun-start, tabled-start}
+use Rattle.search.proofs.all_patterns.Statement.{statement}
+use Rattle.search.proofs.all_patterns.Tie as tie
+
+slice-aggregate-fill : tie.Need-slice-aggregate-fill
+slice-aggregate-fill c = search needs
+
+slice-aggregate-fill-2 : tie.Need-slice-aggregate-fill-2
+slice-aggregate-fill-2 c = search needs
+
+fill-requires : tie.Need-fill-requires
+fill-requires c κs =
+    let s = c .before .before .before .before .before in
+    let h = received-short (s .pre .0) in
+    (s .pre .0 .bits, (h, (omega arith, omega arith)))
+
+slice-aggregate-patterns : tie.Need-slice-aggregate-patterns
+slice-aggregate-patterns c = search needs
+
+slice-aggregate-patterns-2 : tie.Need-slice-aggregate-patterns-2
+slice-aggregate-patterns-2 c = search needs
+
+slice-aggregate-patterns-3 : tie.Need-slice-aggregate-patterns-3
+slice-aggregate-patterns-3 c = search needs
+
+patterns-requires : tie.Need-patterns-requires
+patterns-requires c κs =
+    let f = c .before .before .before .before .before .before in
+    let s = f .before .before .before .before .before .before in
+    let a = s .args in
+    let z = a .l .l1 - a .l .l1 in (
+      (s .pre .0, holding-none (a .l) (a .numbers .now) (a .y .now) (a .cap) (a .list .now) (s .pre .1)),
+      (omega arith, (begun-start (s .pre .0) _ _ refl z (omega arith), tabled-start (s .pre .0) (f .fill .ensures) z (omega arith))),
+    )
+
+same-length : tie.Need-same-length
+same-length c = search needs
+
+returns : tie.Need-returns
+returns c =
+    let p = c .before .before .before in
+    let s = p .before .before .before .before .before .before .before .before .before .before .before .before .before in
+    let a = s .args in
+    grown-all (s .pre .1)
+    (grown-weaken (λ x k u. under-start (a .l) (a .y .now) _ _ x (a .l .l1 - a .l .l1) (omega arith)) (p .patterns .ensures .0))
+
+pub all-patterns-spec : {M : Type 1} → statement M
+all-patterns-spec =
+    tie.close
+    (tie.spec
+    slice-aggregate-fill
+    slice-aggregate-fill-2
+    fill-requires
+    slice-aggregate-patterns
+    slice-aggregate-patterns-2
+    slice-aggregate-patterns-3
+    patterns-requires
+    same-length
+    returns)
