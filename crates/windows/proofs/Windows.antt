@@ -72,7 +72,8 @@ filled-start y totals counts h k =
 
 module _ {y totals counts : List ℕ} {i : ℕ} (q : Filled y totals counts i) where
   pub filled-next : length y < length totals → length y < length counts → i < length y
-      → Filled y (set totals (i + 1) (getD totals i 0 + (i + 1) * getD y i 0)) (set counts (i + 1) (getD counts i 0 + getD y i 0)) (i + 1)
+      → Filled y (set totals (i + 1) (getD totals i 0 + (i + 1) * getD y i 0)) (set counts (i + 1) (getD counts i 0 + getD y i 0))
+      (i + 1)
   filled-next m n h =
       record {
         total-at = set-next (λ (j : ℕ). total 1 (take j y)) totals i _ (omega arith) (q .total-at)
@@ -120,7 +121,9 @@ tables-later y p a totals counts h t =
     split : (j : ℕ) → total (p + 1) (take (a + j) y) ≡ total (p + 1) (take a y) + total (p + a + 1) (take j (drop a y))
     split j =
         let k : p + 1 + length (take a y) ≡ p + a + 1 = omega (arith, length-take-le a y h) in
-        ap (total (p + 1)) (take-add a j y) ∙ total-append (p + 1) (take a y) (take j (drop a y)) ∙ ap (λ (q : ℕ). total (p + 1) (take a y) + total q (take j (drop a y))) k
+        ap (total (p + 1)) (take-add a j y)
+        ∙ total-append (p + 1) (take a y) (take j (drop a y))
+        ∙ ap (λ (q : ℕ). total (p + 1) (take a y) + total q (take j (drop a y))) k
 
     halves : (j : ℕ) → ones (take (a + j) y) ≡ ones (take a y) + ones (take j (drop a y))
     halves j = ap ones (take-add a j y) ∙ ones-join (take a y) (take j (drop a y))

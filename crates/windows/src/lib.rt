@@ -9,7 +9,8 @@ ghost use Rattle.windows.specs.Windows.{Tables};
 
 // Fills the tables of a string, in two slices that have more places than it.
 pub fn fill(y: &[u8], totals: &mut [u32], counts: &mut [u16])
-    requires { ⌜ AllBits (now y) × ((length (now y) ≤ longest) × ((length (now y) < length (now totals)) × (length (now y) < length (now counts)))) ⌝ }
+    requires { ⌜ AllBits (now y) × ((length (now y) ≤ longest) × ((length (now y) < length (now totals))
+        × (length (now y) < length (now counts)))) ⌝ }
     ensures { λ _. ⌜ Tables (now (y .entry)) 0 (now (totals .exit)) (now (counts .exit)) ⌝ }
 {
     totals[0] = 0;

@@ -26,7 +26,8 @@ long p = let v = p .loop .inv in (v .1 .0 ∙ simp length-set, v .1 .1 .0 ∙ si
 
 -- a turn of the loop: the next bit, and how high the numbers at place i are
 turn : (p : tie.At-loop Inv-loop μ-loop) → let y = p .before .args .y .now in
-    (getD y (p .loop .i) 0 < 2) × ((getD (p .loop .totals) (p .loop .i) 0 ≤ p .loop .i * (longest + 1)) × (getD (p .loop .counts) (p .loop .i) 0 ≤ p .loop .i))
+    (getD y (p .loop .i) 0 < 2)
+    × ((getD (p .loop .totals) (p .loop .i) 0 ≤ p .loop .i * (longest + 1)) × (getD (p .loop .counts) (p .loop .i) 0 ≤ p .loop .i))
 turn p =
     let s = p .before in
     let v = p .loop .inv in

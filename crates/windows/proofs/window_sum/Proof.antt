@@ -12,7 +12,8 @@ use Rattle.windows.proofs.window_sum.Tie as tie
 
 -- what the tables give
 gives : (s : tie.Start) → let a = s .args in
-    Next (a .y .now) (a .p) (a .w) (getD (a .totals .now) 0 0) (getD (a .totals .now) (a .w) 0) (getD (a .counts .now) 0 0) (getD (a .counts .now) (a .w) 0)
+    Next (a .y .now) (a .p) (a .w) (getD (a .totals .now) 0 0) (getD (a .totals .now) (a .w) 0)
+    (getD (a .counts .now) 0 0) (getD (a .counts .now) (a .w) 0)
 gives s =
     let a = s .args in
     next (a .y .now) (a .p) (a .w) (a .totals .now) (a .counts .now) (s .pre .0) (s .pre .1 .1 .0) (s .pre .1 .0)
