@@ -1,7 +1,7 @@
 #!/usr/bin/env bash
-# Proves every crate (rt ci), then builds the static library and runs the Rust tests over it. The very last
-# line is 'N passed, M failed', the counts of both together. A step that breaks without saying how many
-# failed counts as one failed. Exit status 0 only if nothing failed.
+# Proves every crate (rt ci), then builds the static library, runs the Rust tests over it and those of the tool film, and tries
+# the installation. The very last line is 'N passed, M failed', the counts of all together. A step that breaks without saying how
+# many failed counts as one failed. Exit status 0 only if nothing failed.
 set -u
 
 cd "$(dirname "${BASH_SOURCE[0]}")/.." || exit 1
@@ -44,11 +44,11 @@ count_proofs() {
     [ "$status" -eq 0 ] || broke "rt ci ended with status $status"
 }
 
-# The Rust tests. Each test program writes a line 'test result: ok. N passed; M failed; ..'.
+# Runs a command that runs Rust tests. Each test program writes a line 'test result: ok. N passed; M failed; ..'.
 count_rust_tests() {
     local status=0 line found=0 before=$failed
     local pattern='^test result: (ok|FAILED)\. ([0-9]+) passed; ([0-9]+) failed;'
-    run cargo test --manifest-path rust/Cargo.toml --release --offline --locked --no-fail-fast --color never || status=$?
+    run "$@" || status=$?
     while IFS= read -r line; do
         if [[ $line =~ $pattern ]]; then
             passed=$((passed + 10#${BASH_REMATCH[2]}))
@@ -56,8 +56,14 @@ count_rust_tests() {
             found=1
         fi
     done <"$log"
-    [ "$status" -eq 0 ] || [ "$failed" -gt "$before" ] || broke "cargo test ended with status $status"
-    [ "$found" -eq 1 ] || broke "cargo test ran no test"
+    [ "$status" -eq 0 ] || [ "$failed" -gt "$before" ] || broke "$1 ended with status $status"
+    [ "$found" -eq 1 ] || broke "$1 ran no test"
+}
+
+# A step that counts as one test.
+count_step() {
+    run "$@" || broke "$1 ended with status $?"
+    passed=$((passed + 1))
 }
 
 count_proofs
@@ -66,6 +72,8 @@ if [ -f rust/Cargo.toml ]; then
     # The program that the proofs were compiled to, for the tests that run it.
     ROWLIST="$PWD/target/bin/rowlist"
     export ROWLIST
-    count_rust_tests
+    count_rust_tests cargo test --manifest-path rust/Cargo.toml --release --offline --locked --no-fail-fast --color never
+    count_rust_tests tools/film-cargo.sh test --release --workspace --no-fail-fast --color never
+    count_step tools/test-install.sh
 fi
 finish

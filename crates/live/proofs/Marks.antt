@@ -1,5 +1,5 @@
--- The marks of one column: which states can come to a live state of the next column by losing at least one bit, and which are live.
--- Assumes nothing.
+-- The marks of one column: which states can come to a live state of the next column by losing at least one bit, and which are
+-- live. Assumes nothing.
 use Prim.Native.Nat.{ℕ, zero, suc, _+_, _-_, _<_, _≤_}
 use mathlib.Core.Path.{_≡_, sym, ap}
 use mathlib.Core.Logic.{_⊎_, inl, inr, ⊎-elim}
@@ -66,7 +66,8 @@ module _ (n : ℕ) (size next any : ℕ → ℕ) (q : ℕ) (c : Reached n size n
       (λ r. let s = r .0 in
       let e = state-lowered size high n s (r .1 .0) (omega (arith, r .1 .1)) in
       let o = stride-pos size s in
-      let down = reach fuel low (lowered high s) (omega arith) (omega arith) (within-lowered high s w) (λ t l. lower-still low high s (r .1 .1) t (h t l)) p in
+      let still : (t : ℕ) → t < n → low t ≤ lowered high s t = λ t l. lower-still low high s (r .1 .1) t (h t l) in
+      let down = reach fuel low (lowered high s) (omega arith) (omega arith) (within-lowered high s w) still p in
       let k : state size high n - stride size s ≡ state size (lowered high s) n = omega arith in
       c .down high w b s (r .1 .0) (omega (arith, r .1 .1)) (rw k down))
       (λ r. c .own (state size high n) b (rw (state-same size high low n (λ s l. sym (r s l))) p))
@@ -83,7 +84,9 @@ module _ (n : ℕ) (size next any : ℕ → ℕ) (q : ℕ) (c : Reached n size n
       let e = state-lowered size left n s (r .1 .0) (omega (arith, r .1 .1)) in
       let o = stride-pos size s in
       let k : state size left n - stride size s ≡ state size (lowered left s) n = omega arith in
-      let down = reach (suc (state size (lowered left s) n)) after (lowered left s) (omega arith) (omega arith) (within-lowered left s w) (λ t l. lower-still after left s (r .1 .1) t (h t l .0)) p in
+      let still : (t : ℕ) → t < n → after t ≤ lowered left s t = λ t l. lower-still after left s (r .1 .1) t (h t l .0) in
+      let fuel : ℕ = suc (state size (lowered left s) n) in
+      let down = reach fuel after (lowered left s) (omega arith) (omega arith) (within-lowered left s w) still p in
       m .down left w b s (r .1 .0) (omega (arith, r .1 .1)) (rw k down))
       (λ r. m .read left w b (rw (state-same size left after n (λ s l. sym (r s l))) p) (f r))
       (differs n after left (λ s l. h s l .0))
@@ -97,8 +100,8 @@ module _ (n : ℕ) (size next any more : ℕ → ℕ) (q : ℕ) (same : (p : ℕ
       → 0 < any (q - stride size s) → 0 < mark
 
   -- a state with one loss less was passed
-  passed : (left : ℕ → ℕ) → state size left n < q + 1 → (s : ℕ) → s < n → 0 < left s → 0 < more (state size left n - stride size s)
-      → 0 < any (state size left n - stride size s)
+  passed : (left : ℕ → ℕ) → state size left n < q + 1 → (s : ℕ) → s < n → 0 < left s
+      → 0 < more (state size left n - stride size s) → 0 < any (state size left n - stride size s)
   passed left b s h p m =
       let e = state-lowered size left n s h p in
       let o = stride-pos size s in

@@ -21,7 +21,9 @@ module _ (l : Layout) (y : List ℕ) (heavy : Heavy) (a b : ℕ → ℕ) (j : �
   same-read zero h = refl
   same-read (suc n) h =
       ap₂
-      (λ (r : List ℕ) (v : ℕ). set r (chunkAt l heavy j n) (number (l .nc) (drop (chunkAt l heavy j n * l .nc + v - getD (heavy .end) n 0) y)))
+      (λ (r : List ℕ) (v : ℕ).
+      let from : ℕ = chunkAt l heavy j n * l .nc + v in
+      set r (chunkAt l heavy j n) (number (l .nc) (drop (from - getD (heavy .end) n 0) y)))
       (same-read n (λ s k. h s (omega arith)))
       (h n (omega arith))
 
@@ -44,9 +46,10 @@ module _ (l : Layout) (y : List ℕ) (heavy : Heavy) (left : ℕ → ℕ) (j : �
   length-read : (k : ℕ) → length (asRead l y heavy left j k row) ≡ length row
   unfolding asRead
   length-read zero = refl
-  length-read (suc k) = length-set (asRead l y heavy left j k row) (chunkAt l heavy j k) (readAs l y heavy left j k) ∙ length-read k
+  length-read (suc k) =
+      length-set (asRead l y heavy left j k row) (chunkAt l heavy j k) (readAs l y heavy left j k) ∙ length-read k
 
-  -- numbers that are the row's in hand but for the chunks of heavy blocks, and there as they are read, are those of the row as read
+  -- numbers that are those in hand but for the chunks of the heavy blocks, and there as they are read, are those of the row as read
   module _ (values : List ℕ) (c : ℕ) (inside : c < length row) where
     pub as-read : (k : ℕ)
         → ((s : ℕ) → s < k → getD values (chunkAt l heavy j s) 0 ≡ readAs l y heavy left j s)
@@ -68,6 +71,7 @@ module _ (l : Layout) (y : List ℕ) (heavy : Heavy) (left : ℕ → ℕ) (j : �
             → getD values c 0
             ≡ getD (set (asRead l y heavy left j k row) (chunkAt l heavy j k) (readAs l y heavy left j k)) c 0
         go (yes e) r =
-            rw e (read k (omega arith)
-            ∙ sym (getD-set-same (asRead l y heavy left j k row) (chunkAt l heavy j k) (readAs l y heavy left j k) 0 (omega (arith, length-read k))))
-        go (no e) r = r e ∙ sym (getD-set-other (asRead l y heavy left j k row) (chunkAt l heavy j k) c (readAs l y heavy left j k) 0 e)
+            let there = getD-set-same (asRead l y heavy left j k row) (chunkAt l heavy j k) (readAs l y heavy left j k) 0 in
+            rw e (read k (omega arith) ∙ sym (there (omega (arith, length-read k))))
+        go (no e) r =
+            r e ∙ sym (getD-set-other (asRead l y heavy left j k row) (chunkAt l heavy j k) c (readAs l y heavy left j k) 0 e)

@@ -1,10 +1,11 @@
--- The number of a loss state: it is below the number of states, its digits are the losses left, and one loss less lowers it by the
--- block's stride. Assumes nothing.
+-- The number of a loss state: it is below the number of states, its digits are the losses left, and one loss less lowers it by
+-- the block's stride. Assumes nothing.
 use Prim.Native.Nat.{ℕ, zero, suc, _+_, _-_, _*_, _/_, _%_, _<_, _≤_}
 use mathlib.Core.Path.{_≡_, refl, sym, ap, ap₂, _∙_}
 use mathlib.Core.Bool.{cond}
 use native.Mathlib.Decide.{ℕ-discrete}
-use native.Mathlib.Nat.{zero-mul, zero-add, mul-comm, mul-assoc, mul-le-mul-left, mul-le-mul-right, mod-eq-of-lt, div-eq-of-lt, add-mul-div-right, add-mul-mod-self-right}
+use native.Mathlib.Nat.{zero-mul, zero-add, mul-comm, mul-assoc, mul-le-mul-left, mul-le-mul-right}
+use native.Mathlib.Nat.{mod-eq-of-lt, div-eq-of-lt, add-mul-div-right, add-mul-mod-self-right}
 use native.Mathlib.Numerals.{sub-one}
 use native.Mathlib.Omega.{arith}
 use borrow.Author.Tests.{eq-eqb, ne-eqb}
@@ -51,7 +52,8 @@ module _ (size : ℕ → ℕ) where
       let e : suc s + suc k ≡ suc (suc s + k) = omega arith in (
         (size (suc s + k) + 1) * r .0,
         ap (stride size) e ∙ next (suc s + k) ∙ ap (λ (v : ℕ). v * (size (suc s + k) + 1)) (r .1)
-            ∙ mul-comm (r .0 * stride size (suc s)) (size (suc s + k) + 1) ∙ sym (mul-assoc (size (suc s + k) + 1) (r .0) (stride size (suc s))),
+            ∙ mul-comm (r .0 * stride size (suc s)) (size (suc s + k) + 1)
+            ∙ sym (mul-assoc (size (suc s + k) + 1) (r .0) (stride size (suc s))),
       )
     where
       next : (t : ℕ) → stride size (suc t) ≡ stride size t * (size t + 1)
@@ -70,11 +72,15 @@ module _ (size : ℕ → ℕ) where
     last-digit : (n : ℕ) → ((t : ℕ) → t < n → left t ≤ size t) → left n ≤ size n
         → (state size left n + left n * stride size n) / stride size n % (size n + 1) ≡ left n
     last-digit n h l =
-        ap (λ (v : ℕ). v % (size n + 1)) (add-mul-div-right (state size left n) (left n) (stride-pos n) ∙ ap (λ (v : ℕ). v + left n) (div-eq-of-lt (state-low n h)) ∙ zero-add (left n))
-        ∙ mod-eq-of-lt (omega arith)
+        let d : (state size left n + left n * stride size n) / stride size n ≡ left n =
+        add-mul-div-right (state size left n) (left n) (stride-pos n)
+        ∙ ap (λ (v : ℕ). v + left n) (div-eq-of-lt (state-low n h)) ∙ zero-add (left n)
+        in
+        ap (λ (v : ℕ). v % (size n + 1)) d ∙ mod-eq-of-lt (omega arith)
 
     early-digit : (n s : ℕ) → s < n
-        → (state size left n + left n * stride size n) / stride size s % (size s + 1) ≡ state size left n / stride size s % (size s + 1)
+        → (state size left n + left n * stride size n) / stride size s % (size s + 1)
+        ≡ state size left n / stride size s % (size s + 1)
     early-digit n s h =
         let k : suc s + (n - suc s) ≡ n = omega arith in
         let r = multiple s (n - suc s) in
@@ -94,7 +100,8 @@ module _ (size : ℕ → ℕ) where
         regroup a m c b = omega arith
 
     -- its digits are the losses left
-    pub digit : (n s : ℕ) → s < n → ((t : ℕ) → t < n → left t ≤ size t) → state size left n / stride size s % (size s + 1) ≡ left s
+    pub digit : (n s : ℕ) → s < n → ((t : ℕ) → t < n → left t ≤ size t)
+        → state size left n / stride size s % (size s + 1) ≡ left s
     unfolding state
     digit zero s h b = absurd (omega arith)
     digit (suc n) s h b =
@@ -129,11 +136,18 @@ module _ (size : ℕ → ℕ) where
   state-lowered left (suc n) s h p = go (ℕ-discrete s n) (λ l. state-lowered left n s l p)
     where
       go : Dec (s ≡ n) → (s < n → state size (lowered left s) n + stride size s ≡ state size left n)
-          → state size (lowered left s) n + lowered left s n * stride size n + stride size s ≡ state size left n + left n * stride size n
+          → state size (lowered left s) n + lowered left s n * stride size n + stride size s
+          ≡ state size left n + left n * stride size n
       go (yes e) r =
-          let same : state size (lowered left s) n ≡ state size left n = state-same (lowered left s) left n (λ t l. lowered-other left s t (λ q. omega arith)) in
-          let own : lowered left s n ≡ left n - 1 = ap (lowered left s) (sym e) ∙ lowered-there left s ∙ ap (λ (v : ℕ). left v - 1) e in
-          let one : (left n - 1) * stride size n + stride size n ≡ left n * stride size n = less (left n) (stride size n) (rw (← e) p) in
+          let same : state size (lowered left s) n ≡ state size left n =
+          state-same (lowered left s) left n (λ t l. lowered-other left s t (λ q. omega arith))
+          in
+          let own : lowered left s n ≡ left n - 1 =
+          ap (lowered left s) (sym e) ∙ lowered-there left s ∙ ap (λ (v : ℕ). left v - 1) e
+          in
+          let one : (left n - 1) * stride size n + stride size n ≡ left n * stride size n =
+          less (left n) (stride size n) (rw (← e) p)
+          in
           rw (same, own, e) (omega arith)
         where
           less : (a b : ℕ) → 0 < a → (a - 1) * b + b ≡ a * b

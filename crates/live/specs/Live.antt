@@ -56,8 +56,8 @@ pub record Reads (l : Layout) (y numbers : List ℕ) (heavy : Heavy) (row : List
   pub whole : (s : ℕ) → s < heavy .n → readFrom l heavy left j s + l .nc ≤ length y + getD (heavy .end) s 0
   pub has-sum : sum (line (l .nc) j (l .l2) (l .l1) (asRead l y heavy left j (heavy .n) row)) ≡ getD numbers (l .l1 + j) 0
 
--- in column j of a table a state is live that goes on to a live one with as much or less left in each block, where it reads the column
--- if it has as much
+-- in column j of a table a state is live that goes on to a live one with as much or less left in each block, where it reads the
+-- column if it has as much
 abbrev pub Step : (l : Layout) (y numbers : List ℕ) (heavy : Heavy) (row : List ℕ) (size : ℕ → ℕ) (live : List ℕ) (j : ℕ) → Type 0
 Step l y numbers heavy row size live j =
     (left next : ℕ → ℕ) → ((s : ℕ) → s < heavy .n → (next s ≤ left s) × (left s ≤ size s))
@@ -91,7 +91,8 @@ pub record Kept (heavy : Heavy) (shape : Shape) : Type 0 where
   pub shaped : Shaped (shape .n) (shape .size) (shape .stride) (shape .states)
 
 -- column j of a table is filled: the entries of the later columns are unchanged
-pub record Filled (l : Layout) (y numbers : List ℕ) (heavy : Heavy) (row : List ℕ) (size : ℕ → ℕ) (j states : ℕ) (entry exit : List ℕ) : Type 0 where
+pub record Filled (l : Layout) (y numbers : List ℕ) (heavy : Heavy) (row : List ℕ) (size : ℕ → ℕ) (j states : ℕ)
+    (entry exit : List ℕ) : Type 0 where
   pub long : length exit ≡ length entry
   pub later : (i : ℕ) → (j + 1) * states ≤ i → getD exit i 0 ≡ getD entry i 0
   pub step : Step l y numbers heavy row size exit j

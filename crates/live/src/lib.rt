@@ -1,5 +1,5 @@
-// Live loss states: which shares of the heavy blocks' losses can still be completed, as far as the chunk-strings' sums tell. Contracts
-// cite specs/Live.antt.
+// Live loss states: which shares of the heavy blocks' losses can still be completed, as far as the chunk-strings' sums tell.
+// Contracts cite specs/Live.antt.
 use message::Layout;
 ghost use mathlib.Core.Path.{_≡_};
 ghost use mathlib.Core.Bool.{true, false};
@@ -61,8 +61,8 @@ fn shape_of(n: usize, size: [u8; MOST_HEAVY]) -> Shape
 // The losses that each heavy block has left in a state.
 fn losses_left(shape: Shape, q: usize) -> [u8; MOST_HEAVY]
     requires { ⌜ (shape .n ≤ 6) × ((0 < shape .states) × Shaped (shape .n) (shape .size) (shape .stride) (shape .states)) ⌝ }
-    ensures { λ r. ⌜ ((left : ℕ → ℕ) → ((s : ℕ) → s < shape .n → left s ≤ each (shape .size) s) → q ≡ state (each (shape .size)) left (shape .n)
-        → (s : ℕ) → s < shape .n → getD r s 0 ≡ left s) ⌝ }
+    ensures { λ r. ⌜ ((left : ℕ → ℕ) → ((s : ℕ) → s < shape .n → left s ≤ each (shape .size) s)
+        → q ≡ state (each (shape .size)) left (shape .n) → (s : ℕ) → s < shape .n → getD r s 0 ≡ left s) ⌝ }
 {
     let n = shape.n;
     let mut left: [u8; MOST_HEAVY] = [0; MOST_HEAVY];
@@ -142,8 +142,8 @@ fn reads(
     sum == numbers[l.l1 + j] as usize
 }
 
-// The mark of a state in column j: one is set where a state below is marked, and where the state is live in the next column and reads
-// this one.
+// The mark of a state in column j: one is set where a state below is marked, and where the state is live in the next column and
+// reads this one.
 fn mark(
     l: Layout,
     y: &[u8],

@@ -1,5 +1,5 @@
--- The loss states that a row comes through: they are live in a table of live states, so a table at a state that is not live has no
--- rows under it. Rests on the laws of live. Assumes nothing.
+-- The loss states that a row comes through: they are live in a table of live states, so a table at a state that is not live has
+-- no rows under it. Rests on the laws of live. Assumes nothing.
 use Prim.Native.Nat.{ℕ, zero, suc, _+_, _-_, _*_, _<_, _≤_}
 use mathlib.Core.Path.{_≡_, refl, sym, ap, _∙_}
 use mathlib.Core.Logic.{⊎-elim}
@@ -50,13 +50,15 @@ pub not-dead : {l : Layout} {y : List ℕ} {heavy : Heavy} {j : ℕ} {t : Table}
     → ShapeOf heavy shape → j < l .l2 → Under l y heavy j 0 t x → Lives l y heavy shape live x
     → 0 < shape .states → getD live (entryOf shape j (each (t .left))) 0 ≡ 0 → ⊥
 not-dead {l} {y} {heavy} {j} {t} {x} shape live of h u lives some dead =
-    let same = state-same (each (shape .size)) (ownLeft l y heavy x j) (each (t .left)) (shape .n) (λ s k. left-own u s (omega (arith, of .0))) in
+    let left : (s : ℕ) → s < shape .n → ownLeft l y heavy x j s ≡ each (t .left) s = λ s k. left-own u s (omega (arith, of .0)) in
+    let same = state-same (each (shape .size)) (ownLeft l y heavy x j) (each (t .left)) (shape .n) left in
     let e = ap (λ (q : ℕ). getD live (j * stride (each (shape .size)) (shape .n) + q) 0) same in
     omega (arith, lives some j h)
 
 -- ---- a row under the table with which the columns begin, which has no cells
-module _ {l : Layout} {numbers y : List ℕ} {heavy : Heavy} {t : Table} {x : List ℕ} (given : Given l numbers y) (sent : Sent l numbers y x)
-    (sound : Sound l (length y) heavy t) (u : Under l y heavy 0 0 t x) (none : t .cells .n ≡ 0) (long : length (t .row) ≡ 255) where
+module _ {l : Layout} {numbers y : List ℕ} {heavy : Heavy} {t : Table} {x : List ℕ} (given : Given l numbers y)
+    (sent : Sent l numbers y x) (sound : Sound l (length y) heavy t) (u : Under l y heavy 0 0 t x) (none : t .cells .n ≡ 0)
+    (long : length (t .row) ≡ 255) where
   -- the losses before the chunk of a heavy block in a column
   abbrev lost : (j s : ℕ) → ℕ
   lost j s = lostBefore l y x (chunkAt l heavy j s)
@@ -96,6 +98,9 @@ module _ {l : Layout} {numbers y : List ℕ} {heavy : Heavy} {t : Table} {x : Li
     inside : (s : ℕ) → s < heavy .n → chunkAt l heavy j s < l .l1 * l .l2
     inside s h = chunk-inside (l .l1) (l .l2) (getD (heavy .block) s 0) j (sound .inside s h) column
 
+    before : (s : ℕ) → s < heavy .n → lost j s ≤ chunkAt l heavy j s * l .nc
+    before s h = lost-before l y x (sent .0) (chunkAt l heavy j s) (inside s h)
+
     loses : (s : ℕ) → s < heavy .n → Loses l y x (chunkAt l heavy j s) 0
     loses s h =
         let next : chunkAt l heavy j s + 1 ≡ chunkAt l heavy (j + 1) s = omega arith in
@@ -103,7 +108,7 @@ module _ {l : Layout} {numbers y : List ℕ} {heavy : Heavy} {t : Table} {x : Li
 
     place : (s : ℕ) → s < heavy .n
         → readFrom l heavy (own j) j s - getD (heavy .end) s 0 ≡ chunkAt l heavy j s * l .nc - lost j s
-    place s h = omega (arith, own-all j s (omega arith) h, lost-before l y x (sent .0) (chunkAt l heavy j s) (inside s h))
+    place s h = omega (arith, own-all j s (omega arith) h, before s h)
 
     is-read : (s : ℕ) → s < heavy .n → getD (values l x) (chunkAt l heavy j s) 0 ≡ readAs l y heavy (own j) j s
     is-read s h =
@@ -121,7 +126,7 @@ module _ {l : Layout} {numbers y : List ℕ} {heavy : Heavy} {t : Table} {x : Li
     reads : Reads l y numbers heavy (t .row) j (own j)
     reads =
         record {
-          starts = λ s h. omega (arith, own-all j s (omega arith) h, lost-before l y x (sent .0) (chunkAt l heavy j s) (inside s h));
+          starts = λ s h. omega (arith, own-all j s (omega arith) h, before s h);
           whole = λ s h. omega (
             arith,
             own-all j s (omega arith) h,

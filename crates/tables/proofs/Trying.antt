@@ -23,10 +23,11 @@ use Rattle.tables.proofs.Making.{share-most, share-last}
 -- the row x is under the table and lives, and its chunk of heavy block h in column j has fewer than a losses
 abbrev pub Fewer : Layout → (y : List ℕ) → Heavy → (lives : List ℕ → Type 0) → (j h : ℕ) → Table → (a : ℕ) → List ℕ → Type 0
 Fewer l y heavy lives j h t a x =
-    (Under l y heavy j h t x × lives x) × (lostBefore l y x (chunkAt l heavy j h + 1) < lostBefore l y x (chunkAt l heavy j h) + a)
+    (Under l y heavy j h t x × lives x)
+    × (lostBefore l y x (chunkAt l heavy j h + 1) < lostBefore l y x (chunkAt l heavy j h) + a)
 
-module _ {l : Layout} {y : List ℕ} {heavy : Heavy} {j h : ℕ} {t : Table} (lives : List ℕ → Type 0) (block : getD (heavy .block) h 0 < l .l1)
-    (column : j < l .l2) (some : h < heavy .n) where
+module _ {l : Layout} {y : List ℕ} {heavy : Heavy} {j h : ℕ} {t : Table} (lives : List ℕ → Type 0)
+    (block : getD (heavy .block) h 0 < l .l1) (column : j < l .l2) (some : h < heavy .n) where
   -- the shares below the first one are no row's
   none-below : (first : ℕ) → (first ≡ 0) ⊎ ((j + 1 ≡ l .l2) × (first ≡ getD (t .left) h 0))
       → (x : List ℕ) → Row (rowBits l) x → Fewer l y heavy lives j h t first x → ⊥
@@ -47,7 +48,8 @@ module _ {l : Layout} {y : List ℕ} {heavy : Heavy} {j h : ℕ} {t : Table} (li
       below-or-new : (x : List ℕ) → Sent l numbers y x → Fewer l y heavy lives j h t (a + 1) x
           → Fewer l y heavy lives j h t a x ⊎ ((ok ≡ true) × (Under l y heavy j (h + 1) new x × lives x))
       below-or-new x s f =
-          ⊎-elim (λ p. inl (f .0, p)) (λ p. let n = shared .under x (s .0) (f .0 .0) (omega (arith, p, f .1)) in inr (n .0, (n .1, f .0 .1)))
+          ⊎-elim (λ p. inl (f .0, p))
+          (λ p. let n = shared .under x (s .0) (f .0 .0) (omega (arith, p, f .1)) in inr (n .0, (n .1, f .0 .1)))
           (lt-or-ge (lostBefore l y x (chunkAt l heavy j h + 1)) (lostBefore l y x (chunkAt l heavy j h) + a))
 
       -- the share a was tried

@@ -204,7 +204,8 @@ fn mend_table(
 // Whether a column may be gone on with: at its start, where h = 0, the loss state may be live.
 fn goes_on(shape: Shape, live: &[u8], left: [u8; 6], j: usize, h: usize) -> bool
     requires { ⌜ (shape .n ≤ 6) × ((j ≤ 255) × Shaped (shape .n) (shape .size) (shape .stride) (shape .states)) ⌝ }
-    ensures { λ r. ⌜ (r ≡ false → (h ≡ 0) × ((0 < shape .states) × (getD (now (live .entry)) (entryOf shape j (each left)) 0 ≡ 0))) ⌝ }
+    ensures { λ r. ⌜ (r ≡ false
+        → (h ≡ 0) × ((0 < shape .states) × (getD (now (live .entry)) (entryOf shape j (each left)) 0 ≡ 0))) ⌝ }
 {
     if h != 0 {
         return true;
@@ -212,9 +213,9 @@ fn goes_on(shape: Shape, live: &[u8], left: [u8; 6], j: usize, h: usize) -> bool
     live::alive(shape, left, j, live)
 }
 
-// All rows under a table of which in column j the first h heavy blocks have their share: at the start of a column the table is left
-// where its loss state is not live, each share of the next block is tried, at the end of a column its sum is looked at, and after the
-// last column the cells are mended. The states come in the order of j * 7 + h, and the last is column l2 with h = 0.
+// All rows under a table of which in column j the first h heavy blocks have their share, that come through live loss states: at the
+// start of a column the table is given up where its state is not live, each share of the next block is tried, at the end of a
+// column its sum is looked at, and after the last column the cells are mended. The states come in the order of j * 7 + h, and the last is column l2 with h = 0.
 fn columns(
     l: Layout,
     y: &[u8],
@@ -231,7 +232,8 @@ fn columns(
 ) -> Kept
     requires { ⌜ Given l (now numbers) (now y) × (Holding l (now numbers) (now y) cap (now list) (kept .count) (kept .more)
         × (Sound l (length (now y)) heavy t × ((h ≤ heavy .n) × ((j * 7 + h ≤ l .l2 * 7) × ShapeOf heavy shape)))) ⌝ }
-    ensures { λ r. ⌜ Grown l (now (numbers .entry)) (now (y .entry)) cap (UnderLive l (now (y .entry)) heavy shape (now (live .entry)) j h t)
+    ensures { λ r. ⌜ Grown l (now (numbers .entry)) (now (y .entry)) cap
+        (UnderLive l (now (y .entry)) heavy shape (now (live .entry)) j h t)
         (now (list .entry)) (kept .count) (kept .more) (now (list .exit)) (r .count) (r .more) ⌝ }
 {
     if j == l.l2 {

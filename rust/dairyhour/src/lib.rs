@@ -95,3 +95,8 @@ fn done_or_refused(number: u32) -> Result<(), Refusal> {
         number => Err(Refusal::from_number(number)),
     }
 }
+
+/// The Rust program of the README, which is compiled and run with the other examples.
+#[cfg(doctest)]
+#[doc = include_str!("../../../README.md")]
+struct Readme;

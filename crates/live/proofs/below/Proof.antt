@@ -1,5 +1,5 @@
--- `live::below` meets its contract. The loop's invariant: no state with one loss less in a block passed is marked. The measure is what
--- is left of the blocks. Assumes nothing.
+-- `live::below` meets its contract. The loop's invariant: no state with one loss less in a block passed is marked. The measure is
+-- what is left of the blocks. Assumes nothing.
 use Prim.Native.Nat.{ℕ, _-_, _<_, _≤_}
 use mathlib.Core.Path.{sym, _∙_}
 use mathlib.Core.Bool.{false≢true}

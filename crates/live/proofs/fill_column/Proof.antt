@@ -1,5 +1,5 @@
--- `live::fill_column` meets its contract. The loop's invariant: the states passed have their marks. The measure is what is left of the
--- states. Assumes nothing.
+-- `live::fill_column` meets its contract. The loop's invariant: the states passed have their marks. The measure is what is left of
+-- the states. Assumes nothing.
 use Prim.Native.Nat.{_+_, _-_, _*_, _≤_}
 use mathlib.Core.Path.{refl, sym}
 use native.Mathlib.Omega.{arith}
@@ -10,7 +10,8 @@ use Rattle.live.proofs.fill_column.Statement.{statement}
 use Rattle.live.proofs.fill_column.Tie as tie
 
 abbrev Inv-loop : tie.InvT-loop
-Inv-loop l y numbers heavy row shape j live₀ states at after any₀ q₀ live any q = Filling l y numbers heavy row shape j live₀ live any q
+Inv-loop l y numbers heavy row shape j live₀ states at after any₀ q₀ live any q =
+    Filling l y numbers heavy row shape j live₀ live any q
 
 abbrev μ-loop : tie.MeasureT-loop
 μ-loop l y numbers heavy row shape j live₀ states at after any₀ q₀ live any q = states - q

@@ -1,4 +1,5 @@
--- `live::fill_live` meets its contract. The loop's invariant: the table is filled from column j on. The measure is j. Assumes nothing.
+-- `live::fill_live` meets its contract. The loop's invariant: the table is filled from column j on. The measure is j. Assumes
+-- nothing.
 use Prim.Native.Nat.{_+_, _-_, _*_, _<_}
 use mathlib.Core.Path.{_≡_, refl, _∙_}
 use native.Mathlib.Nat.{mul-le-mul-right}
@@ -22,7 +23,9 @@ last-in c = omega (arith, c .pre .1, c .pre .0 .1 .some)
 
 -- the table keeps its length
 long : (c : tie.At-loop Inv-loop μ-loop) → length (c .loop .live) ≡ length (c .before .before .before .before .args .live .now)
-long c = let a = c .before .before .before .before .args in c .loop .inv .0 ∙ length-set (a .live .now) (a .l .l2 * a .shape .states) 1
+long c =
+    let a = c .before .before .before .before .args in
+    c .loop .inv .0 ∙ length-set (a .live .now) (a .l .l2 * a .shape .states) 1
 
 mul-live : tie.Need-mul-live Inv-loop μ-loop
 mul-live c = record { fits = omega (arith, c .before .before .before .pre .1) }

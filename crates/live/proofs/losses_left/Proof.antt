@@ -1,5 +1,5 @@
--- `live::losses_left` meets its contract. The loop's invariant: the losses left of the blocks passed are digits of the state's number.
--- The measure is what is left of the blocks. Assumes nothing.
+-- `live::losses_left` meets its contract. The loop's invariant: the losses left of the blocks passed are digits of the state's
+-- number. The measure is what is left of the blocks. Assumes nothing.
 use Prim.Native.Nat.{ℕ, _+_, _-_, _/_, _%_, _<_, _≤_}
 use mathlib.Core.Path.{_≡_, ap, ap₂, _∙_}
 use native.Mathlib.Nat.{mod-lt}
@@ -16,7 +16,8 @@ use Rattle.live.proofs.losses_left.Tie as tie
 
 abbrev Inv-loop : tie.InvT-loop
 Inv-loop q shape n left₀ s₀ left s =
-    ((s ≤ n) × (length left ≡ 6)) × ((t : ℕ) → t < s → getD left t 0 ≡ q / stride (each (shape .size)) t % (each (shape .size) t + 1))
+    ((s ≤ n) × (length left ≡ 6))
+    × ((t : ℕ) → t < s → getD left t 0 ≡ q / stride (each (shape .size)) t % (each (shape .size) t + 1))
 
 abbrev μ-loop : tie.MeasureT-loop
 μ-loop q shape n left₀ s₀ left s = n - s
@@ -71,12 +72,12 @@ loop-less c = search needs
 
 loop-again : tie.Need-loop-again Inv-loop μ-loop
 loop-again c =
-    let a = c .before .before .before .before .before .args in
-    let p = c .before .before .before .before .loop in
-    let b : Fits w8 (getD (a .t1 .size) (p .s) 0) = search needs in
-    let e = c .before .before .before .before .before .pre .1 .1 .counts (c .before .before .before .before .before .pre .1 .0) (p .s) (omega arith) in (
-      (omega arith, length-set (p .left) (p .s) _ ∙ p .inv .0 .1),
-      one-more (λ t v. v ≡ a .q / stride (each (a .t1 .size)) t % (each (a .t1 .size) t + 1)) (p .left) (p .s) _ (omega arith) (p .inv .1)
+    let p = c .before .before .before .before in
+    let a = p .before .args in
+    let size = each (a .t1 .size) in
+    let e = p .before .pre .1 .1 .counts (p .before .pre .1 .0) (p .loop .s) (omega arith) in (
+      (omega arith, length-set (p .loop .left) (p .loop .s) _ ∙ p .loop .inv .0 .1),
+      one-more (λ t v. v ≡ a .q / stride size t % (size t + 1)) (p .loop .left) (p .loop .s) _ (omega arith) (p .loop .inv .1)
           (ap₂ (λ (u v : ℕ). a .q / u % (v + 1)) e (c .wide .ensures)),
     )
 

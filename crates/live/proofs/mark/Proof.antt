@@ -19,8 +19,10 @@ returns-3 : tie.Need-returns-3
 returns-3 c = search needs
 
 returns-4 : tie.Need-returns-4
-returns-4 c =
-    (λ e. absurd (false≢true (sym (c .before .before .before .if1 .left) ∙ e)), λ h r. absurd (false≢true (sym (c .if3 .left) ∙ c .before .reads .ensures r)))
+returns-4 c = (
+  λ e. absurd (false≢true (sym (c .before .before .before .if1 .left) ∙ e)),
+  λ h r. absurd (false≢true (sym (c .if3 .left) ∙ c .before .reads .ensures r)),
+)
 
 pub mark-spec : {M : Type 1} → statement M
 mark-spec = tie.close (tie.spec returns returns-2 reads-requires returns-3 returns-4)

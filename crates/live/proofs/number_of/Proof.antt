@@ -1,5 +1,5 @@
--- `live::number_of` meets its contract. The loop's invariant: the number so far is that of the losses left in the blocks passed. The
--- measure is what is left of the blocks. Assumes nothing.
+-- `live::number_of` meets its contract. The loop's invariant: the number so far is that of the losses left in the blocks passed.
+-- The measure is what is left of the blocks. Assumes nothing.
 use Prim.Native.Nat.{ℕ, _+_, _-_, _*_, _≤_}
 use mathlib.Core.Path.{_≡_, refl, ap, ap₂, _∙_}
 use native.Mathlib.Nat.{mul-le-mul}
@@ -9,28 +9,28 @@ use borrow.Author.Needs.{needs}
 use lib.ListN.{getD}
 use mir.Syntax.{w8}
 use mir.Val.{Fits}
-use Rattle.live.specs.Live.{state, stride, each}
+use Rattle.live.specs.Live.{state, stride, each, mostStates}
 use Rattle.live.proofs.States.{stride-up}
 use Rattle.live.proofs.number_of.Statement.{statement}
 use Rattle.live.proofs.number_of.Tie as tie
 
 abbrev Inv-loop : tie.InvT-loop
 Inv-loop shape left n q₀ s₀ q s =
-    (s ≤ n) × ((q ≡ state (each (shape .size)) (each left) s) × (q ≤ 255 * 729 * s))
+    (s ≤ n) × ((q ≡ state (each (shape .size)) (each left) s) × (q ≤ 255 * mostStates * s))
 
 abbrev μ-loop : tie.MeasureT-loop
 μ-loop shape left n q₀ s₀ q s = n - s
 
--- what a block adds is at most 255 strides of at most 729
+-- what a block adds is at most 255 strides of at most mostStates
 term-low : (c : tie.After-q Inv-loop μ-loop) → let p = c .before .before .before in
-    c .before .wide .result * getD (p .before .args .t1 .stride) (p .loop .s) 0 ≤ 255 * 729
+    c .before .wide .result * getD (p .before .args .t1 .stride) (p .loop .s) 0 ≤ 255 * mostStates
 term-low c =
     let p = c .before .before .before in
     let a = p .before .args in
     let g = p .before .pre .1 .1 in
     let b : Fits w8 (getD (a .t2) (p .loop .s) 0) = search needs in
     let u = stride-up (each (a .t1 .size)) (p .loop .s) (a .t1 .n) (omega arith) in
-    mul-le-mul {n₁ = c .before .wide .result} {m₁ = getD (a .t1 .stride) (p .loop .s) 0} {n₂ = 255} {m₂ = 729}
+    mul-le-mul {n₁ = c .before .wide .result} {m₁ = getD (a .t1 .stride) (p .loop .s) 0} {n₂ = 255} {m₂ = mostStates}
     (omega (arith, c .before .wide .ensures))
     (omega (arith, g .counts (p .before .pre .1 .0) (p .loop .s) (omega arith), g .all (p .before .pre .1 .0), g .few, u))
 
@@ -67,9 +67,11 @@ unfolding state
 loop-again c =
     let p = c .before .before .before in
     let a = p .before .args in
-    let e = ap₂ (λ (u v : ℕ). u * v) (c .before .wide .ensures) (p .before .pre .1 .1 .counts (p .before .pre .1 .0) (p .loop .s) (omega arith)) in
+    let d = p .before .pre .1 .1 .counts (p .before .pre .1 .0) (p .loop .s) (omega arith) in
+    let e = ap₂ (λ (u v : ℕ). u * v) (c .before .wide .ensures) d in
     let g : state (each (a .t1 .size)) (each (a .t2)) (p .loop .s + 1)
-    ≡ state (each (a .t1 .size)) (each (a .t2)) (p .loop .s) + each (a .t2) (p .loop .s) * stride (each (a .t1 .size)) (p .loop .s) =
+    ≡ state (each (a .t1 .size)) (each (a .t2)) (p .loop .s)
+    + each (a .t2) (p .loop .s) * stride (each (a .t1 .size)) (p .loop .s) =
     ap (state (each (a .t1 .size)) (each (a .t2))) (add-one (p .loop .s))
     in
     (omega arith, (omega (arith, e, g, p .loop .inv .1 .0), omega (arith, term-low c, p .loop .inv .1 .1)))
@@ -78,7 +80,8 @@ returns : tie.Need-returns Inv-loop μ-loop
 returns c =
     let a = c .before .before .args in
     let k : c .before .loop .s ≡ a .t1 .n = omega arith in
-    (c .before .loop .inv .1 .0 ∙ ap (state (each (a .t1 .size)) (each (a .t2))) k, omega (arith, c .before .loop .inv .1 .1, c .before .before .pre .0))
+    let i = c .before .loop .inv in
+    (i .1 .0 ∙ ap (state (each (a .t1 .size)) (each (a .t2))) k, omega (arith, i .1 .1, c .before .before .pre .0))
 
 pub number-of-spec : {M : Type 1} → statement M
 number-of-spec =

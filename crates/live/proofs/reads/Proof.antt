@@ -1,5 +1,5 @@
--- `live::reads` meets its contract. The loop's invariant: the row in hand has the chunks of the heavy blocks passed as they are read.
--- The measure is what is left of the blocks. Assumes nothing.
+-- `live::reads` meets its contract. The loop's invariant: the row in hand has the chunks of the heavy blocks passed as they are
+-- read. The measure is what is left of the blocks. Assumes nothing.
 use Prim.Native.Nat.{ℕ, _+_, _-_, _*_, _<_, _≤_}
 use mathlib.Core.Path.{_≡_, refl, ap, ap₂, _∙_}
 use mathlib.Core.List.{List}
@@ -40,22 +40,32 @@ low c =
     let p = c .before .before .before .before in
     let a = p .args in
     let s = c .before .loop .s in
-    let h = chunk-low (a .l) (p .pre .0 .allowed) (getD (a .t4 .block) s 0) (a .j) (p .pre .0 .inside s (c .loop-test .taken)) (p .pre .1) in
-    (h, mul-le-mul {n₁ = chunkAt (a .l) (a .t4) (a .j) s} {m₁ = a .l .nc} {n₂ = 255} {m₂ = 8} (omega arith) (legal-bounds (a .l) (p .pre .0 .allowed) .nc-high))
+    let f = p .pre .0 in
+    let h = chunk-low (a .l) (f .allowed) (getD (a .t4 .block) s 0) (a .j) (f .inside s (c .loop-test .taken)) (p .pre .1) in
+    let nc = legal-bounds (a .l) (f .allowed) .nc-high in
+    (h, mul-le-mul {n₁ = chunkAt (a .l) (a .t4) (a .j) s} {m₁ = a .l .nc} {n₂ = 255} {m₂ = 8} (omega arith) nc)
 
 -- the chunk as the code counts it
-chunk-is : (c : tie.After-struct-known Inv-loop μ-loop) → let p = c .before .before .before .before in let a = p .before .before .before .args in
+chunk-is : (c : tie.After-struct-known Inv-loop μ-loop)
+    → let p = c .before .before .before .before in
+    let a = p .before .before .before .args in
     c .before .wide .result * a .l .l2 + a .j ≡ chunkAt (a .l) (a .t4) (a .j) (p .loop .s)
-chunk-is c = let a = c .before .before .before .before .before .before .before .args in
+chunk-is c =
+    let a = c .before .before .before .before .before .before .before .args in
     ap (λ (v : ℕ). v * a .l .l2 + a .j) (c .before .wide .ensures)
 
 -- the losses and the place as the code counts them
-read-is : (c : tie.After-wide3 Inv-loop μ-loop) → let p = c .before .before .before .before .before .before .before in let a = p .before .before .before .args in
-    ((c .before .before .before .before .wide .result * a .l .l2 + a .j) * a .l .nc + c .before .before .wide2 .result ≡ readFrom (a .l) (a .t4) (each (a .t7)) (a .j) (p .loop .s))
+read-is : (c : tie.After-wide3 Inv-loop μ-loop)
+    → let w = c .before .before in
+    let p = w .before .before .before .before .before in
+    let a = p .before .before .before .args in
+    ((w .before .before .wide .result * a .l .l2 + a .j) * a .l .nc + w .wide2 .result
+    ≡ readFrom (a .l) (a .t4) (each (a .t7)) (a .j) (p .loop .s))
     × (c .wide3 .result ≡ getD (a .t4 .end) (p .loop .s) 0)
 read-is c =
-    let a = c .before .before .before .before .before .before .before .before .before .before .args in
-    (ap₂ (λ (u v : ℕ). u * a .l .nc + v) (chunk-is (c .before .before .before)) (c .before .before .wide2 .ensures), c .wide3 .ensures)
+    let w = c .before .before in
+    let a = w .before .before .before .before .before .before .before .before .args in
+    (ap₂ (λ (u v : ℕ). u * a .l .nc + v) (chunk-is (w .before)) (w .wide2 .ensures), c .wide3 .ensures)
 
 loop-holds : tie.Need-loop-holds Inv-loop μ-loop
 unfolding asRead
@@ -101,12 +111,14 @@ wide-requires-3 : tie.Need-wide-requires-3 Inv-loop μ-loop
 wide-requires-3 c κs = search needs
 
 returns : tie.Need-returns Inv-loop μ-loop
-returns c r = absurd (omega (arith, read-is (c .before) .0, read-is (c .before) .1, c .if1 .taken, r .starts (c .before .before .before .before .before .before .before .before .loop .s) (omega arith)))
+returns c r =
+    let w = c .before in
+    let s = w .before .before .before .before .before .before .before .loop .s in
+    absurd (omega (arith, read-is w .0, read-is w .1, c .if1 .taken, r .starts s (omega arith)))
 
 add-if2 : tie.Need-add-if2 Inv-loop μ-loop
 add-if2 c =
     let p = c .before .before .before .before .before .before .before in
-    let a = p .before .before .before .before .args in
     let b = end-low (p .before .before .before .before) (p .before .loop .s) in
     record { fits = omega (arith, c .before .wide3 .ensures, p .before .before .before .before .pre .0 .short) }
 
@@ -115,18 +127,25 @@ add-if2-2 c =
     let p = c .before .before .before .before .before .before .before in
     let s = p .before .before .before .before in
     let b : Fits w8 (getD (s .args .t7) (p .before .loop .s) 0) = search needs in
-    record { fits = rw (read-is (c .before) .0) (omega (arith, low p .1, legal-bounds (s .args .l) (s .pre .0 .allowed) .nc-high)) }
+    let nc = legal-bounds (s .args .l) (s .pre .0 .allowed) .nc-high in
+    record { fits = rw (read-is (c .before) .0) (omega (arith, low p .1)) }
 
 returns-2 : tie.Need-returns-2 Inv-loop μ-loop
-returns-2 c r = absurd (omega (arith, read-is (c .before .before) .0, read-is (c .before .before) .1, c .if2 .taken, r .whole (c .before .before .before .before .before .before .before .before .before .loop .s) (omega arith)))
+returns-2 c r =
+    let w = c .before .before in
+    let s = w .before .before .before .before .before .before .before .loop .s in
+    absurd (omega (arith, read-is w .0, read-is w .1, c .if2 .taken, r .whole s (omega arith)))
 
 number-at-requires : tie.Need-number-at-requires Inv-loop μ-loop
 number-at-requires c κs =
     let s = c .before .before .before .before .before .before .before .before .before .before .before .before in
-    (s .pre .0 .bits, (legal-bounds (s .args .l) (s .pre .0 .allowed) .nc-high, omega (arith, c .if2 .left, c .before .if1 .left)))
+    let f = s .pre .0 in
+    (f .bits, (legal-bounds (s .args .l) (f .allowed) .nc-high, omega (arith, c .if2 .left, c .before .if1 .left)))
 
 array-write-read : tie.Need-array-write-read Inv-loop μ-loop
-array-write-read c = let p = c .before .before .before .before .before .before in omega (arith, chunk-is p, low (p .before .before .before) .0)
+array-write-read c =
+    let p = c .before .before .before .before .before .before in
+    omega (arith, chunk-is p, low (p .before .before .before) .0)
 
 add-s : tie.Need-add-s Inv-loop μ-loop
 add-s c = search needs
@@ -152,7 +171,8 @@ slice-aggregate-line-sum c = search needs
 line-sum-requires : tie.Need-line-sum-requires Inv-loop μ-loop
 line-sum-requires c κs =
     let s = c .before .before .before .before .before in
-    string-inside (s .args .l) (s .pre .0 .allowed) (length (c .before .before .loop .read)) (omega arith) (s .args .j) (s .pre .1)
+    let read = c .before .before .loop .read in
+    string-inside (s .args .l) (s .pre .0 .allowed) (length read) (omega arith) (s .args .j) (s .pre .1)
 
 add-result : tie.Need-add-result Inv-loop μ-loop
 add-result c = search needs
@@ -171,10 +191,14 @@ cast-result c =
 returns-3 : tie.Need-returns-3 Inv-loop μ-loop
 returns-3 c r =
     let p = c .before .before .before .before .before in
-    let s = p .before .before .before in
-    let k : p .loop .s ≡ s .args .t4 .n = omega arith in
-    eq-eqb _ _ (c .before .before .line-sum .ensures
-    ∙ ap (λ (v : List ℕ). sum (line (s .args .l .nc) (s .args .j) (s .args .l .l2) (s .args .l .l1) v)) (p .loop .inv .1 ∙ ap (λ (t : ℕ). asRead (s .args .l) (s .args .y .now) (s .args .t4) (each (s .args .t7)) (s .args .j) t (s .args .row)) k)
+    let a = p .before .before .before .args in
+    let k : p .loop .s ≡ a .t4 .n = omega arith in
+    let all : p .loop .read ≡ asRead (a .l) (a .y .now) (a .t4) (each (a .t7)) (a .j) (a .t4 .n) (a .row) =
+    p .loop .inv .1 ∙ ap (λ (t : ℕ). asRead (a .l) (a .y .now) (a .t4) (each (a .t7)) (a .j) t (a .row)) k
+    in
+    eq-eqb _ _
+    (c .before .before .line-sum .ensures
+    ∙ ap (λ (v : List ℕ). sum (line (a .l .nc) (a .j) (a .l .l2) (a .l .l1) v)) all
     ∙ r .has-sum)
 
 pub reads-spec : {M : Type 1} → statement M

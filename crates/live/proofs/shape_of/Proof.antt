@@ -1,5 +1,5 @@
--- `live::shape_of` meets its contract. The loop's invariant: the strides of the blocks passed are as the shape of the states says, and
--- so is the number of states of these blocks. The measure is what is left of the blocks. Assumes nothing.
+-- `live::shape_of` meets its contract. The loop's invariant: the strides of the blocks passed are as the shape of the states says,
+-- and so is the number of states of these blocks. The measure is what is left of the blocks. Assumes nothing.
 use Prim.Native.Nat.{ℕ, _+_, _-_, _*_, _<_, _≤_}
 use mathlib.Core.Path.{_≡_, refl, ap, ap₂, sym, _∙_}
 use native.Mathlib.Numerals.{add-one}
@@ -9,7 +9,7 @@ use borrow.Author.Needs.{needs}
 use lib.ListN.{length, getD, length-set}
 use mir.Syntax.{w8}
 use mir.Val.{Fits}
-use Rattle.live.specs.Live.{stride, each}
+use Rattle.live.specs.Live.{stride, each, mostStates}
 use Rattle.live.proofs.Entries.{one-more}
 use Rattle.live.proofs.States.{stride-pos}
 use Rattle.live.proofs.shape_of.Statement.{statement}
@@ -17,7 +17,8 @@ use Rattle.live.proofs.shape_of.Tie as tie
 
 abbrev Inv-loop : tie.InvT-loop
 Inv-loop n size stride₀ states₀ s₀ strides states s =
-    ((s ≤ n) × (length strides ≡ 6)) × ((states ≡ stride (each size) s) × (((1 ≤ states) × (states ≤ 729)) × ((t : ℕ) → t < s → getD strides t 0 ≡ stride (each size) t)))
+    ((s ≤ n) × (length strides ≡ 6)) × ((states ≡ stride (each size) s) × (((1 ≤ states) × (states ≤ mostStates))
+    × ((t : ℕ) → t < s → getD strides t 0 ≡ stride (each size) t)))
 
 abbrev μ-loop : tie.MeasureT-loop
 μ-loop n size stride₀ states₀ s₀ strides states s = n - s
@@ -47,7 +48,8 @@ mul-states : tie.Need-mul-states Inv-loop μ-loop
 mul-states c =
     let b : Fits w8 (getD (c .before .before .before .args .t2) (c .before .before .loop .s) 0) = search needs in
     let p = c .before .before .loop in
-    record { fits = omega (arith, mul-le-mul {n₁ = p .states} {m₁ = c .wide .result + 1} {n₂ = 729} {m₂ = 256} (omega arith) (omega (arith, c .wide .ensures))) }
+    let w : c .wide .result + 1 ≤ 256 = omega (arith, c .wide .ensures) in
+    record { fits = omega (arith, mul-le-mul {n₁ = p .states} {m₁ = c .wide .result + 1} {n₂ = mostStates} {m₂ = 256} (omega arith) w) }
 
 returns : tie.Need-returns Inv-loop μ-loop
 returns c =
@@ -64,7 +66,9 @@ unfolding stride
 loop-again c =
     let a = c .before .before .before .before .args in
     let p = c .before .before .before .loop in
-    let g : stride (each (a .t2)) (p .s + 1) ≡ stride (each (a .t2)) (p .s) * (each (a .t2) (p .s) + 1) = ap (stride (each (a .t2))) (add-one (p .s)) in
+    let g : stride (each (a .t2)) (p .s + 1) ≡ stride (each (a .t2)) (p .s) * (each (a .t2) (p .s) + 1) =
+    ap (stride (each (a .t2))) (add-one (p .s))
+    in
     let e : p .states * (c .before .wide .result + 1) ≡ stride (each (a .t2)) (p .s + 1) =
     ap₂ (λ (u v : ℕ). u * (v + 1)) (p .inv .1 .0) (c .before .wide .ensures) ∙ sym g in (
       (omega arith, length-set (p .stride) (p .s) (p .states) ∙ p .inv .0 .1),

@@ -1,5 +1,6 @@
 -- `tables::columns` meets its contract. The measure is what is left of the columns and of the heavy blocks in them. The
--- loop's invariant: every consistent row under the table whose chunk has fewer losses than the share a is known. Rests on
+-- loop's invariant: every consistent row under the table that comes through live loss states, and whose chunk has fewer losses
+-- than the share a, is known. Rests on
 -- the laws of steps (found) and on those of this crate. Assumes nothing.
 use borrow.Author.Needs.{needs}
 use Prim.Native.Nat.{ℕ, _+_, _-_, _*_, _<_}
@@ -43,7 +44,8 @@ columns-below t = and 4 columns-kinds.ps (falls 4 columns-kinds.ps _<_ μ-column
 
 abbrev columns-Inv-loop : columns-lts.InvT-loop
 columns-Inv-loop l y numbers heavy shape live j h cap list₀ t left first k₀ a₀ list k a =
-    Grown l numbers y cap (Fewer l y heavy (Lives l y heavy shape live) j h t a) list₀ (k₀ .count) (k₀ .more) list (k .count) (k .more)
+    Grown l numbers y cap (Fewer l y heavy (Lives l y heavy shape live) j h t a)
+    list₀ (k₀ .count) (k₀ .more) list (k .count) (k .more)
 
 abbrev columns-μ-loop : columns-lts.MeasureT-loop
 columns-μ-loop l y numbers heavy shape live j h cap list₀ t left first k₀ a₀ list k a = left - a
@@ -104,7 +106,8 @@ columns-returns-2 t c =
     let dead = c .before .goes-on .ensures (not-true _ (c .if2 .taken)) in
     grown-nothing (p .1 .0)
     (λ x d u.
-    not-dead (s .args .shape) (s .args .live .now) (p .1 .1 .1 .1 .1) column (rw (dead .0) at (u .0)) (u .1) (dead .1 .0) (dead .1 .1))
+    not-dead (s .args .shape) (s .args .live .now) (p .1 .1 .1 .1 .1) column (rw (dead .0) at (u .0)) (u .1)
+    (dead .1 .0) (dead .1 .1))
 
 columns-column-fits-requires : (t : ℕ)
     → columns-lts.Need-column-fits-requires (called t) (columns-at t) columns.Post columns-Inv-loop columns-μ-loop

@@ -1,4 +1,5 @@
--- `tables::goes_on` meets its contract: inside a column it answers yes, and at its start what `live::alive` answers. Assumes nothing.
+-- `tables::goes_on` meets its contract: inside a column it answers yes, and at its start what `live::alive` answers. Assumes
+-- nothing.
 use mathlib.Core.Bool.{true≢false}
 use borrow.Author.Needs.{needs}
 use Rattle.tables.proofs.goes_on.Statement.{statement}

@@ -38,7 +38,8 @@ returns c =
     let s = f .before .before .before .before .before in
     let p = s .pre in
     let g = f .live-states .ensures in
-    grown-weaken (λ x sent u. (u, lives (f .live-states .result) _ (p .0) sent (p .1 .1) u (long s) (g .0) (g .1))) (d .columns .ensures)
+    grown-weaken (λ x sent u. (u, lives (f .live-states .result) _ (p .0) sent (p .1 .1) u (long s) (g .0) (g .1)))
+    (d .columns .ensures)
 
 pub tables-spec : {M : Type 1} → statement M
 tables-spec =

@@ -1,0 +1,33 @@
+//! The two files that belong to a film, as docs/FORMAT.md describes them: its side messages ([`Messages`]) and the
+//! rows that a line left of it ([`Received`]).
+//!
+//! Bytes from anywhere may be decoded: what does not follow the format is refused with a [`Fault`] that names the first
+//! byte at which it departs from it. [`save`] never leaves a half-written file under the name that it is given.
+#![forbid(unsafe_code)]
+
+mod crc;
+mod cursor;
+mod fault;
+mod messages;
+mod received;
+mod save;
+
+pub use crc::crc32;
+pub use fault::Fault;
+pub use messages::{Head, Messages};
+pub use received::{Received, Row};
+pub use save::save;
+
+/// The first four bytes of a file of messages.
+pub const MESSAGES_MARK: [u8; 4] = *b"DHFM";
+
+/// The first four bytes of a file of received rows.
+pub const RECEIVED_MARK: [u8; 4] = *b"DHRX";
+
+/// The version of both formats.
+pub const VERSION: u16 = 1;
+
+/// The bytes that so many packed bits take.
+pub fn bytes_for(bits: usize) -> usize {
+    bits / 8 + usize::from(bits % 8 != 0)
+}

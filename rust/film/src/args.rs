@@ -1,0 +1,238 @@
+//! The commands and their options.
+
+use std::path::PathBuf;
+
+use clap::{ArgGroup, Parser, Subcommand};
+use dairyhour::Layout;
+
+use crate::layout;
+
+/// Keeps the rows of raster films safe on a line that drops bits.
+///
+/// Beside each row of a film goes a short message over a second, checked line. From the messages and the short rows that
+/// arrive, `film list` works out every row that can have been sent, with a library whose answers are proved to be
+/// complete. Films are PBM files; a file named - is standard input or output. Rows, panels and columns count from 0.
+///
+/// Exit status: 0 done; 1 a row was not recovered alone, or a check found a difference; 2 bad usage or a bad file.
+#[derive(Parser)]
+#[command(name = "film", version, propagate_version = true, disable_help_subcommand = true)]
+pub struct Args {
+    #[command(subcommand)]
+    pub command: Command,
+}
+
+#[derive(Subcommand)]
+pub enum Command {
+    Write(Write),
+    Drop(Drop),
+    List(List),
+    Show(Show),
+    Check(Check),
+    Plot(Plot),
+    Soak(Soak),
+    /// Lists rows for another process
+    #[command(hide = true)]
+    Worker,
+}
+
+/// Write the messages of a film
+///
+/// Each row of the film gets one message. A width that no layout has is padded with white on the right; a film wider
+/// than a row can be (2,040) is cut into panels side by side, and each row of a panel is a row of the line. The file of
+/// messages says so, and `film list` takes the pad off again.
+#[derive(clap::Args)]
+#[command(after_help = "Example:\n  film write board.pbm -o board.rsm")]
+pub struct Write {
+    /// The film (PBM)
+    pub film: PathBuf,
+    /// The file of messages to write
+    #[arg(short, long, value_name = "FILM.rsm")]
+    pub output: PathBuf,
+    /// How rows are cut: l1,l2,nc,r (default: chosen by the width, with 12 checks or more where it allows)
+    #[arg(long, value_parser = layout::parse)]
+    pub layout: Option<Layout>,
+    #[command(flatten)]
+    pub say: Say,
+}
+
+/// Send a film over a simulated line that drops bits
+///
+/// The rows are cut as `film write` cuts them: give the same --layout to both. The same seed drops the same bits.
+#[derive(clap::Args)]
+#[command(after_help = "Example:\n  film drop board.pbm --seed 1 --rate 0.001 -o board.rx")]
+#[command(group(ArgGroup::new("line").required(true).args(["rate", "burst"])))]
+pub struct Drop {
+    /// The film (PBM)
+    pub film: PathBuf,
+    /// The file of received rows to write
+    #[arg(short, long, value_name = "FILM.rx")]
+    pub output: PathBuf,
+    /// What decides which bits are dropped
+    #[arg(long, default_value_t = 1)]
+    pub seed: u64,
+    /// The chance of each bit to be dropped, from 0 to 1
+    #[arg(long, value_parser = chance)]
+    pub rate: Option<f64>,
+    /// Each row loses so many bits side by side
+    #[arg(long, value_name = "BITS")]
+    pub burst: Option<usize>,
+    /// How rows are cut: l1,l2,nc,r (default: as `film write` chooses)
+    #[arg(long, value_parser = layout::parse)]
+    pub layout: Option<Layout>,
+    #[command(flatten)]
+    pub say: Say,
+}
+
+/// List every row that can have been sent
+///
+/// The film that is written has the only row of each list, or the first of several; a row that is not listed is left
+/// white. The report counts them and names each row that was not recovered alone; then the exit status is 1.
+#[derive(clap::Args)]
+#[command(after_help = "Example:\n  film list board.rsm board.rx -o recovered.pbm")]
+pub struct List {
+    /// The messages, as `film write` writes them
+    #[arg(value_name = "FILM.rsm")]
+    pub messages: PathBuf,
+    /// The received rows
+    #[arg(value_name = "FILM.rx")]
+    pub received: PathBuf,
+    /// The film to write (PBM)
+    #[arg(short, long, value_name = "OUT.pbm")]
+    pub output: PathBuf,
+    /// Also write every list as text
+    #[arg(long, value_name = "FILE")]
+    pub lists: Option<PathBuf>,
+    /// The film that was sent, where it is known: says whether each list has the row that was sent
+    #[arg(long, value_name = "FILM.pbm")]
+    pub sent: Option<PathBuf>,
+    #[command(flatten)]
+    pub work: Work,
+    #[command(flatten)]
+    pub say: Say,
+}
+
+/// Show what a file of messages or of received rows says
+#[derive(clap::Args)]
+#[command(after_help = "Example:\n  film show board.rsm --row 17")]
+pub struct Show {
+    /// A file of messages or of received rows
+    #[arg(value_name = "FILE")]
+    pub file: PathBuf,
+    /// Only this row of the line
+    #[arg(long, value_name = "ROW")]
+    pub row: Option<usize>,
+}
+
+/// Compare two films bit by bit, or a film with its messages
+#[derive(clap::Args)]
+#[command(after_help = "Examples:\n  film check board.pbm recovered.pbm\n  film check board.pbm board.rsm")]
+pub struct Check {
+    /// The film (PBM)
+    pub film: PathBuf,
+    /// Another film, or a file of messages
+    pub other: PathBuf,
+    #[command(flatten)]
+    pub say: Say,
+}
+
+/// Draw the sent, the received and the recovered film side by side
+///
+/// In the received film a red mark stands where bits are missing: at the end of the run that lost one, since a loss inside
+/// a run looks the same at each of its places. What is short of a row is pale red. In the recovered film each bit that
+/// is not as it was sent is red.
+#[derive(clap::Args)]
+#[command(after_help = "Example:\n  film plot board.pbm board.rx recovered.pbm -o board.png -o board.svg")]
+pub struct Plot {
+    /// The film that was sent (PBM)
+    #[arg(value_name = "SENT.pbm")]
+    pub sent: PathBuf,
+    /// The received rows
+    #[arg(value_name = "FILM.rx")]
+    pub received: PathBuf,
+    /// The film that was recovered (PBM)
+    #[arg(value_name = "RECOVERED.pbm")]
+    pub recovered: PathBuf,
+    /// The picture to write, PNG or SVG by its ending, - for PNG; may be given more than once
+    #[arg(short, long, value_name = "PICTURE", required = true)]
+    pub output: Vec<PathBuf>,
+    /// The most pixels that a film is wide in the picture
+    #[arg(long, value_name = "PIXELS", default_value_t = 680, value_parser = clap::value_parser!(u32).range(50..=10_000))]
+    pub width: u32,
+}
+
+/// Try the library on this machine
+///
+/// Rows of the given films and of every made-up kind are written, robbed of 0 to 12 bits and listed. Each list must hold
+/// the row that was sent, and only rows that fit the message and the received row, in order and each once; an
+/// independent implementation says so. At the first row that is missing or wrong it stops and prints the case. The exit
+/// status is 1 for such a row, and also where a row was given up.
+#[derive(clap::Args)]
+#[command(after_help = "Example:\n  film soak --rows 10000 --seed 7 board.pbm")]
+pub struct Soak {
+    /// Films whose rows are tried beside the made-up ones (PBM)
+    pub films: Vec<PathBuf>,
+    /// How many rows are tried
+    #[arg(long, default_value_t = 1000)]
+    pub rows: usize,
+    /// What decides which rows and losses are tried
+    #[arg(long, default_value_t = 1)]
+    pub seed: u64,
+    /// The most bits that a row loses
+    #[arg(long, value_name = "BITS", default_value_t = 12, value_parser = clap::value_parser!(u16).range(0..=12))]
+    pub most: u16,
+    /// How rows are cut: l1,l2,nc,r (default: several for made-up rows; for films as `film write` chooses)
+    #[arg(long, value_parser = layout::parse)]
+    pub layout: Option<Layout>,
+    #[command(flatten)]
+    pub work: Work,
+    #[command(flatten)]
+    pub say: Say,
+}
+
+#[derive(clap::Args)]
+pub struct Work {
+    /// Threads (default: one for each processor)
+    #[arg(long, value_name = "N", default_value_t = 0, hide_default_value = true)]
+    pub jobs: usize,
+    /// A row that takes longer is given up and reported; its work is stopped. 0: without limit
+    #[arg(long, value_name = "SECONDS", default_value_t = 60.0, value_parser = seconds)]
+    pub patience: f64,
+    /// The program that lists rows in place of this one
+    #[arg(long, hide = true)]
+    pub worker: Option<PathBuf>,
+}
+
+#[derive(clap::Args)]
+pub struct Say {
+    /// Say nothing but what is wrong
+    #[arg(short, long)]
+    pub quiet: bool,
+    /// Report as JSON
+    #[arg(long)]
+    pub json: bool,
+}
+
+fn chance(text: &str) -> Result<f64, String> {
+    match text.parse() {
+        Ok(rate) if (0.0..=1.0).contains(&rate) => Ok(rate),
+        _ => Err(String::from("a number from 0 to 1 is wanted")),
+    }
+}
+
+fn seconds(text: &str) -> Result<f64, String> {
+    match text.parse() {
+        Ok(seconds) if (0.0..=1e9).contains(&seconds) => Ok(seconds),
+        _ => Err(String::from("a number of seconds is wanted, 0 or more")),
+    }
+}
+
+#[cfg(test)]
+mod tests {
+    use super::*;
+    use clap::CommandFactory;
+
+    #[test]
+    fn the_commands_are_well_formed() {
+        Args::command().debug_assert();
+    }
+}

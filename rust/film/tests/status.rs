@@ -1,0 +1,136 @@
+//! Each exit status, and what is said with it.
+
+mod common;
+
+use std::fs;
+
+use common::{ends, film, film_with, folder, refused, text};
+
+/// Marked case 8 of the scope paper as a film of one row: six bits arrived, and two rows fit.
+fn case_8(name: &str) -> std::path::PathBuf {
+    let folder = folder(name);
+    fs::write(folder.join("film.pbm"), "P1\n8 1\n0 0 1 1 0 1 1 0\n").unwrap();
+    ends(0, &folder, "write film.pbm --layout 2,1,4,0 -o film.rsm");
+    let received = container::Received { row_bits: 8, rows: vec![container::Row { bits: 6, packed: vec![0x3C] }] };
+    fs::write(folder.join("film.rx"), received.encode()).unwrap();
+    folder
+}
+
+#[test]
+fn several_rows_are_status_1() {
+    let folder = case_8("several");
+    let report = ends(1, &folder, "list film.rsm film.rx --sent film.pbm --lists lists.txt -o out.pbm");
+    assert!(report.contains("several rows       1 (size: lists; 2: 1)\n"), "{report}");
+    assert!(report.contains("row 0: count 2, 2 bits lost\n"), "{report}");
+    assert!(report.contains("sent but missing   0\n"), "{report}");
+    assert_eq!(fs::read_to_string(folder.join("lists.txt")).unwrap(), "row 0 received 6 count 2\n36\n39\n");
+    ends(0, &folder, "check film.pbm out.pbm");
+    let report = ends(1, &folder, "list film.rsm film.rx --json -o out.pbm");
+    assert!(report.contains("\"several\":{\"2\":1}"), "{report}");
+    assert!(report.contains("\"open\":[{\"row\":0,\"panel\":0,\"lost\":2,\"outcome\":\"count 2\"}]"), "{report}");
+}
+
+/// Rows that lost more than 12 bits are refused by 7 and left white.
+#[test]
+fn refused_rows_are_status_1() {
+    let folder = folder("refused");
+    fs::write(folder.join("film.pbm"), common::made_up(60, 2)).unwrap();
+    ends(0, &folder, "write film.pbm -o film.rsm");
+    ends(0, &folder, "drop film.pbm --burst 13 -o film.rx");
+    let report = ends(1, &folder, "list film.rsm film.rx -o out.pbm");
+    assert!(report.contains("not listed         2 (refused by 7: 2)\n"), "{report}");
+    let film = text(&fs::read(folder.join("out.pbm")).unwrap());
+    assert_eq!(film, format!("P4\n60 2\n{}", "\0".repeat(16)));
+}
+
+#[test]
+fn bad_usage_is_status_2() {
+    let folder = case_8("usage");
+    for words in [
+        "",
+        "unknown",
+        "write",
+        "write film.pbm",
+        "write film.pbm -o x.rsm --layout 1,2,3",
+        "write film.pbm -o x.rsm --layout 16,1,4,1",
+        "drop film.pbm -o x.rx",
+        "drop film.pbm --rate 2 -o x.rx",
+        "drop film.pbm --rate 0.1 --burst 2 -o x.rx",
+        "list film.rsm film.rx",
+        "list film.rsm film.rx -o x.pbm --patience -1",
+        "list film.rsm film.rx -o x.pbm --jobs many",
+        "plot film.pbm film.rx film.pbm",
+        "soak --most 13",
+    ] {
+        let output = film(&folder, words);
+        assert_eq!(output.status.code(), Some(2), "film {words}");
+        assert!(!output.stderr.is_empty(), "film {words}");
+    }
+    assert!(fs::read_dir(&folder).unwrap().all(|entry| !entry.unwrap().file_name().to_string_lossy().starts_with('x')));
+}
+
+#[test]
+fn files_that_do_not_go_together_are_status_2() {
+    let folder = case_8("together");
+    assert!(refused(&folder, "write none.pbm -o x.rsm").contains("none.pbm: "));
+    assert!(refused(&folder, "list - - -o x.pbm").contains("only one"));
+    assert!(refused(&folder, "show film.rsm --row 1").contains("there is no row 1"));
+    assert!(refused(&folder, "plot film.pbm film.rx film.pbm -o picture.jpeg").contains(".png or .svg"));
+    assert!(refused(&folder, "write film.pbm -o none/film.rsm").contains("none/film.rsm: "));
+    fs::write(folder.join("other.pbm"), common::made_up(8, 2)).unwrap();
+    ends(0, &folder, "drop other.pbm --layout 2,1,4,0 --burst 1 -o two.rx");
+    assert!(refused(&folder, "list film.rsm two.rx -o x.pbm").contains("1 message, but 2 rows arrived"));
+    ends(0, &folder, "drop film.pbm --layout 1,1,4,0 --burst 1 -o four.rx");
+    assert!(refused(&folder, "list film.rsm four.rx -o x.pbm").contains("rows of 8 bits, but rows of 4 were sent"));
+    assert!(refused(&folder, "list film.rsm film.rx --sent other.pbm -o x.pbm").contains("8 × 2"));
+    assert!(refused(&folder, "check film.pbm other.pbm").contains("8 × 2"));
+    assert!(refused(&folder, "check other.pbm film.rsm").contains("8 × 1"));
+    assert!(refused(&folder, "plot other.pbm film.rx other.pbm -o x.png").contains("but 1 arrived"));
+}
+
+#[test]
+fn help_is_status_0_and_has_an_example() {
+    let folder = folder("help");
+    for command in ["write", "drop", "list", "show", "check", "plot", "soak"] {
+        let help = ends(0, &folder, &format!("{command} --help"));
+        assert!(help.contains(&format!("film {command} board")) || help.contains("film soak --rows"), "{help}");
+    }
+    assert!(ends(0, &folder, "--help").contains("Exit status: 0"));
+    assert!(ends(0, &folder, "--version").starts_with("film "));
+}
+
+/// `-` is standard input and output, and the report then goes to standard error.
+#[test]
+fn standard_input_and_output() {
+    let folder = case_8("standard");
+    let file = |name: &str| fs::read(folder.join(name)).unwrap();
+    let output = film_with(&folder, "write - --layout 2,1,4,0 -o -", &file("film.pbm"));
+    assert_eq!(output.stdout, file("film.rsm"));
+    assert!(text(&output.stderr).contains("layout     2,1,4,0"));
+    let output = film_with(&folder, "write - --layout 2,1,4,0 --quiet -o -", &file("film.pbm"));
+    assert_eq!((output.stdout, output.stderr), (file("film.rsm"), vec![]));
+    ends(0, &folder, "drop film.pbm --layout 2,1,4,0 --burst 1 -o dropped.rx");
+    assert_eq!(film(&folder, "drop film.pbm --layout 2,1,4,0 --burst 1 -o -").stdout, file("dropped.rx"));
+    ends(1, &folder, "list film.rsm film.rx -o out.pbm");
+    for (words, input) in [("list - film.rx -o -", "film.rsm"), ("list film.rsm - -o -", "film.rx")] {
+        let output = film_with(&folder, words, &file(input));
+        assert_eq!((output.status.code(), output.stdout), (Some(1), file("out.pbm")));
+    }
+    let shown = film_with(&folder, "show -", &file("film.rsm"));
+    assert!(text(&shown.stdout).contains("  block sums         2 0\n  chunk-string sums  2\n  checks             \n"));
+    let shown = film_with(&folder, "show -", &file("film.rx"));
+    assert!(text(&shown.stdout).contains("row 0: 6 bits 3C\n"));
+    assert_eq!(film_with(&folder, "check - out.pbm", &file("film.pbm")).status.code(), Some(0));
+    let picture = film(&folder, "plot film.pbm film.rx out.pbm -o -").stdout;
+    assert!(picture.starts_with(b"\x89PNG\r\n"));
+}
+
+#[test]
+fn pictures_by_their_ending() {
+    let folder = case_8("pictures");
+    ends(1, &folder, "list film.rsm film.rx -o out.pbm");
+    ends(0, &folder, "plot film.pbm film.rx out.pbm -o picture.png -o picture.SVG");
+    assert!(fs::read(folder.join("picture.png")).unwrap().starts_with(b"\x89PNG\r\n"));
+    let svg = fs::read_to_string(folder.join("picture.SVG")).unwrap();
+    assert!(svg.contains("<svg") && svg.contains("data:image/png;base64,") && svg.contains("received: 2 bits lost"));
+}

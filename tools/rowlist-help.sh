@@ -1,0 +1,20 @@
+#!/bin/sh
+# What rowlist would say of itself: it takes no arguments, so its man page is made from this text.
+cat <<'END'
+Usage: rowlist < INPUT
+
+Lists every row that is consistent with a message and a received row. Reads standard input, at most its first 4,096 bytes:
+the length of the message (2 bytes, high first), the message, the number m of received bits (2 bytes, high first), and the
+received row in the remaining bytes, packed first bit highest.
+
+Prints a line with the word count and the number of rows, then each row on a line of its own in capital hexadecimal, in
+dictionary order. Where the input is refused, prints one line, the word refused and the number of the refusal. It lists at most
+as many rows as 4,096 bytes hold; where there are more, it is refused by 9.
+
+The program is proved, as the library is: it ends, and prints what is written here, for any input.
+
+Example:
+  printf '\000\013RSM\000\001\002\001\004\000\100\200\000\006\074' | rowlist
+
+prints the lines count 2, 36 and 39.
+END
