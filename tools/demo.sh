@@ -28,11 +28,21 @@ run "$film" check "$board" "$out/recovered.pbm"
 [ $? -ne 2 ] || exit 1
 run "$film" plot "$board" "$out/board.rx" "$out/recovered.pbm" -o "$out/board.png" -o "$out/board.svg" || exit 1
 
+# A number of the report, by the words in front of it.
+number() {
+    sed -n "s/^$1 *\([0-9]*\).*/\1/p" "$out/report.txt"
+}
+rows=$(number rows)
+listed=$((rows - $(number 'not listed')))
+
 echo
 echo "The recovered film is $out/recovered.pbm; sent, received and recovered film side by side: $out/board.png and board.svg."
-if grep -q '^sent but missing   0$' "$out/report.txt"; then
-    echo "Every list that was not refused has the row that was sent."
-else
+if [ "$(number 'sent but missing')" != 0 ]; then
     echo "A row that was sent is MISSING from a list that was not refused."
     exit 1
 fi
+if [ "$listed" -eq 0 ]; then
+    echo "No row was listed at all, so nothing is shown."
+    exit 1
+fi
+echo "$listed of $rows rows were listed, and each of these lists has the row that was sent."

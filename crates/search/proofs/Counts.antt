@@ -22,7 +22,7 @@ use Rattle.found.specs.Found.{Given, Sent, Holding, Grown}
 use Rattle.found.proofs.Found.{grown-nothing, grown-then, grown-weaken}
 use Rattle.search.specs.Patterns.{Under, lostIn, Tabled, Tried, Begun}
 use Rattle.search.proofs.Losses.{lost-next, lost-most, lost-last, tried-can, tried-light}
-use Rattle.search.proofs.Totals.{total-next}
+use Rattle.anchor.proofs.Totals.{total-next}
 
 -- ---- the first blocks of the row in hand
 -- where they stay, each of their chunks does

@@ -10,7 +10,8 @@ use Rattle.bits.proofs.Laws.{lt-or-ge}
 use Rattle.consistent.specs.Greedy.{inAll}
 use Rattle.live.specs.declared.Heavy.{Heavy}
 use Rattle.search.specs.Patterns.{HeavyIn, Joined}
-use Rattle.search.proofs.Totals.{total-next, total-set}
+use Rattle.anchor.proofs.Totals.{total-next}
+use Rattle.search.proofs.Totals.{total-set}
 
 -- either below i or i itself
 below-next : (b i : ℕ) → b < i + 1 → (b < i) ⊎ (b ≡ i)

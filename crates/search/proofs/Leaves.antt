@@ -23,7 +23,7 @@ use Rattle.live.specs.declared.Heavy.{Heavy}
 use Rattle.tables.specs.declared.Table.{Table}
 use Rattle.search.specs.Patterns.{Under, HeavyIn}
 use Rattle.search.proofs.Losses.{blocks-lose}
-use Rattle.search.proofs.Totals.{total-next}
+use Rattle.anchor.proofs.Totals.{total-next}
 
 -- the counts of a consistent row are all losses
 pub all-counts : {l : Layout} {numbers y : List ℕ} (given : Given l numbers y) (counts row x : List ℕ) → Sent l numbers y x

@@ -14,7 +14,9 @@ ghost use Rattle.message.specs.Layout.{legal, rowBits, blockBits};
 ghost use Rattle.message.specs.Read.{fields};
 ghost use Rattle.consistent.specs.Consistent.{mostLosses};
 ghost use Rattle.consistent.specs.Greedy.{inAll};
+ghost use Rattle.rows.specs.Slice.{rowsIn};
 ghost use Rattle.found.specs.Found.{Given, Holding, Grown, Listed};
+ghost use Rattle.anchor.specs.Anchor.{Anchored};
 ghost use Rattle.search.specs.Patterns.{Under, hasSum, Tabled, Tried, HeavyIn, Joined, Begun};
 
 // One count for each block, and their sum.
@@ -255,7 +257,8 @@ fn one_pattern(
 }
 
 // The rows under the first counts of a pattern: each count that block i can lose is tried in turn, and the later blocks share out what
-// is left; the last block takes all of it. The part of the received row that starts at block i is handed on, with its tables.
+// is left; the last block takes all of it. The part of the received row that starts at block i is handed on, with its tables. Where no
+// row but the anchor can be under the first counts, nothing is tried; once a row is held, it becomes the anchor.
 fn patterns(
     l: Layout,
     y: &[u8],
@@ -266,23 +269,30 @@ fn patterns(
     later: usize,
     pattern: Pattern,
     row: &mut [u8],
+    desk: &mut [u8],
     cap: usize,
     list: &mut [u8],
     kept: Kept,
 ) -> Kept
     requires { ⌜ (Given l (now numbers) (now y) × Holding l (now numbers) (now y) cap (now list) (kept .count) (kept .more))
         × ((later ≤ l .l1) × (Begun l (now y) (now rest) (pattern .counts) (now row) (l .l1 - later) (pattern .total)
-        × Tabled (now rest) ((l .l1 - later) * blockBits l - pattern .total) (now totals) (now counts))) ⌝ }
+        × (Tabled (now rest) ((l .l1 - later) * blockBits l - pattern .total) (now totals) (now counts)
+        × Anchored l (now numbers) (now y) (rowsIn (rowBits l) (now list) (kept .count) (kept .more)) (now desk)))) ⌝ }
     ensures { λ r. ⌜ Grown l (now (numbers .entry)) (now (y .entry)) cap
         (Under l (now (y .entry)) (pattern .counts) (l .l1 - later) (now (row .entry)))
         (now (list .entry)) (kept .count) (kept .more) (now (list .exit)) (r .count) (r .more)
-        × (take ((l .l1 - later) * l .l2) (now (row .exit)) ≡ take ((l .l1 - later) * l .l2) (now (row .entry))) ⌝ }
+        × ((take ((l .l1 - later) * l .l2) (now (row .exit)) ≡ take ((l .l1 - later) * l .l2) (now (row .entry)))
+        × Anchored l (now (numbers .entry)) (now (y .entry)) (rowsIn (rowBits l) (now (list .exit)) (r .count) (r .more)) (now (desk .exit))) ⌝ }
 {
+    let i = l.l1 - later;
+    let own = pattern.counts;
+    if anchor::near_anchor(l, numbers, y, desk, own, row, i) {
+        return kept;
+    }
     if later == 0 {
         return one_pattern(l, y, numbers, pattern, row, cap, list, kept);
     }
     let nb = l.l2 * l.nc;
-    let i = l.l1 - later;
     let p = i * nb - pattern.total;
     let most = l.l1 * nb - y.len() - pattern.total;
     let mut first: usize = 0;
@@ -306,18 +316,28 @@ fn patterns(
                 later - 1,
                 next,
                 row,
+                desk,
                 cap,
                 list,
                 k,
             );
+            anchor::set_anchor(l, y, numbers, cap, list, k, desk);
         }
     }
     k
 }
 
-// All consistent rows, by their loss patterns. The tables of the received row are made once for all patterns.
-fn all_patterns(l: Layout, y: &[u8], numbers: &[u16], cap: usize, list: &mut [u8]) -> Kept
-    requires { ⌜ Given l (now numbers) (now y) × (cap * bytesFor (rowBits l) ≤ length (now list)) ⌝ }
+// All consistent rows, by their loss patterns. The tables of the received row are made once for all patterns; the desk has no
+// anchor yet.
+fn all_patterns(
+    l: Layout,
+    y: &[u8],
+    numbers: &[u16],
+    desk: &mut [u8],
+    cap: usize,
+    list: &mut [u8],
+) -> Kept
+    requires { ⌜ Given l (now numbers) (now y) × ((cap * bytesFor (rowBits l) ≤ length (now list)) × (getD (now desk) 0 0 ≡ 0)) ⌝ }
     ensures { λ r. ⌜ Listed l (now (numbers .entry)) (now (y .entry)) cap (now (list .entry)) (now (list .exit))
         (r .count) (r .more) ⌝ }
 {
@@ -343,10 +363,26 @@ fn all_patterns(l: Layout, y: &[u8], numbers: &[u16], cap: usize, list: &mut [u8
         l.l1,
         start,
         &mut row,
+        desk,
         cap,
         list,
         none,
     )
+}
+
+// All consistent rows where bits were lost. Where it is only one an anchor is not worth its preparation: the desk is too short for it.
+fn some_lost(l: Layout, y: &[u8], numbers: &[u16], cap: usize, list: &mut [u8]) -> Kept
+    requires { ⌜ Given l (now numbers) (now y) × (cap * bytesFor (rowBits l) ≤ length (now list)) ⌝ }
+    ensures { λ r. ⌜ Listed l (now (numbers .entry)) (now (y .entry)) cap (now (list .entry)) (now (list .exit))
+        (r .count) (r .more) ⌝ }
+{
+    let lost = l.l1 * l.l2 * l.nc - y.len();
+    if lost < 2 {
+        let mut short: [u8; 1] = [0; 1];
+        return all_patterns(l, y, numbers, &mut short, cap, list);
+    }
+    let mut desk: [u8; anchor::DESK] = [0; anchor::DESK];
+    all_patterns(l, y, numbers, &mut desk, cap, list)
 }
 
 // All consistent rows: the first of them, as many as fit, in the list slice. Where no bit is lost, only the received row can be one.
@@ -356,7 +392,7 @@ pub fn search(l: Layout, y: &[u8], numbers: &[u16], cap: usize, list: &mut [u8])
         (r .count) (r .more) ⌝ }
 {
     if y.len() < l.l1 * l.l2 * l.nc {
-        return all_patterns(l, y, numbers, cap, list);
+        return some_lost(l, y, numbers, cap, list);
     }
     let none = Kept {
         count: 0,

@@ -139,7 +139,8 @@ pub struct Check {
 ///
 /// In the received film a red mark stands where bits are missing: at the end of the run that lost one, since a loss inside
 /// a run looks the same at each of its places. What is short of a row is pale red. In the recovered film each bit that
-/// is not as it was sent is red.
+/// is not as it was sent is red. A row that was not listed is white there, so it looks recovered where a blank row was
+/// sent; the report of `film list` says which rows were not listed.
 #[derive(clap::Args)]
 #[command(after_help = "Example:\n  film plot board.pbm board.rx recovered.pbm -o board.png -o board.svg")]
 pub struct Plot {

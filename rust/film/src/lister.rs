@@ -14,6 +14,9 @@ use crate::args::Work;
 use crate::trouble::{Result, Trouble};
 use crate::worker::{Silence, Worker};
 
+/// The stack of each thread, in bytes: several times what a list takes.
+const STACK: usize = 8 << 20;
+
 /// What is to be listed: a message, and the received row with its number of bits.
 #[derive(Clone, Copy)]
 pub struct Task<'a> {
@@ -119,7 +122,7 @@ impl Lister {
         quiet: bool,
         job: impl Fn(usize) -> Result<T> + Sync + Send,
     ) -> Result<Vec<T>> {
-        let threads = rayon::ThreadPoolBuilder::new().num_threads(self.jobs).build();
+        let threads = rayon::ThreadPoolBuilder::new().num_threads(self.jobs).stack_size(STACK).build();
         let threads = threads.map_err(|error| Trouble::with("threads", error))?;
         let bar = progress(count, quiet);
         let done = threads.install(|| {

@@ -61,7 +61,7 @@ fn more_bits_lost() {
         let output = common::film(&folder, &words);
         let report = common::text(&output.stdout);
         assert!(report.contains("\"missing\":0,"), "{report}");
-        assert!(report.contains("\"rows\":54,"), "{report}");
+        assert!(report.contains("\"rows\":54,") && report.contains("\"given_up\":0,\"worker_ended\":0,"), "{report}");
     }
 }
 

@@ -64,6 +64,17 @@ fn a_worker_that_ends_costs_one_row() {
     assert!(line.contains("./none: ") && !folder.join("none.pbm").exists());
 }
 
+/// Lists without the row that was sent are counted: this worker answers each question by an empty list.
+#[test]
+fn a_missing_row_is_seen() {
+    let folder = files("missing");
+    let script = worker(&folder, "head -c 36 /dev/zero\ncat >/dev/null");
+    let words = format!("list film.rsm film.rx --sent film.pbm --jobs 1 --worker {} -o out.pbm", script.display());
+    let report = ends(1, &folder, &words);
+    assert!(report.contains("not listed         3 (no row fits: 3)\n"), "{report}");
+    assert!(report.contains("sent but missing   3\n"), "{report}");
+}
+
 /// Killed while it lists, the tool leaves the file that stood there, no other one, and no worker.
 #[test]
 fn a_killed_tool_leaves_nothing_half_written() {

@@ -1,9 +1,9 @@
 -- `search::patterns` meets its contract. The measure of the recursion is the number of later blocks. The loop's invariant: the rows
--- under the first counts whose block i loses fewer than a bits are known, and the blocks before block i stay in the row in hand.
--- Rests on the laws of Counts.antt. Assumes nothing.
+-- under the first counts whose block i loses fewer than a bits are known, the blocks before block i stay in the row in hand, and the
+-- desk's anchor is known. Rests on the laws of Counts.antt. Assumes nothing.
 use borrow.Author.Needs.{needs}
 use Prim.Native.Nat.{ℕ, _+_, _-_, _*_, _<_, _≤_}
-use mathlib.Core.Path.{_≡_, refl}
+use mathlib.Core.Path.{_≡_, refl, _∙_}
 use mathlib.Core.Logic.{⊎-elim}
 use mathlib.Core.List.{List}
 use native.Mathlib.Nat.{mul-le-mul-right}
@@ -13,65 +13,81 @@ use borrow.Fn.PlainCycle.{Measures, is, falls, and}
 use borrow.Rule.Slice.PartAt.{part-to-end}
 use lib.ListN.{length}
 use Rattle.bits.proofs.Laws.{bits-drop}
+use Rattle.rows.specs.Slice.{rowsIn}
 use Rattle.message.specs.Layout.{rowBits, blockBits}
 use Rattle.message.proofs.Fields.{field-room}
 use Rattle.message.proofs.Legal.{Sizes, legal-bounds, sizes}
-use Rattle.found.proofs.Found.{grown-holding, grown-length}
+use Rattle.found.proofs.Found.{grown-holding, grown-length, grown-none}
+use Rattle.anchor.specs.Anchor.{Anchored}
+use Rattle.anchor.proofs.Anchor.{anchored-stays}
 use Rattle.search.proofs.Counts.{Next, Tries, begun-next, tabled-next, tries-start, tries-none, tries-next, tries-all}
 use Rattle.search.proofs.patterns.Reads as patterns
 use Rattle.search.proofs.patterns.Kinds as patterns-kinds
 use Rattle.search.proofs.+patterns.Lts-patterns as patterns-lts
+use Rattle.anchor.proofs.near_anchor.Reads as near-anchor-reads
+use Rattle.anchor.proofs.set_anchor.Reads as set-anchor-reads
 use Rattle.search.proofs.one_pattern.Reads as one-pattern-reads
 use Rattle.search.proofs.try_block.Reads as try-block-reads
 use Rattle.search.proofs.+patterns.{statement}
 use Rattle.search.proofs.+patterns.Tie.{close}
 
-abbrev μ-patterns : Measures 7 patterns-kinds.ps ℕ
+abbrev μ-patterns : Measures 8 patterns-kinds.ps ℕ
 μ-patterns κs a = a .1 .1 .1 .1 .1 .1 .0
 
-abbrev patterns-at : ℕ → In 7 patterns-kinds.ps
-patterns-at t = and 7 patterns-kinds.ps (is 7 patterns-kinds.ps μ-patterns t) patterns.Pre
+abbrev patterns-at : ℕ → In 8 patterns-kinds.ps
+patterns-at t = and 8 patterns-kinds.ps (is 8 patterns-kinds.ps μ-patterns t) patterns.Pre
 
-abbrev patterns-below : ℕ → In 7 patterns-kinds.ps
-patterns-below t = and 7 patterns-kinds.ps (falls 7 patterns-kinds.ps _<_ μ-patterns t) patterns.Pre
+abbrev patterns-below : ℕ → In 8 patterns-kinds.ps
+patterns-below t = and 8 patterns-kinds.ps (falls 8 patterns-kinds.ps _<_ μ-patterns t) patterns.Pre
 
 abbrev patterns-Inv-loop : patterns-lts.InvT-loop
-patterns-Inv-loop l y numbers rest totals counts later pattern row₀ cap list₀ nb i p most first k₀ a₀ row list k a =
+patterns-Inv-loop l y numbers rest totals counts later pattern row₀ desk₀ cap list₀ i nb p most first k₀ a₀ row desk list k a =
     (a ≤ most)
-    × Tries l numbers y cap (pattern .counts) i (pattern .total) row₀ list₀ (k₀ .count) (k₀ .more) row list (k .count) (k .more) a
+    × (Tries l numbers y cap (pattern .counts) i (pattern .total) row₀ list₀ (k₀ .count) (k₀ .more) row list (k .count) (k .more) a
+    × ((length desk ≡ length desk₀) × Anchored l numbers y (rowsIn (rowBits l) list (k .count) (k .more)) desk))
 
 abbrev patterns-μ-loop : patterns-lts.MeasureT-loop
-patterns-μ-loop l y numbers rest totals counts later pattern row₀ cap list₀ nb i p most first k₀ a₀ row list k a = most - a
+patterns-μ-loop l y numbers rest totals counts later pattern row₀ desk₀ cap list₀ i nb p most first k₀ a₀ row desk list k a = most - a
 
 -- what the functions that are called promise, this one below its measure
 abbrev called : ℕ → patterns-lts.Claims
 called t = (
+  near-anchor-reads.Asked,
+  near-anchor-reads.Learnt,
   one-pattern-reads.Asked,
   one-pattern-reads.Learnt,
   try-block-reads.Asked,
   try-block-reads.Learnt,
   patterns-below t,
   patterns.Post,
+  set-anchor-reads.Asked,
+  set-anchor-reads.Learnt,
 )
 
--- places of the code: the entry, before the loop, the loop, a turn in which block i can lose a bits, and the end of a turn
+-- places of the code: the entry, after the test of the anchor, before the loop, the loop, a turn in which block i can lose a bits, and the end of a turn
 abbrev Start : ℕ → Type 0
 Start t = patterns-lts.Start (called t) (patterns-at t) patterns.Post patterns-Inv-loop patterns-μ-loop
 
+abbrev Tested : ℕ → Type 0
+Tested t = patterns-lts.After-near-anchor (called t) (patterns-at t) patterns.Post patterns-Inv-loop patterns-μ-loop
+
 abbrev Ready : ℕ → Type 0
-Ready t = patterns-lts.Joined2 (called t) (patterns-at t) patterns.Post patterns-Inv-loop patterns-μ-loop
+Ready t = patterns-lts.Joined3 (called t) (patterns-at t) patterns.Post patterns-Inv-loop patterns-μ-loop
 
 abbrev Loop : ℕ → Type 0
 Loop t = patterns-lts.At-loop (called t) (patterns-at t) patterns.Post patterns-Inv-loop patterns-μ-loop
 
 abbrev Can : ℕ → Type 0
-Can t = patterns-lts.Then3 (called t) (patterns-at t) patterns.Post patterns-Inv-loop patterns-μ-loop
+Can t = patterns-lts.Then4 (called t) (patterns-at t) patterns.Post patterns-Inv-loop patterns-μ-loop
 
 abbrev Turned : ℕ → Type 0
-Turned t = patterns-lts.Joined3 (called t) (patterns-at t) patterns.Post patterns-Inv-loop patterns-μ-loop
+Turned t = patterns-lts.Joined4 (called t) (patterns-at t) patterns.Post patterns-Inv-loop patterns-μ-loop
+
+abbrev entry : (t : ℕ) → Tested t → Start t
+entry t c = c .before .before .before .before .before .before .before .before .before .before .before .before .before
 
 abbrev start : (t : ℕ) → Ready t → Start t
-start t c = c .before .before .before .before .before .before .before .before .before .before .before .before .before .before
+start t c = entry t (c .before .before .before .before .before .before .before)
 
 abbrev loop : (t : ℕ) → Can t → Loop t
 loop t c = c .before .before .before .before .before .before
@@ -87,7 +103,7 @@ next : (t : ℕ) (c : Ready t) → let a = start t c .args in
     Next (a .l) (a .numbers .now) (a .y .now) (a .pattern .counts) (a .l .l1 - a .later) (a .pattern .total)
 next t c =
     let s = start t c in
-    let some = c .before .before .before .before .before .before .if1 .left in
+    let some = c .before .before .before .before .before .if2 .left in
     let few = s .pre .1 .1 .0 in
     let counted = length-counts t s in
     record { given = s .pre .1 .0 .0; inside = omega arith; room = omega (arith, high t s .l1-high); sums = s .pre .1 .1 .1 .0 .sums }
@@ -105,24 +121,26 @@ left-over t s =
 -- it has as many bits, and as many remain as it keeps
 within : (t : ℕ) (c : Can t) → let p = loop t c in let a = start t (p .before) .args in
     (p .loop .a ≤ blockBits (a .l)) × (blockBits (a .l) - p .loop .a ≤ length (a .rest .now))
-within t c = c .before .before .before .try-block .ensures .within (c .if3 .taken)
+within t c = c .before .before .before .try-block .ensures .within (c .if4 .taken)
 
 -- and the tables go on behind these
 tabled-within : (t : ℕ) (c : Can t) → let p = loop t c in let a = start t (p .before) .args in
     (blockBits (a .l) - p .loop .a ≤ length (a .totals .now)) × (blockBits (a .l) - p .loop .a ≤ length (a .counts .now))
 tabled-within t c =
-    let w = start t (loop t c .before) .pre .1 .1 .1 .1 .tables in
+    let w = start t (loop t c .before) .pre .1 .1 .1 .1 .0 .tables in
     let h = within t c .1 in
     (omega (arith, w .totals-long), omega (arith, w .counts-long))
 
-patterns-one-pattern-requires : (t : ℕ)
-    → patterns-lts.Need-one-pattern-requires (called t) (patterns-at t) patterns.Post patterns-Inv-loop patterns-μ-loop
-patterns-one-pattern-requires t c κs =
-    let s = c .before .before .before .before .before .before .before .before .before .before in
-    let last = c .before .before .if1 .taken in
-    let e : s .args .l .l1 - s .args .later ≡ s .args .l .l1 = omega arith in
+patterns-sub-i : (t : ℕ) → patterns-lts.Need-sub-i (called t) (patterns-at t) patterns.Post patterns-Inv-loop patterns-μ-loop
+patterns-sub-i t c = c .before .before .before .before .before .before .before .before .before .pre .1 .1 .0
+
+patterns-near-anchor-requires : (t : ℕ)
+    → patterns-lts.Need-near-anchor-requires (called t) (patterns-at t) patterns.Post patterns-Inv-loop patterns-μ-loop
+patterns-near-anchor-requires t c κs =
+    let s = c .before .before .before .before .before .before .before .before .before .before .before .before in
     let b = s .pre .1 .1 .1 .0 in
-    (s .pre .1 .0 .0, (s .pre .1 .0 .1, (b .hand, rw e at (b .sums))))
+    let row = high t s .chunks in
+    (s .pre .1 .0 .0, (omega (arith, b .hand), (omega arith, omega (arith, b .sums, b .most))))
 
 patterns-same-length : (t : ℕ)
     → patterns-lts.Need-same-length (called t) (patterns-at t) patterns.Post patterns-Inv-loop patterns-μ-loop
@@ -132,70 +150,98 @@ patterns-same-length-2 : (t : ℕ)
     → patterns-lts.Need-same-length-2 (called t) (patterns-at t) patterns.Post patterns-Inv-loop patterns-μ-loop
 patterns-same-length-2 t c = search needs
 
+-- no row but the anchor is under the first counts
 patterns-returns : (t : ℕ) → patterns-lts.Need-returns (called t) (patterns-at t) patterns.Post patterns-Inv-loop patterns-μ-loop
 patterns-returns t c =
+    let s = entry t (c .before) in
+    let known = c .before .near-anchor .ensures (c .if1 .taken) _ in
+    (grown-none (s .pre .1 .0 .1) (λ x r u. known x (s .pre .1 .1 .1 .1 .1) r (u .own) (u .light)), (refl, s .pre .1 .1 .1 .1 .1))
+
+patterns-one-pattern-requires : (t : ℕ)
+    → patterns-lts.Need-one-pattern-requires (called t) (patterns-at t) patterns.Post patterns-Inv-loop patterns-μ-loop
+patterns-one-pattern-requires t c κs =
     let o = c .before .before in
-    let s = o .before .before .before .before .before .before .before .before .before .before .before in
-    let last = o .before .before .before .if1 .taken in
+    let s = entry t (o .before .before) in
+    let last = o .if2 .taken in
     let e : s .args .l .l1 - s .args .later ≡ s .args .l .l1 = omega arith in
-    (rw e (o .one-pattern .ensures), refl)
+    let b = s .pre .1 .1 .1 .0 in
+    (s .pre .1 .0 .0, (s .pre .1 .0 .1, (b .hand, rw e at (b .sums))))
+
+patterns-same-length-3 : (t : ℕ)
+    → patterns-lts.Need-same-length-3 (called t) (patterns-at t) patterns.Post patterns-Inv-loop patterns-μ-loop
+patterns-same-length-3 t c = search needs
+
+patterns-same-length-4 : (t : ℕ)
+    → patterns-lts.Need-same-length-4 (called t) (patterns-at t) patterns.Post patterns-Inv-loop patterns-μ-loop
+patterns-same-length-4 t c = search needs
+
+patterns-same-length-5 : (t : ℕ)
+    → patterns-lts.Need-same-length-5 (called t) (patterns-at t) patterns.Post patterns-Inv-loop patterns-μ-loop
+patterns-same-length-5 t c = search needs
+
+patterns-returns-2 : (t : ℕ)
+    → patterns-lts.Need-returns-2 (called t) (patterns-at t) patterns.Post patterns-Inv-loop patterns-μ-loop
+patterns-returns-2 t c =
+    let o = c .before .before in
+    let s = entry t (o .before .before .before .before .before) in
+    let last = o .before .before .before .if2 .taken in
+    let e : s .args .l .l1 - s .args .later ≡ s .args .l .l1 = omega arith in
+    let g = o .one-pattern .ensures in
+    (rw e g, (refl, anchored-stays (s .pre .1 .0 .1) g (s .pre .1 .1 .1 .1 .1)))
 
 patterns-mul-nb : (t : ℕ) → patterns-lts.Need-mul-nb (called t) (patterns-at t) patterns.Post patterns-Inv-loop patterns-μ-loop
-patterns-mul-nb t c = omega (arith, high t (c .before .before .before .before .before .before .before .before .before) .block)
-
-patterns-sub-i : (t : ℕ) → patterns-lts.Need-sub-i (called t) (patterns-at t) patterns.Post patterns-Inv-loop patterns-μ-loop
-patterns-sub-i t c = c .before .before .before .before .before .before .before .before .before .before .pre .1 .1 .0
+patterns-mul-nb t c = omega (arith, high t (entry t (c .before .before .before)) .block)
 
 patterns-mul-p : (t : ℕ)
     → patterns-lts.Need-mul-p (called t) (patterns-at t) patterns.Post patterns-Inv-loop patterns-μ-loop
 patterns-mul-p t c =
-    let s = c .before .before .before .before .before .before .before .before .before .before in
+    let s = entry t (c .before .before .before) in
     let l = s .args .l in
     let h : l .l1 - s .args .later ≤ l .l1 = omega arith in
     omega (arith, mul-le-mul-right (blockBits l) h, high t s .l1-block, high t s .row)
 
 patterns-sub-p : (t : ℕ)
     → patterns-lts.Need-sub-p (called t) (patterns-at t) patterns.Post patterns-Inv-loop patterns-μ-loop
-patterns-sub-p t c = c .before .before .before .before .before .before .before .before .before .before .before .pre .1 .1 .1 .0 .before
+patterns-sub-p t c = entry t (c .before .before .before .before) .pre .1 .1 .1 .0 .before
 
 patterns-mul-most : (t : ℕ)
     → patterns-lts.Need-mul-most (called t) (patterns-at t) patterns.Post patterns-Inv-loop patterns-μ-loop
 patterns-mul-most t c =
-    let z = high t (c .before .before .before .before .before .before .before .before .before .before .before .before) in
+    let z = high t (entry t (c .before .before .before .before .before)) in
     omega (arith, z .l1-block, z .row)
 
 patterns-sub-most : (t : ℕ)
     → patterns-lts.Need-sub-most (called t) (patterns-at t) patterns.Post patterns-Inv-loop patterns-μ-loop
 patterns-sub-most t c =
-    let s = c .before .before .before .before .before .before .before .before .before .before .before .before in
+    let s = entry t (c .before .before .before .before .before) in
     omega (arith, high t s .l1-block, s .pre .1 .0 .0 .short)
 
 patterns-sub-most-2 : (t : ℕ)
     → patterns-lts.Need-sub-most-2 (called t) (patterns-at t) patterns.Post patterns-Inv-loop patterns-μ-loop
 patterns-sub-most-2 t c =
-    let s = c .before .before .before .before .before .before .before .before .before .before .before .before .before in
+    let s = entry t (c .before .before .before .before .before .before) in
     omega (arith, high t s .l1-block, s .pre .1 .1 .1 .0 .most)
 
 -- the first count that is tried: it is not above the most, and above 0 only for the last block, which loses all that is left
 first-most : (t : ℕ) (c : Ready t) → let a = start t c .args in
-    c .if2 .first ≤ a .l .l1 * blockBits (a .l) - length (a .y .now) - a .pattern .total
-first-most t c = ⊎-elim (λ w. omega (arith, w .1)) (λ w. omega (arith, w .1)) (c .if2 .came)
+    c .if3 .first ≤ a .l .l1 * blockBits (a .l) - length (a .y .now) - a .pattern .total
+first-most t c = ⊎-elim (λ w. omega (arith, w .1)) (λ w. omega (arith, w .1)) (c .if3 .came)
 
 first-all : (t : ℕ) (c : Ready t) → let a = start t c .args in
-    0 < c .if2 .first → (a .l .l1 - a .later + 1 ≡ a .l .l1) × (a .pattern .total + c .if2 .first ≡ rowBits (a .l) - length (a .y .now))
+    0 < c .if3 .first → (a .l .l1 - a .later + 1 ≡ a .l .l1) × (a .pattern .total + c .if3 .first ≡ rowBits (a .l) - length (a .y .now))
 first-all t c z =
     let few = start t c .pre .1 .1 .0 in
     let o = left-over t (start t c) in
     ⊎-elim
     (λ w. (omega (arith, w .0 .taken), omega (arith, w .1)))
     (λ w. absurd (omega (arith, w .1)))
-    (c .if2 .came)
+    (c .if3 .came)
 
 patterns-loop-holds : (t : ℕ)
     → patterns-lts.Need-loop-holds (called t) (patterns-at t) patterns.Post patterns-Inv-loop patterns-μ-loop
 patterns-loop-holds t c =
     let s = start t c in
-    (first-most t c, tries-start (next t c) (s .pre .1 .0 .1) (c .if2 .first) (first-all t c))
+    (first-most t c, (tries-start (next t c) (s .pre .1 .0 .1) (c .if3 .first) (first-all t c), (refl, s .pre .1 .1 .1 .1 .1)))
 
 patterns-try-block-requires : (t : ℕ)
     → patterns-lts.Need-try-block-requires (called t) (patterns-at t) patterns.Post patterns-Inv-loop patterns-μ-loop
@@ -208,9 +254,9 @@ patterns-try-block-requires t c κs =
     let i : ℕ = a .l .l1 - a .later in
     let h = next t (p .before) .inside in
     let room : i * a .l .l2 + a .l .l2 ≤ a .l .l1 * a .l .l2 = field-room (a .l .l1) (a .l .l2) i h in
-    let hand : i * a .l .l2 + a .l .l2 ≤ length (p .loop .row) = omega (arith, high t s .chunks, b .hand, p .loop .inv .1 .places) in
+    let hand : i * a .l .l2 + a .l .l2 ≤ length (p .loop .row) = omega (arith, high t s .chunks, b .hand, p .loop .inv .1 .0 .places) in
     let bits = bits-drop (i * blockBits (a .l) - a .pattern .total) (a .y .now) (g .bits) in
-    (g .is-legal, (rw (b .reads) bits, (s .pre .1 .1 .1 .1, (omega (arith, g .count), (g .blocks i h, hand)))))
+    (g .is-legal, (rw (b .reads) bits, (s .pre .1 .1 .1 .1 .0, (omega (arith, g .count), (g .blocks i h, hand)))))
 
 patterns-cast-next : (t : ℕ) → patterns-lts.Need-cast-next (called t) (patterns-at t) patterns.Post patterns-Inv-loop patterns-μ-loop
 patterns-cast-next t c =
@@ -281,13 +327,13 @@ patterns-part-patterns-end-3 t c = search needs
 patterns-sub-patterns-4 : (t : ℕ)
     → patterns-lts.Need-sub-patterns-4 (called t) (patterns-at t) patterns.Post patterns-Inv-loop patterns-μ-loop
 patterns-sub-patterns-4 t c =
-    let some = loop t (c .before .before .before .before .before) .before .before .before .before .before .before .before .if1 .left in
+    let some = loop t (c .before .before .before .before .before) .before .before .before .before .before .before .if2 .left in
     omega arith
 
 patterns-patterns-requires : (t : ℕ)
     → patterns-lts.Need-patterns-requires (called t) (patterns-at t) patterns.Post patterns-Inv-loop patterns-μ-loop
 patterns-patterns-requires t c κs =
-    let e = c .before .before .before .before .before .before .before in
+    let e = c .before .before .before .before .before .before .before .before in
     let q = e .before .before .before in
     let p = loop t e in
     let s = start t (p .before) in
@@ -297,20 +343,30 @@ patterns-patterns-requires t c κs =
     let o = left-over t s in
     let most : a .pattern .total + p .loop .a + length (a .y .now) ≤ rowBits (a .l) = omega (arith, p .loop .inv .0, s .pre .1 .0 .0 .short) in
     let row : List ℕ = q .try-block .last .1 .1 .1 .1 .1 .1 .1 .1 .0 in
-    let same : length row ≡ length (a .row .now) = omega (arith, q .try-block .kept .1 .1 .1 .1 .1 .1 .1 .1 .0, p .loop .inv .1 .places) in
+    let same : length row ≡ length (a .row .now) = omega (arith, q .try-block .kept .1 .1 .1 .1 .1 .1 .1 .1 .0, p .loop .inv .1 .0 .places) in
     let w = within t e in
     let j : ℕ = a .l .l1 - (a .later - 1) in
     let b = begun-next n (s .pre .1 .1 .1 .0) (p .loop .a) most (w .0) row same j (omega arith) in
-    let tabled = tabled-next n (s .pre .1 .1 .1 .0) (p .loop .a) (w .0) (w .1) (s .pre .1 .1 .1 .1) j (omega arith) in
+    let tabled = tabled-next n (s .pre .1 .1 .1 .0) (p .loop .a) (w .0) (w .1) (s .pre .1 .1 .1 .1 .0) j (omega arith) in
     let d : ℕ = blockBits (a .l) - p .loop .a in
-    let held = grown-holding (s .pre .1 .0 .1) (p .loop .inv .1 .known) in
+    let held = grown-holding (s .pre .1 .0 .1) (p .loop .inv .1 .0 .known) in
     let falls : a .later - 1 < t = omega (arith, s .pre .0) in (
       falls,
       (
         (s .pre .1 .0 .0, held),
-        (omega arith, rw (part-to-end (a .rest .now) d, part-to-end (a .totals .now) d, part-to-end (a .counts .now) d) (b, tabled)),
+        (omega arith, rw (part-to-end (a .rest .now) d, part-to-end (a .totals .now) d, part-to-end (a .counts .now) d) (b, (tabled, p .loop .inv .1 .1 .1))),
       ),
     )
+
+patterns-set-anchor-requires : (t : ℕ)
+    → patterns-lts.Need-set-anchor-requires (called t) (patterns-at t) patterns.Post patterns-Inv-loop patterns-μ-loop
+patterns-set-anchor-requires t c κs =
+    let f = c .before .before .before .before .before .before .before .before in
+    let p = loop t (f .before .before .before .before .before .before .before .before .before) in
+    let s = start t (p .before) in
+    let g = f .patterns .ensures in
+    let held = grown-holding (s .pre .1 .0 .1) (p .loop .inv .1 .0 .known) in
+    (s .pre .1 .0 .0, (grown-holding held (g .0), g .1 .1))
 
 patterns-add-a : (t : ℕ) → patterns-lts.Need-add-a (called t) (patterns-at t) patterns.Post patterns-Inv-loop patterns-μ-loop
 patterns-add-a t c =
@@ -325,11 +381,13 @@ patterns-loop-less t c =
     let most = first-most t (p .before) in
     omega arith
 
--- after a turn the rows whose block i loses at most a bits are known
+-- after a turn the rows whose block i loses at most a bits are known, and the desk's anchor is
 after-turn : (t : ℕ) (c : Turned t) → let p = c .before .before .before .before .before .before in let a = start t (p .before) .args in
     Tries (a .l) (a .numbers .now) (a .y .now) (a .cap) (a .pattern .counts) (a .l .l1 - a .later) (a .pattern .total)
-    (a .row .now) (a .list .now) (a .kept .count) (a .kept .more) (c .if3 .row) (c .if3 .list) (c .if3 .k .count) (c .if3 .k .more)
+    (a .row .now) (a .list .now) (a .kept .count) (a .kept .more) (c .if4 .row) (c .if4 .list) (c .if4 .k .count) (c .if4 .k .more)
     (p .loop .a + 1)
+    × ((length (c .if4 .desk) ≡ length (a .desk .now))
+    × Anchored (a .l) (a .numbers .now) (a .y .now) (rowsIn (rowBits (a .l)) (c .if4 .list) (c .if4 .k .count) (c .if4 .k .more)) (c .if4 .desk))
 after-turn t c =
     let q = c .before .before .before in
     let p = q .before .before .before in
@@ -340,55 +398,68 @@ after-turn t c =
     let after : j ≡ a .l .l1 - a .later + 1 = let h = n .inside in omega arith in
     let reads = s .pre .1 .1 .1 .0 .reads in
     let same = q .try-block .kept .1 .1 .1 .1 .1 .1 .1 .1 .0 in
+    let tries = p .loop .inv .1 in
     ⊎-elim
-    (λ w. rw (w .13, w .14, w .15)
-    (tries-next n (p .loop .a) (p .loop .inv .1) (q .try-block .ensures) reads same (s .pre .1 .0 .1) j after
-    (w .8 .ensures .0) (w .8 .ensures .1) (w .8 .kept .1 .1 .1 .1 .1 .1 .1 .1 .0)))
-    (λ w. rw (w .1, w .2, w .3) (tries-none n (p .loop .a) (p .loop .inv .1) (q .try-block .ensures) reads same (w .0 .left)))
-    (c .if3 .came)
+    (λ w. rw (w .21, w .22, w .23, w .24) (
+      tries-next n (p .loop .a) (tries .0) (q .try-block .ensures) reads same (s .pre .1 .0 .1) j after
+          (w .9 .ensures .0) (w .9 .ensures .1 .0) (w .9 .kept .1 .1 .1 .1 .1 .1 .1 .1 .0),
+      (w .18 .kept .1 .1 .1 .1 .1 .1 .0 ∙ w .9 .kept .1 .1 .1 .1 .1 .1 .1 .1 .1 .0 ∙ tries .1 .0, w .18 .ensures),
+    ))
+    (λ w. rw (w .1, w .2, w .3, w .4)
+    (tries-none n (p .loop .a) (tries .0) (q .try-block .ensures) reads same (w .0 .left), tries .1))
+    (c .if4 .came)
 
 patterns-loop-again : (t : ℕ)
     → patterns-lts.Need-loop-again (called t) (patterns-at t) patterns.Post patterns-Inv-loop patterns-μ-loop
 patterns-loop-again t c =
     let p = c .before .before .before .before .before .before .before .before in
     let most = first-most t (p .before) in
-    let more = c .before .if4 .taken in
+    let more = c .before .if5 .taken in
     (omega arith, after-turn t (c .before .before))
-
-patterns-same-length-3 : (t : ℕ)
-    → patterns-lts.Need-same-length-3 (called t) (patterns-at t) patterns.Post patterns-Inv-loop patterns-μ-loop
-patterns-same-length-3 t c = c .before .loop .inv .1 .places
-
-patterns-same-length-4 : (t : ℕ)
-    → patterns-lts.Need-same-length-4 (called t) (patterns-at t) patterns.Post patterns-Inv-loop patterns-μ-loop
-patterns-same-length-4 t c = grown-length (start t (c .before .before) .pre .1 .0 .1) (c .before .loop .inv .1 .known)
-
-patterns-returns-2 : (t : ℕ)
-    → patterns-lts.Need-returns-2 (called t) (patterns-at t) patterns.Post patterns-Inv-loop patterns-μ-loop
-patterns-returns-2 t c =
-    let p = c .before in
-    let o = left-over t (start t (p .before)) in
-    let past = c .loop-test .left in
-    (tries-all (next t (p .before)) (p .loop .a) (omega arith) (p .loop .inv .1), p .loop .inv .1 .stays)
-
-patterns-same-length-5 : (t : ℕ)
-    → patterns-lts.Need-same-length-5 (called t) (patterns-at t) patterns.Post patterns-Inv-loop patterns-μ-loop
-patterns-same-length-5 t c = after-turn t (c .before) .places
 
 patterns-same-length-6 : (t : ℕ)
     → patterns-lts.Need-same-length-6 (called t) (patterns-at t) patterns.Post patterns-Inv-loop patterns-μ-loop
-patterns-same-length-6 t c =
-    let s = start t (c .before .before .before .before .before .before .before .before) in
-    grown-length (s .pre .1 .0 .1) (after-turn t (c .before) .known)
+patterns-same-length-6 t c = c .before .loop .inv .1 .0 .places
+
+patterns-same-length-7 : (t : ℕ)
+    → patterns-lts.Need-same-length-7 (called t) (patterns-at t) patterns.Post patterns-Inv-loop patterns-μ-loop
+patterns-same-length-7 t c = c .before .loop .inv .1 .1 .0
+
+patterns-same-length-8 : (t : ℕ)
+    → patterns-lts.Need-same-length-8 (called t) (patterns-at t) patterns.Post patterns-Inv-loop patterns-μ-loop
+patterns-same-length-8 t c = grown-length (start t (c .before .before) .pre .1 .0 .1) (c .before .loop .inv .1 .0 .known)
 
 patterns-returns-3 : (t : ℕ)
     → patterns-lts.Need-returns-3 (called t) (patterns-at t) patterns.Post patterns-Inv-loop patterns-μ-loop
 patterns-returns-3 t c =
+    let p = c .before in
+    let o = left-over t (start t (p .before)) in
+    let past = c .loop-test .left in
+    let w = p .loop .inv .1 in
+    (tries-all (next t (p .before)) (p .loop .a) (omega arith) (w .0), (w .0 .stays, w .1 .1))
+
+patterns-same-length-9 : (t : ℕ)
+    → patterns-lts.Need-same-length-9 (called t) (patterns-at t) patterns.Post patterns-Inv-loop patterns-μ-loop
+patterns-same-length-9 t c = after-turn t (c .before) .0 .places
+
+patterns-same-length-10 : (t : ℕ)
+    → patterns-lts.Need-same-length-10 (called t) (patterns-at t) patterns.Post patterns-Inv-loop patterns-μ-loop
+patterns-same-length-10 t c = after-turn t (c .before) .1 .0
+
+patterns-same-length-11 : (t : ℕ)
+    → patterns-lts.Need-same-length-11 (called t) (patterns-at t) patterns.Post patterns-Inv-loop patterns-μ-loop
+patterns-same-length-11 t c =
+    let s = start t (c .before .before .before .before .before .before .before .before) in
+    grown-length (s .pre .1 .0 .1) (after-turn t (c .before) .0 .known)
+
+patterns-returns-4 : (t : ℕ)
+    → patterns-lts.Need-returns-4 (called t) (patterns-at t) patterns.Post patterns-Inv-loop patterns-μ-loop
+patterns-returns-4 t c =
     let p = c .before .before .before .before .before .before .before in
     let w = after-turn t (c .before) in
     let o = left-over t (start t (p .before)) in
-    let last = c .if4 .left in
-    (tries-all (next t (p .before)) (p .loop .a + 1) (omega arith) w, w .stays)
+    let last = c .if5 .left in
+    (tries-all (next t (p .before)) (p .loop .a + 1) (omega arith) (w .0), (w .0 .stays, w .1 .1))
 
 pub +patterns-spec : {M : Type 1} → statement M
 +patterns-spec = close μ-patterns λ t. patterns-lts.spec (called t)
@@ -396,12 +467,17 @@ pub +patterns-spec : {M : Type 1} → statement M
     patterns.Post
     patterns-Inv-loop
     patterns-μ-loop
-    (patterns-one-pattern-requires t)
+    (patterns-sub-i t)
+    (patterns-near-anchor-requires t)
     (patterns-same-length t)
     (patterns-same-length-2 t)
     (patterns-returns t)
+    (patterns-one-pattern-requires t)
+    (patterns-same-length-3 t)
+    (patterns-same-length-4 t)
+    (patterns-same-length-5 t)
+    (patterns-returns-2 t)
     (patterns-mul-nb t)
-    (patterns-sub-i t)
     (patterns-mul-p t)
     (patterns-sub-p t)
     (patterns-mul-most t)
@@ -426,12 +502,15 @@ pub +patterns-spec : {M : Type 1} → statement M
     (patterns-part-patterns-end-3 t)
     (patterns-sub-patterns-4 t)
     (patterns-patterns-requires t)
+    (patterns-set-anchor-requires t)
     (patterns-add-a t)
     (patterns-loop-less t)
     (patterns-loop-again t)
-    (patterns-same-length-3 t)
-    (patterns-same-length-4 t)
-    (patterns-returns-2 t)
-    (patterns-same-length-5 t)
     (patterns-same-length-6 t)
+    (patterns-same-length-7 t)
+    (patterns-same-length-8 t)
     (patterns-returns-3 t)
+    (patterns-same-length-9 t)
+    (patterns-same-length-10 t)
+    (patterns-same-length-11 t)
+    (patterns-returns-4 t)

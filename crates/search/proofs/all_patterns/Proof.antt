@@ -5,6 +5,7 @@ use Prim.Native.Nat.{_-_}
 use mathlib.Core.Path.{refl}
 use native.Mathlib.Omega.{arith}
 use Rattle.found.proofs.Found.{holding-none, grown-weaken, grown-all}
+use Rattle.anchor.proofs.Anchor.{anchored-none}
 use Rattle.search.proofs.Counts.{received-short, under-start, begun-start, tabled-start}
 use Rattle.search.proofs.all_patterns.Statement.{statement}
 use Rattle.search.proofs.all_patterns.Tie as tie
@@ -17,7 +18,7 @@ slice-aggregate-fill-2 c = search needs
 
 fill-requires : tie.Need-fill-requires
 fill-requires c κs =
-    let s = c .before .before .before .before .before in
+    let s = c .before .before .before .before .before .before in
     let h = received-short (s .pre .0) in
     (s .pre .0 .bits, (h, (omega arith, omega arith)))
 
@@ -32,23 +33,26 @@ slice-aggregate-patterns-3 c = search needs
 
 patterns-requires : tie.Need-patterns-requires
 patterns-requires c κs =
-    let f = c .before .before .before .before .before .before in
-    let s = f .before .before .before .before .before .before in
+    let f = c .before .before .before .before .before .before .before in
+    let s = f .before .before .before .before .before .before .before in
     let a = s .args in
     let z = a .l .l1 - a .l .l1 in (
-      (s .pre .0, holding-none (a .l) (a .numbers .now) (a .y .now) (a .cap) (a .list .now) (s .pre .1)),
-      (omega arith, (begun-start (s .pre .0) _ _ refl z (omega arith), tabled-start (s .pre .0) (f .fill .ensures) z (omega arith))),
+      (s .pre .0, holding-none (a .l) (a .numbers .now) (a .y .now) (a .cap) (a .list .now) (s .pre .1 .0)),
+      (omega arith, (begun-start (s .pre .0) _ _ refl z (omega arith), (tabled-start (s .pre .0) (f .fill .ensures) z (omega arith), anchored-none (a .desk .now) (s .pre .1 .1)))),
     )
 
 same-length : tie.Need-same-length
 same-length c = search needs
 
+same-length-2 : tie.Need-same-length-2
+same-length-2 c = search needs
+
 returns : tie.Need-returns
 returns c =
-    let p = c .before .before .before in
-    let s = p .before .before .before .before .before .before .before .before .before .before .before .before .before in
+    let p = c .before .before .before .before .before in
+    let s = p .before .before .before .before .before .before .before .before .before .before .before .before .before .before .before in
     let a = s .args in
-    grown-all (s .pre .1)
+    grown-all (s .pre .1 .0)
     (grown-weaken (λ x k u. under-start (a .l) (a .y .now) _ _ x (a .l .l1 - a .l .l1) (omega arith)) (p .patterns .ensures .0))
 
 pub all-patterns-spec : {M : Type 1} → statement M
@@ -63,4 +67,5 @@ all-patterns-spec =
     slice-aggregate-patterns-3
     patterns-requires
     same-length
+    same-length-2
     returns)

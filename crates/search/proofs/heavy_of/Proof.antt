@@ -8,7 +8,8 @@ use native.Mathlib.Omega.{arith}
 use lib.ListN.{length, take}
 use Rattle.consistent.specs.Greedy.{inAll}
 use Rattle.search.specs.Patterns.{HeavyIn}
-use Rattle.search.proofs.Totals.{total-next, total-grows, zeros}
+use Rattle.anchor.proofs.Totals.{total-next, total-grows}
+use Rattle.search.proofs.Totals.{zeros}
 use Rattle.search.proofs.HeavyBlocks.{heavy-none, heavy-light, heavy-more}
 use Rattle.search.proofs.heavy_of.Statement.{statement}
 use Rattle.search.proofs.heavy_of.Tie as tie

@@ -20,14 +20,14 @@ mul-if1 c = omega (arith, high (c .before .before .before .before) .chunks)
 mul-if1-2 : tie.Need-mul-if1-2
 mul-if1-2 c = omega (arith, high (c .before .before .before .before .before) .row)
 
-all-patterns-requires : tie.Need-all-patterns-requires
-all-patterns-requires c κs = search needs
+some-lost-requires : tie.Need-some-lost-requires
+some-lost-requires c κs = search needs
 
 same-length : tie.Need-same-length
 same-length c = search needs
 
 returns : tie.Need-returns
-returns c = c .before .before .all-patterns .ensures
+returns c = c .before .before .some-lost .ensures
 
 -- no bit is lost
 whole : (c : tie.Else1) → let a = c .before .before .before .before .before .before .args in length (a .y .now) ≡ rowBits (a .l)
@@ -57,7 +57,7 @@ search-spec =
     (tie.spec
     mul-if1
     mul-if1-2
-    all-patterns-requires
+    some-lost-requires
     same-length
     returns
     add-bits-requires

@@ -93,7 +93,7 @@ impl Scene {
         let titles = [
             format!("sent: {} rows of {} bits", sent.height, sent.width),
             format!("received: {} bits lost, slips in red", arrived.lost()),
-            format!("recovered: {} of {} rows as sent", sent.height - wrong, sent.height),
+            format!("recovered film: {} of {} rows equal", sent.height - wrong, sent.height),
         ];
         let marks = arrived.slips().map(|(row, column)| scale.place(row, column)).collect();
         Ok(Scene { titles, films, width: scale.width() as u32, height: scale.height() as u32, marks })
