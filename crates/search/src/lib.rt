@@ -5,7 +5,7 @@ use message::Layout;
 use rows::Kept;
 use tables::Table;
 ghost use mathlib.Core.Path.{_≡_};
-ghost use mathlib.Core.Bool.{true};
+ghost use mathlib.Core.Bool.{true, false};
 ghost use mathlib.Core.List.{_++_};
 ghost use Prim.Native.Nat.{_+_, _*_, _-_, _<_, _≤_};
 ghost use lib.ListN.{length, getD, take, drop};
@@ -258,7 +258,8 @@ fn one_pattern(
 
 // The rows under the first counts of a pattern: each count that block i can lose is tried in turn, and the later blocks share out what
 // is left; the last block takes all of it. The part of the received row that starts at block i is handed on, with its tables. Where no
-// row but the anchor can be under the first counts, nothing is tried; once a row is held, it becomes the anchor.
+// row but the anchor can be under the first counts, or all rows under them come after the last row of a list that is full, nothing is
+// tried; once a row is held, it becomes the anchor.
 fn patterns(
     l: Layout,
     y: &[u8],
@@ -287,6 +288,9 @@ fn patterns(
     let i = l.l1 - later;
     let own = pattern.counts;
     if anchor::near_anchor(l, numbers, y, desk, own, row, i) {
+        return kept;
+    }
+    if floor::above(l, numbers, y, own, row, i, cap, list, kept) {
         return kept;
     }
     if later == 0 {
@@ -327,6 +331,32 @@ fn patterns(
     k
 }
 
+// An anchor before the patterns, where the desk is long enough for one and the guess is right; the desk has none yet.
+fn early_anchor(
+    l: Layout,
+    y: &[u8],
+    numbers: &[u16],
+    desk: &mut [u8],
+    cap: usize,
+    list: &mut [u8],
+) -> Kept
+    requires { ⌜ Given l (now numbers) (now y) × ((cap * bytesFor (rowBits l) ≤ length (now list)) × (getD (now desk) 0 0 ≡ 0)) ⌝ }
+    ensures { λ r. ⌜ Grown l (now (numbers .entry)) (now (y .entry)) cap (λ x. ⊥)
+        (now (list .entry)) 0 false (now (list .exit)) (r .count) (r .more)
+        × Anchored l (now (numbers .entry)) (now (y .entry)) (rowsIn (rowBits l) (now (list .exit)) (r .count) (r .more)) (now (desk .exit)) ⌝ }
+{
+    let none = Kept {
+        count: 0,
+        more: false,
+    };
+    if desk.len() < anchor::DESK {
+        return none;
+    }
+    let kept = hint::guess(l, y, numbers, cap, list, none);
+    anchor::set_anchor(l, y, numbers, cap, list, kept, desk);
+    kept
+}
+
 // All consistent rows, by their loss patterns. The tables of the received row are made once for all patterns; the desk has no
 // anchor yet.
 fn all_patterns(
@@ -341,13 +371,10 @@ fn all_patterns(
     ensures { λ r. ⌜ Listed l (now (numbers .entry)) (now (y .entry)) cap (now (list .entry)) (now (list .exit))
         (r .count) (r .more) ⌝ }
 {
+    let kept = early_anchor(l, y, numbers, desk, cap, list);
     let start = Pattern {
         counts: [0; 255],
         total: 0,
-    };
-    let none = Kept {
-        count: 0,
-        more: false,
     };
     let mut totals: [u32; 2041] = [0; 2041];
     let mut counts: [u16; 2041] = [0; 2041];
@@ -366,7 +393,7 @@ fn all_patterns(
         desk,
         cap,
         list,
-        none,
+        kept,
     )
 }
 

@@ -93,6 +93,28 @@ fn the_example() {
     agree(&program(), &EXAMPLE);
 }
 
+/// The bytes that a word of a stored line spells; `-` is the empty string.
+fn bytes(word: &str) -> Vec<u8> {
+    let digits = if word == "-" { "" } else { word };
+    let byte = |i: usize| u8::from_str_radix(&digits[2 * i..2 * i + 2], 16).expect("two hexadecimal digits");
+    (0..digits.len() / 2).map(byte).collect()
+}
+
+/// Stored inputs and what is printed for them, now and in years: `count=2,36,39` stands for three lines.
+#[test]
+fn stored() {
+    let program = program();
+    let lines: Vec<&str> =
+        include_str!("../stored/rowlist.txt").lines().filter(|line| !line.starts_with('#')).collect();
+    assert!(lines.len() >= 80);
+    for line in lines {
+        let words: Vec<&str> = line.split(' ').collect();
+        let (input, printed) = (bytes(words[1]), words[2].replace('=', " ").replace(',', "\n") + "\n");
+        assert_eq!(expected(&input), printed, "{line}");
+        agree(&program, &input);
+    }
+}
+
 /// The example, cut at every place, also to nothing; and with bytes behind the row's own. Where the message is whole
 /// and m is missing, no bits were received.
 #[test]

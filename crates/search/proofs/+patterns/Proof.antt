@@ -26,6 +26,7 @@ use Rattle.search.proofs.patterns.Kinds as patterns-kinds
 use Rattle.search.proofs.+patterns.Lts-patterns as patterns-lts
 use Rattle.anchor.proofs.near_anchor.Reads as near-anchor-reads
 use Rattle.anchor.proofs.set_anchor.Reads as set-anchor-reads
+use Rattle.floor.proofs.above.Reads as above-reads
 use Rattle.search.proofs.one_pattern.Reads as one-pattern-reads
 use Rattle.search.proofs.try_block.Reads as try-block-reads
 use Rattle.search.proofs.+patterns.{statement}
@@ -54,6 +55,8 @@ abbrev called : ℕ → patterns-lts.Claims
 called t = (
   near-anchor-reads.Asked,
   near-anchor-reads.Learnt,
+  above-reads.Asked,
+  above-reads.Learnt,
   one-pattern-reads.Asked,
   one-pattern-reads.Learnt,
   try-block-reads.Asked,
@@ -64,27 +67,34 @@ called t = (
   set-anchor-reads.Learnt,
 )
 
--- places of the code: the entry, after the test of the anchor, before the loop, the loop, a turn in which block i can lose a bits, and the end of a turn
+-- places of the code: the entry, after the test of the anchor, after that of the floor, before the loop, the loop, a turn in which block i
+-- can lose a bits, and the end of a turn
 abbrev Start : ℕ → Type 0
 Start t = patterns-lts.Start (called t) (patterns-at t) patterns.Post patterns-Inv-loop patterns-μ-loop
 
+abbrev Anchor : ℕ → Type 0
+Anchor t = patterns-lts.After-near-anchor (called t) (patterns-at t) patterns.Post patterns-Inv-loop patterns-μ-loop
+
 abbrev Tested : ℕ → Type 0
-Tested t = patterns-lts.After-near-anchor (called t) (patterns-at t) patterns.Post patterns-Inv-loop patterns-μ-loop
+Tested t = patterns-lts.After-above (called t) (patterns-at t) patterns.Post patterns-Inv-loop patterns-μ-loop
 
 abbrev Ready : ℕ → Type 0
-Ready t = patterns-lts.Joined3 (called t) (patterns-at t) patterns.Post patterns-Inv-loop patterns-μ-loop
+Ready t = patterns-lts.Joined4 (called t) (patterns-at t) patterns.Post patterns-Inv-loop patterns-μ-loop
 
 abbrev Loop : ℕ → Type 0
 Loop t = patterns-lts.At-loop (called t) (patterns-at t) patterns.Post patterns-Inv-loop patterns-μ-loop
 
 abbrev Can : ℕ → Type 0
-Can t = patterns-lts.Then4 (called t) (patterns-at t) patterns.Post patterns-Inv-loop patterns-μ-loop
+Can t = patterns-lts.Then5 (called t) (patterns-at t) patterns.Post patterns-Inv-loop patterns-μ-loop
 
 abbrev Turned : ℕ → Type 0
-Turned t = patterns-lts.Joined4 (called t) (patterns-at t) patterns.Post patterns-Inv-loop patterns-μ-loop
+Turned t = patterns-lts.Joined5 (called t) (patterns-at t) patterns.Post patterns-Inv-loop patterns-μ-loop
+
+abbrev first : (t : ℕ) → Anchor t → Start t
+first t c = c .before .before .before .before .before .before .before .before .before .before .before .before .before
 
 abbrev entry : (t : ℕ) → Tested t → Start t
-entry t c = c .before .before .before .before .before .before .before .before .before .before .before .before .before
+entry t c = first t (c .before .before .before .before)
 
 abbrev start : (t : ℕ) → Ready t → Start t
 start t c = entry t (c .before .before .before .before .before .before .before)
@@ -103,7 +113,7 @@ next : (t : ℕ) (c : Ready t) → let a = start t c .args in
     Next (a .l) (a .numbers .now) (a .y .now) (a .pattern .counts) (a .l .l1 - a .later) (a .pattern .total)
 next t c =
     let s = start t c in
-    let some = c .before .before .before .before .before .if2 .left in
+    let some = c .before .before .before .before .before .if3 .left in
     let few = s .pre .1 .1 .0 in
     let counted = length-counts t s in
     record { given = s .pre .1 .0 .0; inside = omega arith; room = omega (arith, high t s .l1-high); sums = s .pre .1 .1 .1 .0 .sums }
@@ -121,7 +131,7 @@ left-over t s =
 -- it has as many bits, and as many remain as it keeps
 within : (t : ℕ) (c : Can t) → let p = loop t c in let a = start t (p .before) .args in
     (p .loop .a ≤ blockBits (a .l)) × (blockBits (a .l) - p .loop .a ≤ length (a .rest .now))
-within t c = c .before .before .before .try-block .ensures .within (c .if4 .taken)
+within t c = c .before .before .before .try-block .ensures .within (c .if5 .taken)
 
 -- and the tables go on behind these
 tabled-within : (t : ℕ) (c : Can t) → let p = loop t c in let a = start t (p .before) .args in
@@ -153,19 +163,16 @@ patterns-same-length-2 t c = search needs
 -- no row but the anchor is under the first counts
 patterns-returns : (t : ℕ) → patterns-lts.Need-returns (called t) (patterns-at t) patterns.Post patterns-Inv-loop patterns-μ-loop
 patterns-returns t c =
-    let s = entry t (c .before) in
+    let s = first t (c .before) in
     let known = c .before .near-anchor .ensures (c .if1 .taken) _ in
     (grown-none (s .pre .1 .0 .1) (λ x r u. known x (s .pre .1 .1 .1 .1 .1) r (u .own) (u .light)), (refl, s .pre .1 .1 .1 .1 .1))
 
-patterns-one-pattern-requires : (t : ℕ)
-    → patterns-lts.Need-one-pattern-requires (called t) (patterns-at t) patterns.Post patterns-Inv-loop patterns-μ-loop
-patterns-one-pattern-requires t c κs =
-    let o = c .before .before in
-    let s = entry t (o .before .before) in
-    let last = o .if2 .taken in
-    let e : s .args .l .l1 - s .args .later ≡ s .args .l .l1 = omega arith in
-    let b = s .pre .1 .1 .1 .0 in
-    (s .pre .1 .0 .0, (s .pre .1 .0 .1, (b .hand, rw e at (b .sums))))
+patterns-above-requires : (t : ℕ)
+    → patterns-lts.Need-above-requires (called t) (patterns-at t) patterns.Post patterns-Inv-loop patterns-μ-loop
+patterns-above-requires t c κs =
+    let s = first t (c .before .before .before) in
+    let row = high t s .chunks in
+    (s .pre .1 .0 .0, (s .pre .1 .0 .1, (omega (arith, s .pre .1 .1 .1 .0 .hand), omega arith)))
 
 patterns-same-length-3 : (t : ℕ)
     → patterns-lts.Need-same-length-3 (called t) (patterns-at t) patterns.Post patterns-Inv-loop patterns-μ-loop
@@ -179,12 +186,42 @@ patterns-same-length-5 : (t : ℕ)
     → patterns-lts.Need-same-length-5 (called t) (patterns-at t) patterns.Post patterns-Inv-loop patterns-μ-loop
 patterns-same-length-5 t c = search needs
 
+-- the rows under the first counts come after the last row held, of a list that is full
 patterns-returns-2 : (t : ℕ)
     → patterns-lts.Need-returns-2 (called t) (patterns-at t) patterns.Post patterns-Inv-loop patterns-μ-loop
 patterns-returns-2 t c =
+    let s = entry t (c .before) in
+    let known = c .before .above .ensures (c .if2 .taken) in
+    (grown-none (s .pre .1 .0 .1) (λ x r u. known x r (u .own) (u .light)), (refl, s .pre .1 .1 .1 .1 .1))
+
+patterns-one-pattern-requires : (t : ℕ)
+    → patterns-lts.Need-one-pattern-requires (called t) (patterns-at t) patterns.Post patterns-Inv-loop patterns-μ-loop
+patterns-one-pattern-requires t c κs =
+    let o = c .before .before in
+    let s = entry t (o .before .before) in
+    let last = o .if3 .taken in
+    let e : s .args .l .l1 - s .args .later ≡ s .args .l .l1 = omega arith in
+    let b = s .pre .1 .1 .1 .0 in
+    (s .pre .1 .0 .0, (s .pre .1 .0 .1, (b .hand, rw e at (b .sums))))
+
+patterns-same-length-6 : (t : ℕ)
+    → patterns-lts.Need-same-length-6 (called t) (patterns-at t) patterns.Post patterns-Inv-loop patterns-μ-loop
+patterns-same-length-6 t c = search needs
+
+patterns-same-length-7 : (t : ℕ)
+    → patterns-lts.Need-same-length-7 (called t) (patterns-at t) patterns.Post patterns-Inv-loop patterns-μ-loop
+patterns-same-length-7 t c = search needs
+
+patterns-same-length-8 : (t : ℕ)
+    → patterns-lts.Need-same-length-8 (called t) (patterns-at t) patterns.Post patterns-Inv-loop patterns-μ-loop
+patterns-same-length-8 t c = search needs
+
+patterns-returns-3 : (t : ℕ)
+    → patterns-lts.Need-returns-3 (called t) (patterns-at t) patterns.Post patterns-Inv-loop patterns-μ-loop
+patterns-returns-3 t c =
     let o = c .before .before in
     let s = entry t (o .before .before .before .before .before) in
-    let last = o .before .before .before .if2 .taken in
+    let last = o .before .before .before .if3 .taken in
     let e : s .args .l .l1 - s .args .later ≡ s .args .l .l1 = omega arith in
     let g = o .one-pattern .ensures in
     (rw e g, (refl, anchored-stays (s .pre .1 .0 .1) g (s .pre .1 .1 .1 .1 .1)))
@@ -224,24 +261,24 @@ patterns-sub-most-2 t c =
 
 -- the first count that is tried: it is not above the most, and above 0 only for the last block, which loses all that is left
 first-most : (t : ℕ) (c : Ready t) → let a = start t c .args in
-    c .if3 .first ≤ a .l .l1 * blockBits (a .l) - length (a .y .now) - a .pattern .total
-first-most t c = ⊎-elim (λ w. omega (arith, w .1)) (λ w. omega (arith, w .1)) (c .if3 .came)
+    c .if4 .first ≤ a .l .l1 * blockBits (a .l) - length (a .y .now) - a .pattern .total
+first-most t c = ⊎-elim (λ w. omega (arith, w .1)) (λ w. omega (arith, w .1)) (c .if4 .came)
 
 first-all : (t : ℕ) (c : Ready t) → let a = start t c .args in
-    0 < c .if3 .first → (a .l .l1 - a .later + 1 ≡ a .l .l1) × (a .pattern .total + c .if3 .first ≡ rowBits (a .l) - length (a .y .now))
+    0 < c .if4 .first → (a .l .l1 - a .later + 1 ≡ a .l .l1) × (a .pattern .total + c .if4 .first ≡ rowBits (a .l) - length (a .y .now))
 first-all t c z =
     let few = start t c .pre .1 .1 .0 in
     let o = left-over t (start t c) in
     ⊎-elim
     (λ w. (omega (arith, w .0 .taken), omega (arith, w .1)))
     (λ w. absurd (omega (arith, w .1)))
-    (c .if3 .came)
+    (c .if4 .came)
 
 patterns-loop-holds : (t : ℕ)
     → patterns-lts.Need-loop-holds (called t) (patterns-at t) patterns.Post patterns-Inv-loop patterns-μ-loop
 patterns-loop-holds t c =
     let s = start t c in
-    (first-most t c, (tries-start (next t c) (s .pre .1 .0 .1) (c .if3 .first) (first-all t c), (refl, s .pre .1 .1 .1 .1 .1)))
+    (first-most t c, (tries-start (next t c) (s .pre .1 .0 .1) (c .if4 .first) (first-all t c), (refl, s .pre .1 .1 .1 .1 .1)))
 
 patterns-try-block-requires : (t : ℕ)
     → patterns-lts.Need-try-block-requires (called t) (patterns-at t) patterns.Post patterns-Inv-loop patterns-μ-loop
@@ -327,7 +364,7 @@ patterns-part-patterns-end-3 t c = search needs
 patterns-sub-patterns-4 : (t : ℕ)
     → patterns-lts.Need-sub-patterns-4 (called t) (patterns-at t) patterns.Post patterns-Inv-loop patterns-μ-loop
 patterns-sub-patterns-4 t c =
-    let some = loop t (c .before .before .before .before .before) .before .before .before .before .before .before .if2 .left in
+    let some = loop t (c .before .before .before .before .before) .before .before .before .before .before .before .if3 .left in
     omega arith
 
 patterns-patterns-requires : (t : ℕ)
@@ -384,10 +421,10 @@ patterns-loop-less t c =
 -- after a turn the rows whose block i loses at most a bits are known, and the desk's anchor is
 after-turn : (t : ℕ) (c : Turned t) → let p = c .before .before .before .before .before .before in let a = start t (p .before) .args in
     Tries (a .l) (a .numbers .now) (a .y .now) (a .cap) (a .pattern .counts) (a .l .l1 - a .later) (a .pattern .total)
-    (a .row .now) (a .list .now) (a .kept .count) (a .kept .more) (c .if4 .row) (c .if4 .list) (c .if4 .k .count) (c .if4 .k .more)
+    (a .row .now) (a .list .now) (a .kept .count) (a .kept .more) (c .if5 .row) (c .if5 .list) (c .if5 .k .count) (c .if5 .k .more)
     (p .loop .a + 1)
-    × ((length (c .if4 .desk) ≡ length (a .desk .now))
-    × Anchored (a .l) (a .numbers .now) (a .y .now) (rowsIn (rowBits (a .l)) (c .if4 .list) (c .if4 .k .count) (c .if4 .k .more)) (c .if4 .desk))
+    × ((length (c .if5 .desk) ≡ length (a .desk .now))
+    × Anchored (a .l) (a .numbers .now) (a .y .now) (rowsIn (rowBits (a .l)) (c .if5 .list) (c .if5 .k .count) (c .if5 .k .more)) (c .if5 .desk))
 after-turn t c =
     let q = c .before .before .before in
     let p = q .before .before .before in
@@ -407,58 +444,58 @@ after-turn t c =
     ))
     (λ w. rw (w .1, w .2, w .3, w .4)
     (tries-none n (p .loop .a) (tries .0) (q .try-block .ensures) reads same (w .0 .left), tries .1))
-    (c .if4 .came)
+    (c .if5 .came)
 
 patterns-loop-again : (t : ℕ)
     → patterns-lts.Need-loop-again (called t) (patterns-at t) patterns.Post patterns-Inv-loop patterns-μ-loop
 patterns-loop-again t c =
     let p = c .before .before .before .before .before .before .before .before in
     let most = first-most t (p .before) in
-    let more = c .before .if5 .taken in
+    let more = c .before .if6 .taken in
     (omega arith, after-turn t (c .before .before))
 
-patterns-same-length-6 : (t : ℕ)
-    → patterns-lts.Need-same-length-6 (called t) (patterns-at t) patterns.Post patterns-Inv-loop patterns-μ-loop
-patterns-same-length-6 t c = c .before .loop .inv .1 .0 .places
+patterns-same-length-9 : (t : ℕ)
+    → patterns-lts.Need-same-length-9 (called t) (patterns-at t) patterns.Post patterns-Inv-loop patterns-μ-loop
+patterns-same-length-9 t c = c .before .loop .inv .1 .0 .places
 
-patterns-same-length-7 : (t : ℕ)
-    → patterns-lts.Need-same-length-7 (called t) (patterns-at t) patterns.Post patterns-Inv-loop patterns-μ-loop
-patterns-same-length-7 t c = c .before .loop .inv .1 .1 .0
+patterns-same-length-10 : (t : ℕ)
+    → patterns-lts.Need-same-length-10 (called t) (patterns-at t) patterns.Post patterns-Inv-loop patterns-μ-loop
+patterns-same-length-10 t c = c .before .loop .inv .1 .1 .0
 
-patterns-same-length-8 : (t : ℕ)
-    → patterns-lts.Need-same-length-8 (called t) (patterns-at t) patterns.Post patterns-Inv-loop patterns-μ-loop
-patterns-same-length-8 t c = grown-length (start t (c .before .before) .pre .1 .0 .1) (c .before .loop .inv .1 .0 .known)
+patterns-same-length-11 : (t : ℕ)
+    → patterns-lts.Need-same-length-11 (called t) (patterns-at t) patterns.Post patterns-Inv-loop patterns-μ-loop
+patterns-same-length-11 t c = grown-length (start t (c .before .before) .pre .1 .0 .1) (c .before .loop .inv .1 .0 .known)
 
-patterns-returns-3 : (t : ℕ)
-    → patterns-lts.Need-returns-3 (called t) (patterns-at t) patterns.Post patterns-Inv-loop patterns-μ-loop
-patterns-returns-3 t c =
+patterns-returns-4 : (t : ℕ)
+    → patterns-lts.Need-returns-4 (called t) (patterns-at t) patterns.Post patterns-Inv-loop patterns-μ-loop
+patterns-returns-4 t c =
     let p = c .before in
     let o = left-over t (start t (p .before)) in
     let past = c .loop-test .left in
     let w = p .loop .inv .1 in
     (tries-all (next t (p .before)) (p .loop .a) (omega arith) (w .0), (w .0 .stays, w .1 .1))
 
-patterns-same-length-9 : (t : ℕ)
-    → patterns-lts.Need-same-length-9 (called t) (patterns-at t) patterns.Post patterns-Inv-loop patterns-μ-loop
-patterns-same-length-9 t c = after-turn t (c .before) .0 .places
+patterns-same-length-12 : (t : ℕ)
+    → patterns-lts.Need-same-length-12 (called t) (patterns-at t) patterns.Post patterns-Inv-loop patterns-μ-loop
+patterns-same-length-12 t c = after-turn t (c .before) .0 .places
 
-patterns-same-length-10 : (t : ℕ)
-    → patterns-lts.Need-same-length-10 (called t) (patterns-at t) patterns.Post patterns-Inv-loop patterns-μ-loop
-patterns-same-length-10 t c = after-turn t (c .before) .1 .0
+patterns-same-length-13 : (t : ℕ)
+    → patterns-lts.Need-same-length-13 (called t) (patterns-at t) patterns.Post patterns-Inv-loop patterns-μ-loop
+patterns-same-length-13 t c = after-turn t (c .before) .1 .0
 
-patterns-same-length-11 : (t : ℕ)
-    → patterns-lts.Need-same-length-11 (called t) (patterns-at t) patterns.Post patterns-Inv-loop patterns-μ-loop
-patterns-same-length-11 t c =
+patterns-same-length-14 : (t : ℕ)
+    → patterns-lts.Need-same-length-14 (called t) (patterns-at t) patterns.Post patterns-Inv-loop patterns-μ-loop
+patterns-same-length-14 t c =
     let s = start t (c .before .before .before .before .before .before .before .before) in
     grown-length (s .pre .1 .0 .1) (after-turn t (c .before) .0 .known)
 
-patterns-returns-4 : (t : ℕ)
-    → patterns-lts.Need-returns-4 (called t) (patterns-at t) patterns.Post patterns-Inv-loop patterns-μ-loop
-patterns-returns-4 t c =
+patterns-returns-5 : (t : ℕ)
+    → patterns-lts.Need-returns-5 (called t) (patterns-at t) patterns.Post patterns-Inv-loop patterns-μ-loop
+patterns-returns-5 t c =
     let p = c .before .before .before .before .before .before .before in
     let w = after-turn t (c .before) in
     let o = left-over t (start t (p .before)) in
-    let last = c .if5 .left in
+    let last = c .if6 .left in
     (tries-all (next t (p .before)) (p .loop .a + 1) (omega arith) (w .0), (w .0 .stays, w .1 .1))
 
 pub +patterns-spec : {M : Type 1} → statement M
@@ -472,11 +509,16 @@ pub +patterns-spec : {M : Type 1} → statement M
     (patterns-same-length t)
     (patterns-same-length-2 t)
     (patterns-returns t)
-    (patterns-one-pattern-requires t)
+    (patterns-above-requires t)
     (patterns-same-length-3 t)
     (patterns-same-length-4 t)
     (patterns-same-length-5 t)
     (patterns-returns-2 t)
+    (patterns-one-pattern-requires t)
+    (patterns-same-length-6 t)
+    (patterns-same-length-7 t)
+    (patterns-same-length-8 t)
+    (patterns-returns-3 t)
     (patterns-mul-nb t)
     (patterns-mul-p t)
     (patterns-sub-p t)
@@ -506,11 +548,11 @@ pub +patterns-spec : {M : Type 1} → statement M
     (patterns-add-a t)
     (patterns-loop-less t)
     (patterns-loop-again t)
-    (patterns-same-length-6 t)
-    (patterns-same-length-7 t)
-    (patterns-same-length-8 t)
-    (patterns-returns-3 t)
     (patterns-same-length-9 t)
     (patterns-same-length-10 t)
     (patterns-same-length-11 t)
     (patterns-returns-4 t)
+    (patterns-same-length-12 t)
+    (patterns-same-length-13 t)
+    (patterns-same-length-14 t)
+    (patterns-returns-5 t)

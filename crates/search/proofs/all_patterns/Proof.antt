@@ -1,14 +1,26 @@
--- `search::all_patterns` meets its contract: every row is under no counts, so after the patterns from the start all consistent rows
--- are known. Assumes nothing.
+-- `search::all_patterns` meets its contract: an early anchor adds consistent rows only, and every row is under no counts, so after the
+-- patterns from the start all consistent rows are known. Assumes nothing.
 use borrow.Author.Needs.{needs}
 use Prim.Native.Nat.{_-_}
 use mathlib.Core.Path.{refl}
+use mathlib.Core.Bool.{false}
+use mathlib.Core.Logic.{inr}
 use native.Mathlib.Omega.{arith}
-use Rattle.found.proofs.Found.{holding-none, grown-weaken, grown-all}
-use Rattle.anchor.proofs.Anchor.{anchored-none}
+use Rattle.found.specs.Found.{Holding}
+use Rattle.found.proofs.Found.{holding-none, grown-holding, grown-then, grown-weaken, grown-all}
 use Rattle.search.proofs.Counts.{received-short, under-start, begun-start, tabled-start}
 use Rattle.search.proofs.all_patterns.Statement.{statement}
 use Rattle.search.proofs.all_patterns.Tie as tie
+
+-- where the early anchor is tried: the function's entry, and that nothing is held there
+abbrev start : tie.After-early-anchor → tie.Start
+start e = e .before .before .before .before .before .before .before
+
+nothing : (e : tie.After-early-anchor) → let a = start e .args in Holding (a .l) (a .numbers .now) (a .y .now) (a .cap) (a .list .now) 0 false
+nothing e = let a = start e .args in holding-none (a .l) (a .numbers .now) (a .y .now) (a .cap) (a .list .now) (start e .pre .1 .0)
+
+early-anchor-requires : tie.Need-early-anchor-requires
+early-anchor-requires c κs = c .before .before .before .before .before .before .pre
 
 slice-aggregate-fill : tie.Need-slice-aggregate-fill
 slice-aggregate-fill c = search needs
@@ -18,7 +30,8 @@ slice-aggregate-fill-2 c = search needs
 
 fill-requires : tie.Need-fill-requires
 fill-requires c κs =
-    let s = c .before .before .before .before .before .before in
+    let e = c .before .before .before .before .before .before in
+    let s = start e in
     let h = received-short (s .pre .0) in
     (s .pre .0 .bits, (h, (omega arith, omega arith)))
 
@@ -34,11 +47,13 @@ slice-aggregate-patterns-3 c = search needs
 patterns-requires : tie.Need-patterns-requires
 patterns-requires c κs =
     let f = c .before .before .before .before .before .before .before in
-    let s = f .before .before .before .before .before .before .before in
+    let e = f .before .before .before .before .before .before .before in
+    let s = start e in
     let a = s .args in
-    let z = a .l .l1 - a .l .l1 in (
-      (s .pre .0, holding-none (a .l) (a .numbers .now) (a .y .now) (a .cap) (a .list .now) (s .pre .1 .0)),
-      (omega arith, (begun-start (s .pre .0) _ _ refl z (omega arith), (tabled-start (s .pre .0) (f .fill .ensures) z (omega arith), anchored-none (a .desk .now) (s .pre .1 .1)))),
+    let z = a .l .l1 - a .l .l1 in
+    let k = e .early-anchor .ensures in (
+      (s .pre .0, grown-holding (nothing e) (k .0)),
+      (omega arith, (begun-start (s .pre .0) _ _ refl z (omega arith), (tabled-start (s .pre .0) (f .fill .ensures) z (omega arith), k .1))),
     )
 
 same-length : tie.Need-same-length
@@ -50,15 +65,17 @@ same-length-2 c = search needs
 returns : tie.Need-returns
 returns c =
     let p = c .before .before .before .before .before in
-    let s = p .before .before .before .before .before .before .before .before .before .before .before .before .before .before .before in
-    let a = s .args in
-    grown-all (s .pre .1 .0)
-    (grown-weaken (λ x k u. under-start (a .l) (a .y .now) _ _ x (a .l .l1 - a .l .l1) (omega arith)) (p .patterns .ensures .0))
+    let e = p .before .before .before .before .before .before .before .before .before .before .before .before .before .before .before in
+    let a = start e .args in
+    let both = grown-then (nothing e) (e .early-anchor .ensures .0) (p .patterns .ensures .0) in
+    grown-all (start e .pre .1 .0)
+    (grown-weaken (λ x k u. inr (under-start (a .l) (a .y .now) _ _ x (a .l .l1 - a .l .l1) (omega arith))) both)
 
 pub all-patterns-spec : {M : Type 1} → statement M
 all-patterns-spec =
     tie.close
     (tie.spec
+    early-anchor-requires
     slice-aggregate-fill
     slice-aggregate-fill-2
     fill-requires

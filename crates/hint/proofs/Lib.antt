@@ -1,0 +1,2 @@
+-- The laws of this crate, for its proofs.
+pub mod Strings
