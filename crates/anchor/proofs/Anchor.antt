@@ -3,17 +3,17 @@
 -- the laws of greedy matching (consistent), of lines and of steps (found). Assumes nothing.
 use Prim.Native.Nat.{ℕ, zero, suc, _+_, _-_, _*_, _<_, _≤_}
 use mathlib.Core.Path.{_≡_, refl, sym, ap, ap₂, _∙_, subst}
-use mathlib.Core.Bool.{Bool, cond}
+use mathlib.Core.Bool.{Bool, true, cond}
 use mathlib.Core.List.{List}
 use mathlib.Core.Logic.{_⊎_, inl, inr}
-use native.Mathlib.Nat.{add-mul, zero-mul, one-mul, mul-assoc, mul-le-mul-right}
+use native.Mathlib.Nat.{add-mul, zero-add, zero-mul, one-mul, mul-assoc, mul-le-mul-right}
 use native.Mathlib.Omega.{arith}
-use borrow.Author.Tests.{eq-eqb, eqb-true, le-ltb}
+use borrow.Author.Tests.{eq-eqb, eqb-true, leb-true, le-ltb}
 use lib.Dec.{eqb, leb}
 use lib.ListN.{length, getD, take, drop, length-drop, length-map}
 use lib.Seq.{length-take-le, take-all, getD-take, getD-drop}
 use Rattle.bits.specs.Bits.{cut, number, bytesFor, unpack}
-use Rattle.bits.proofs.Laws.{lt-or-ge, both-right}
+use Rattle.bits.proofs.Laws.{lt-or-ge, both-left, both-right}
 use Rattle.field.specs.Field.{check}
 use Rattle.field.proofs.Double.{size-low}
 use Rattle.rows.specs.Held.{Held, Known}
@@ -32,11 +32,11 @@ use Rattle.consistent.specs.Greedy.{losses, inAll}
 use Rattle.consistent.proofs.Greedy.{piece, whole, comes-losses}
 use Rattle.consistent.proofs.Shift.{lost-most, lost-more, piece-loses}
 use Rattle.erasures.proofs.Anchor.{same-row}
-use Rattle.lines.specs.Lines.{values, line}
+use Rattle.lines.specs.Lines.{values, line, unlike}
 use Rattle.lines.proofs.Lines.{length-values, value-at, value-low, row-line}
 use Rattle.found.specs.Found.{Given, Sent, Holding, Grown}
 use Rattle.found.proofs.Found.{sent-parts, grown-rows}
-use Rattle.anchor.specs.Anchor.{over, unlike, lostBefore, Reads, deskSize, nearAt, laterAt, wide, Prepared, Anchor, Anchored}
+use Rattle.anchor.specs.Anchor.{over, lostBefore, Reads, deskSize, nearAt, laterAt, wide, Prepared, Anchor, isSet, Anchored}
 use Rattle.anchor.specs.Anchor.{OwnCounts, LightInHand, BlockMost}
 use Rattle.anchor.proofs.Desk.{blocks-split}
 use Rattle.anchor.proofs.Over.{most-one, over-none, over-front, over-same, over-lost, weight-unlike}
@@ -247,6 +247,23 @@ module _ {l : Layout} {numbers y : List ℕ} {cap : ℕ} {list : List ℕ} {m : 
 pub anchored-none : {l : Layout} {numbers y : List ℕ} {held : Held} (desk : List ℕ) → getD desk 0 0 ≡ 0 → Anchored l numbers y held desk
 anchored-none desk e s =
     absurd (omega (arith, eqb-true (getD desk 0 0) 1 (both-right (leb deskSize (length desk)) (eqb (getD desk 0 0) 1) s)))
+
+-- ---- a desk that has an anchor is long enough for one
+pub set-long : (desk : List ℕ) → isSet desk ≡ true → deskSize ≤ length desk
+set-long desk e = leb-true deskSize (length desk) (both-left (leb deskSize (length desk)) (eqb (getD desk 0 0) 1) e)
+
+-- ---- a consistent row that differs from the anchor's chunks z in at most r of them is known
+pub near-known : {l : Layout} {numbers y : List ℕ} {held : Held} {desk : List ℕ} → Given l numbers y → Anchor l numbers y held desk
+    → (z : List ℕ) → ((c : ℕ) → c < l .l1 * l .l2 → getD z c 0 ≡ getD desk (1 + c) 0)
+    → (x : List ℕ) → Sent l numbers y x → over (unlike (values l x) z) 0 (l .l1 * l .l2) ≤ l .r → Known held x
+near-known {l} {held = held} given a z e x sent few =
+    let chunk : (c : ℕ) → c < l .l1 * l .l2 → unlike (values l x) z c ≡ unlike (values l x) (values l (a .row)) c =
+    λ c h. ap (λ (v : ℕ). cond (eqb (getD (values l x) c 0) v) 0 1) (e c h ∙ a .prepared .chunks c h)
+    in
+    let same = over-same (unlike (values l x) z) (unlike (values l x) (values l (a .row))) 0 (l .l1 * l .l2)
+    (λ t h. rw (zero-add t) (chunk t h))
+    in
+    subst (Known held) (sym (only-one given x (a .row) sent (a .sent) (omega (arith, same)))) (a .known)
 
 -- ---- an anchor stays one while the rows held grow
 pub anchored-stays : {l : Layout} {numbers y : List ℕ} {cap : ℕ} {P : List ℕ → Type 0} {entry exit : List ℕ} {c d : ℕ}

@@ -14,7 +14,8 @@ use lib.ListN.{length}
 use Rattle.field.specs.Linear.{xorEach}
 use Rattle.field.proofs.Xor.{xor-same}
 use Rattle.erasures.specs.Erasures.{weight}
-use Rattle.anchor.specs.Anchor.{over, unlike}
+use Rattle.anchor.specs.Anchor.{over}
+use Rattle.lines.specs.Lines.{unlike}
 
 -- ---- sums over places
 pub over-none : (f : ℕ → ℕ) (c : ℕ) → over f c 0 ≡ 0

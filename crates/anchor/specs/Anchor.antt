@@ -14,17 +14,13 @@ use Rattle.message.specs.Layout.{rowBits, blockBits}
 use Rattle.message.specs.declared.Layout.{Layout}
 use Rattle.consistent.specs.Consistent.{mostLosses}
 use Rattle.consistent.specs.Greedy.{losses, inAll}
-use Rattle.lines.specs.Lines.{values}
+use Rattle.lines.specs.Lines.{values, unlike}
 use Rattle.found.specs.Found.{Sent}
 
 -- the sum of f over n places from place c on
 unfoldable pub over : (f : ℕ → ℕ) (c n : ℕ) → ℕ
 over f c zero = 0
 over f c (suc n) = over f c n + f (c + n)
-
--- 1 where the two lists differ at a place, 0 where they do not
-abbrev pub unlike : (us vs : List ℕ) → ℕ → ℕ
-unlike us vs c = cond (eqb (getD us c 0) (getD vs c 0)) 0 1
 
 -- the losses of the row x before its chunk c
 abbrev pub lostBefore : Layout → (y x : List ℕ) → ℕ → ℕ

@@ -14,9 +14,9 @@ ghost use Rattle.rows.specs.Slice.{rowsIn};
 ghost use Rattle.message.specs.Layout.{legal, rowBits};
 ghost use Rattle.consistent.specs.Consistent.{mostLosses};
 ghost use Rattle.consistent.specs.Greedy.{inAll};
-ghost use Rattle.lines.specs.Lines.{values};
+ghost use Rattle.lines.specs.Lines.{values, unlike};
 ghost use Rattle.found.specs.Found.{Given, Sent, Holding};
-ghost use Rattle.anchor.specs.Anchor.{over, unlike, Reads, deskSize, wide, NearFor, LaterFor, Prepared, isSet, Anchored};
+ghost use Rattle.anchor.specs.Anchor.{over, Reads, deskSize, wide, NearFor, LaterFor, Prepared, isSet, Anchored};
 ghost use Rattle.anchor.specs.Anchor.{OwnCounts, LightInHand, BlockMost};
 
 // Bytes of the desk.
@@ -184,7 +184,7 @@ pub fn set_anchor(
 }
 
 // How many of n chunks differ in two rows.
-fn count_unlike(us: &[u8], vs: &[u8], from: usize, n: usize) -> usize
+pub fn count_unlike(us: &[u8], vs: &[u8], from: usize, n: usize) -> usize
     requires { ⌜ (from + n ≤ length (now us)) × (from + n ≤ length (now vs)) ⌝ }
     ensures { λ r. ⌜ (r ≡ over (unlike (now (us .entry)) (now (vs .entry))) from n) × (r ≤ n) ⌝ }
 {

@@ -1,10 +1,10 @@
--- What the floor is good for: a row under the first counts of a pattern is at least the floor, bit by bit and chunk by chunk; and a
--- row that comes after the last row held is known where more were found than fit. Assumes nothing.
-use Prim.Native.Nat.{ℕ, zero, suc, _+_, _-_, _*_, _<_, _≤_}
+-- What the floor is good for: a row under the first counts of a pattern is at least the floor, bit by bit and chunk by
+-- chunk; and a row that comes after the last row held is known where more were found than fit. Assumes nothing.
+use Prim.Native.Nat.{ℕ, _+_, _-_, _*_, _<_, _≤_}
 use mathlib.Core.Path.{_≡_, refl, sym, ap, _∙_}
 use mathlib.Core.Bool.{Bool, true}
 use mathlib.Core.Logic.{_⊎_, inl, inr, ⊎-elim}
-use mathlib.Core.List.{List, [], map}
+use mathlib.Core.List.{List, []}
 use native.Mathlib.Nat.{add-mul, one-mul, mul-le-mul-right}
 use native.Mathlib.Omega.{arith}
 use lib.ListN.{length, getD, take, drop, length-map, List·getD-map}
@@ -31,6 +31,21 @@ use Rattle.floor.proofs.Least.{first-bit}
 abbrev pub Stands : (y z x : List ℕ) (g left all : ℕ) → Type 0
 Stands y z x g left all = Less z x ⊎ ((take g x ≡ take g z) × (losses (take g x) y + left ≡ all))
 
+-- the w bits that are left of the block: they are matched with the received row from place p on, and at their end x has
+-- lost all
+pub record Rest (y z x : List ℕ) (g w left all p : ℕ) : Type 0 where
+  pub some : 0 < w
+  pub in-z : g + w ≤ length z
+  pub in-x : g + w ≤ length x
+  pub place : p + all ≡ g + left
+  pub end : losses (take (g + w) x) y ≡ all
+
+-- the first bit of the least string there
+pub record Bit (y : List ℕ) (p left w next lost bit : ℕ) : Type 0 where
+  pub next-is : next ≡ nextBit y p
+  pub lost-is : lost ≡ leastLost next left w
+  pub bit-is : bit ≡ bitOf next lost
+
 module _ (z x : List ℕ) (zb : AllBits z) (xb : AllBits x) where
   -- ---- k bits of x that are known
   module _ (g k : ℕ) (zl : g + k ≤ length z) (xl : g + k ≤ length x) where
@@ -40,32 +55,41 @@ module _ (z x : List ℕ) (zb : AllBits z) (xb : AllBits x) where
     pub known-same : number k (drop g x) ≡ number k (drop g z) → AtLeast g z x → AtLeast (g + k) z x
     known-same s = ⊎-elim inl (λ e. inr (part-same z x zb xb g k zl xl e s))
 
-  -- ---- a bit of x, one of the w bits that are left of a block, which lost all at its end: they are matched with the received row from
-  -- place p on, whose next bit is so; and the least bit there
-  module _ (y : List ℕ) (yb : AllBits y) (g w left all p : ℕ) (some : 0 < w) (zl : g + w ≤ length z) (xl : g + w ≤ length x)
-      (at : p + all ≡ g + left) (end : losses (take (g + w) x) y ≡ all) (next lost own : ℕ) (next-is : next ≡ nextBit y p)
-      (lost-is : lost ≡ leastLost next left w) (own-is : own ≡ bitOf next lost) where
+  -- ---- the next bit of x, by the least
+  module _ (y : List ℕ) (yb : AllBits y) {g w left all p next lost bit : ℕ} (r : Rest y z x g w left all p)
+      (b : Bit y p left w next lost bit) where
+    in-z : g + 1 ≤ length z
+    in-z = omega (arith, r .some, r .in-z)
+
+    in-x : g + 1 ≤ length x
+    in-x = omega (arith, r .some, r .in-x)
+
     first : losses (take g x) y + left ≡ all
-        → (own < number 1 (drop g x)) ⊎ ((number 1 (drop g x) ≡ own) × (losses (take (g + 1) x) y ≡ losses (take g x) y + lost))
+        → (bit < number 1 (drop g x))
+        ⊎ ((number 1 (drop g x) ≡ bit) × (losses (take (g + 1) x) y ≡ losses (take g x) y + lost))
     first s =
-        rw (own-is, lost-is, next-is)
-        (first-bit x y xb yb g (losses (take g x) y) left p (omega arith) refl w some xl (omega arith))
+        let end = r .end in
+        let e : ℕ = losses (take g x) y in
+        rw (b .bit-is, b .lost-is, b .next-is)
+        (first-bit x y xb yb g e left p (omega (arith, r .place)) refl w (r .some) (r .in-x) (omega arith))
 
-    pub bit-after : number 1 (drop g z) < own → Stands y z x g left all → Less z x
+    -- where the least is above z's, x comes after z
+    pub bit-after : number 1 (drop g z) < bit → Stands y z x g left all → Less z x
     bit-after l = ⊎-elim (λ a. a) (λ s.
-        part-after z x zb xb g 1 (omega arith) (omega arith) (s .0)
-        (⊎-elim (λ i. omega arith) (λ i. omega (arith, i .0)) (first (s .1))))
+        part-after z x zb xb g 1 in-z in-x (s .0) (⊎-elim (λ i. omega arith) (λ i. omega (arith, i .0)) (first (s .1))))
 
-    pub bit-same : own ≡ number 1 (drop g z) → (rest : ℕ) → rest + lost ≡ left → Stands y z x g left all → Stands y z x (g + 1) rest all
+    -- where it is z's, x stands with it at the next bit
+    pub bit-same : bit ≡ number 1 (drop g z) → (rest : ℕ) → rest + lost ≡ left → Stands y z x g left all
+        → Stands y z x (g + 1) rest all
     bit-same e rest f = ⊎-elim inl (λ s.
         ⊎-elim
-        (λ i. inl (part-after z x zb xb g 1 (omega arith) (omega arith) (s .0) (omega arith)))
-        (λ i. inr (part-same z x zb xb g 1 (omega arith) (omega arith) (s .0) (i .0 ∙ e), omega (arith, i .1, s .1)))
+        (λ i. inl (part-after z x zb xb g 1 in-z in-x (s .0) (omega arith)))
+        (λ i. inr (part-same z x zb xb g 1 in-z in-x (s .0) (i .0 ∙ e), omega (arith, i .1, s .1)))
         (first (s .1)))
 
 -- ---- chunk c of a row in hand
-module _ (l : Layout) (z x : List ℕ) (zb : AllBits z) (row : Row (rowBits l) x) (long : rowBits l ≤ length z) (c v : ℕ) (h : c < l .l1 * l .l2)
-    (own : getD (values l x) c 0 ≡ v) where
+module _ (l : Layout) (z x : List ℕ) (zb : AllBits z) (row : Row (rowBits l) x) (long : rowBits l ≤ length z) (c v : ℕ)
+    (h : c < l .l1 * l .l2) (own : getD (values l x) c 0 ≡ v) where
   room : c * l .nc + l .nc ≤ rowBits l
   room = field-room (l .l1 * l .l2) (l .nc) c h
 
@@ -87,8 +111,8 @@ module _ (l : Layout) (z x : List ℕ) (zb : AllBits z) (row : Row (rowBits l) x
 next-block : (b w : ℕ) → (b + 1) * w ≡ b * w + w
 next-block b w = omega (arith, add-mul b 1 w, one-mul w)
 
-pub own-loses : (l : Layout) (y counts : List ℕ) (i : ℕ) (x : List ℕ) → OwnCounts l y counts i x → (b : ℕ) → b < i → b < length counts
-    → BlockLoses l y b (inAll (take b counts)) (getD counts b 0) x
+pub own-loses : (l : Layout) (y counts : List ℕ) (i : ℕ) (x : List ℕ) → OwnCounts l y counts i x → (b : ℕ) → b < i
+    → b < length counts → BlockLoses l y b (inAll (take b counts)) (getD counts b 0) x
 own-loses l y counts i x own b h k =
     record {
       before = own b (omega arith);
@@ -134,11 +158,13 @@ module _ (l : Layout) (list : List ℕ) (c : ℕ) (m : Bool) where
   none-known e more x = rw e (inr (more, tt))
 
   module _ {numbers y : List ℕ} {cap : ℕ} (held : Holding l numbers y cap list c m) (some : 0 < c) where
-    pub last-known : m ≡ true → (x : List ℕ) → Row (rowBits l) x → Less (unpack lastRow) x → Known (rowsIn (rowBits l) list c m) x
+    pub last-known : m ≡ true → (x : List ℕ) → Row (rowBits l) x → Less (unpack lastRow) x
+        → Known (rowsIn (rowBits l) list c m) x
     last-known more x row less =
         let many = rows-many in
+        let rows : List (List ℕ) = rowsIn (rowBits l) list c m .rows in
         let less = less-take (rowBits l) (unpack lastRow) x (omega (arith, row .0)) less in
-        inr (more, after-all (rowsIn (rowBits l) list c m .rows) x (held .well .ascending) (omega arith) (rw (many, last-is some) less))
+        inr (more, after-all rows x (held .well .ascending) (omega arith) (rw (many, last-is some) less))
 
     -- it stands in the slice
     pub last-room : (c - 1) * bytesFor (rowBits l) + bytesFor (rowBits l) ≤ length list

@@ -31,15 +31,17 @@ less-take (suc n) (a ∷ z) (b ∷ x) h (inl k) = inl k
 less-take (suc n) (a ∷ z) (b ∷ x) h (inr k) = inr (k .0, less-take n z x (omega arith) (k .1))
 
 -- the lower number of the first k bits comes before
-number-less : (k : ℕ) (z x : List ℕ) → AllBits z → AllBits x → k ≤ length z → k ≤ length x → number k z < number k x → Less z x
+number-less : (k : ℕ) (z x : List ℕ) → AllBits z → AllBits x → k ≤ length z → k ≤ length x → number k z < number k x
+    → Less z x
 unfolding number
 number-less zero z x p q h i l = absurd (omega arith)
 number-less (suc k) [] x p q h i l = absurd (omega arith)
 number-less (suc k) (a ∷ z) [] p q h i l = absurd (omega arith)
-number-less (suc k) (a ∷ z) (b ∷ x) p q h i l = go a b (p .0) (q .0) l (number-less k z x (p .1) (q .1) (omega arith) (omega arith))
+number-less (suc k) (a ∷ z) (b ∷ x) p q h i l =
+    go a b (p .0) (q .0) l (number-less k z x (p .1) (q .1) (omega arith) (omega arith))
   where
-    go : (a b : ℕ) → a < 2 → b < 2 → a * 2 ^ k + number k z < b * 2 ^ k + number k x → (number k z < number k x → Less z x)
-        → Less (a ∷ z) (b ∷ x)
+    go : (a b : ℕ) → a < 2 → b < 2 → a * 2 ^ k + number k z < b * 2 ^ k + number k x
+        → (number k z < number k x → Less z x) → Less (a ∷ z) (b ∷ x)
     go zero zero m n l f = inr (refl, f (omega arith))
     go zero (suc zero) m n l f = inl (omega arith)
     go (suc zero) zero m n l f = absurd (omega (arith, number-lt k x (q .1)))
@@ -49,15 +51,17 @@ number-less (suc k) (a ∷ z) (b ∷ x) p q h i l = go a b (p .0) (q .0) l (numb
     go (suc (suc a)) b m n l f = absurd (omega arith)
 
 -- where the first k bits spell the same number they are the same
-number-same : (k : ℕ) (z x : List ℕ) → AllBits z → AllBits x → k ≤ length z → k ≤ length x → number k x ≡ number k z → take k x ≡ take k z
+number-same : (k : ℕ) (z x : List ℕ) → AllBits z → AllBits x → k ≤ length z → k ≤ length x → number k x ≡ number k z
+    → take k x ≡ take k z
 unfolding number
 number-same zero z x p q h i e = refl
 number-same (suc k) [] x p q h i e = absurd (omega arith)
 number-same (suc k) (a ∷ z) [] p q h i e = absurd (omega arith)
-number-same (suc k) (a ∷ z) (b ∷ x) p q h i e = go a b (p .0) (q .0) e (number-same k z x (p .1) (q .1) (omega arith) (omega arith))
+number-same (suc k) (a ∷ z) (b ∷ x) p q h i e =
+    go a b (p .0) (q .0) e (number-same k z x (p .1) (q .1) (omega arith) (omega arith))
   where
-    go : (a b : ℕ) → a < 2 → b < 2 → b * 2 ^ k + number k x ≡ a * 2 ^ k + number k z → (number k x ≡ number k z → take k x ≡ take k z)
-        → b ∷ take k x ≡ a ∷ take k z
+    go : (a b : ℕ) → a < 2 → b < 2 → b * 2 ^ k + number k x ≡ a * 2 ^ k + number k z
+        → (number k x ≡ number k z → take k x ≡ take k z) → b ∷ take k x ≡ a ∷ take k z
     go zero zero m n e f = ap (λ (l : List ℕ). 0 ∷ l) (f (omega arith))
     go zero (suc zero) m n e f = absurd (omega (arith, number-lt k z (p .1)))
     go (suc zero) zero m n e f = absurd (omega (arith, number-lt k x (q .1)))
@@ -77,19 +81,21 @@ module _ (z x : List ℕ) (zb : AllBits z) (xb : AllBits x) (g k : ℕ) (zl : g 
     (common : take g x ≡ take g z) where
   pub part-after : number k (drop g z) < number k (drop g x) → Less z x
   part-after l =
+      let zn = length-drop g z in
+      let xn = length-drop g x in
       less-drop g z x common
-      (number-less k (drop g z) (drop g x) (bits-drop g z zb) (bits-drop g x xb) (omega (arith, length-drop g z)) (omega (arith, length-drop g x)) l)
+      (number-less k (drop g z) (drop g x) (bits-drop g z zb) (bits-drop g x xb) (omega arith) (omega arith) l)
 
   pub part-same : number k (drop g x) ≡ number k (drop g z) → take (g + k) x ≡ take (g + k) z
   part-same e =
-      let s =
-      number-same k (drop g z) (drop g x) (bits-drop g z zb) (bits-drop g x xb) (omega (arith, length-drop g z)) (omega (arith, length-drop g x)) e
-      in
+      let zn = length-drop g z in
+      let xn = length-drop g x in
+      let s = number-same k (drop g z) (drop g x) (bits-drop g z zb) (bits-drop g x xb) (omega arith) (omega arith) e in
       take-add g k x ∙ ap₂ (λ (p q : List ℕ). p ++ q) common s ∙ sym (take-add g k z)
 
 -- what comes after the last of ordered rows comes after all of them
-pub after-all : (rows : List (List ℕ)) (x : List ℕ) → Ascending rows → 0 < length rows → Less (getD rows (length rows - 1) []) x
-    → After rows x
+pub after-all : (rows : List (List ℕ)) (x : List ℕ) → Ascending rows → 0 < length rows
+    → Less (getD rows (length rows - 1) []) x → After rows x
 after-all [] x a h l = absurd (omega arith)
 after-all (y ∷ []) x a h l = (l, tt)
 after-all (y ∷ z ∷ rows) x a h l =

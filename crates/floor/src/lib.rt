@@ -1,20 +1,19 @@
-// The floor: the least row that can be under the first counts of a loss pattern. Once more rows were found than fit, parts of a search
-// whose rows all come after the last row held are left out. Contracts cite specs/Floor.antt; the received row is unpacked, one
-// byte a bit, the rows held are packed.
+// The floor: the least row that can be under the first counts of a loss pattern. Once more rows were found than fit,
+// parts of a search whose rows all come after the last row held are left out. Contracts cite specs/Floor.antt; the
+// received row is unpacked, one byte a bit, the rows held are packed.
 use bits::BitCursor;
 use message::Layout;
 use rows::Kept;
 ghost use mathlib.Core.Path.{_≡_};
 ghost use mathlib.Core.Bool.{true};
 ghost use mathlib.Core.List.{List};
-ghost use Prim.Native.Nat.{ℕ, _+_, _-_, _*_, _<_, _≤_};
-ghost use lib.ListN.{length, getD, take, drop};
+ghost use Prim.Native.Nat.{ℕ, _+_, _*_, _<_, _≤_};
+ghost use lib.ListN.{length, drop};
 ghost use Rattle.bits.specs.Bits.{AllBits, bytesFor, number, unpack as unpacked};
 ghost use Rattle.rows.specs.Held.{Known};
 ghost use Rattle.rows.specs.Order.{Less, Row};
 ghost use Rattle.rows.specs.Slice.{rowsIn};
-ghost use Rattle.message.specs.Layout.{legal, rowBits, blockBits};
-ghost use Rattle.consistent.specs.Greedy.{inAll};
+ghost use Rattle.message.specs.Layout.{legal, rowBits};
 ghost use Rattle.found.specs.Found.{Given, Sent, Holding};
 ghost use Rattle.anchor.specs.Anchor.{OwnCounts, LightInHand};
 ghost use Rattle.floor.specs.Floor.{nextBit, leastLost, bitOf, BlockInHand, BlockLoses, BlockCompared};
@@ -40,7 +39,8 @@ fn next_bit(y: &[u8], p: usize) -> usize
     bits::wide(y[p])
 }
 
-// Of the least string of so many bits that loses just `left`, whether the first bit is lost (1) or takes the next bit (0).
+// Of the least string of so many bits that loses just `left`, whether the first bit is lost (1) or takes the next bit
+// (0).
 fn least_lost(next: usize, left: usize, bits: usize) -> usize
     requires { ⌜ next ≤ 1 ⌝ }
     ensures { λ r. ⌜ (r ≡ leastLost next left bits) × ((r ≤ 1) × (r ≤ left)) ⌝ }
@@ -77,11 +77,11 @@ fn light_block(l: Layout, row: &[u8], b: usize, last: &[u8]) -> u8
     while j < l.l2 {
         let c = from + j;
         let own = bits::wide(row[c]);
-        let other = number_in(last, c * l.nc, l.nc);
-        if own < other {
+        let held = number_in(last, c * l.nc, l.nc);
+        if own < held {
             return 0;
         }
-        if other < own {
+        if held < own {
             return 2;
         }
         j += 1;
@@ -89,8 +89,8 @@ fn light_block(l: Layout, row: &[u8], b: usize, last: &[u8]) -> u8
     1
 }
 
-// The least block b that loses a bits, after d, compared with that of the row `last`: whether it comes before (0), is it (1) or comes
-// after (2).
+// The least block b that loses a bits, after d, compared with that of the row `last`: whether it comes before (0), is
+// it (1) or comes after (2).
 fn heavy_block(l: Layout, y: &[u8], b: usize, d: usize, a: usize, last: &[u8]) -> u8
     requires { ⌜ (legal l ≡ true) × (AllBits (now y) × ((b < l .l1) × (length (now last) ≡ bytesFor (rowBits l)))) ⌝ }
     ensures { λ r. ⌜ ((x : List ℕ) → Row (rowBits l) x → BlockLoses l (now (y .entry)) b d a x
@@ -107,12 +107,12 @@ fn heavy_block(l: Layout, y: &[u8], b: usize, d: usize, a: usize, last: &[u8]) -
     while u < nb {
         let next = next_bit(y, p);
         let lost = least_lost(next, left, nb - u);
-        let own = bit_of(next, lost);
-        let other = number_in(last, from + u, 1);
-        if own < other {
+        let least = bit_of(next, lost);
+        let held = number_in(last, from + u, 1);
+        if least < held {
             return 0;
         }
-        if other < own {
+        if held < least {
             return 2;
         }
         p += 1 - lost;
@@ -122,8 +122,8 @@ fn heavy_block(l: Layout, y: &[u8], b: usize, d: usize, a: usize, last: &[u8]) -
     1
 }
 
-// Block b of a row that loses d bits before it and a in it, compared with that of the row `last`: a block with none or one loss is in
-// hand, of another the least is taken.
+// Block b of a row that loses d bits before it and a in it, compared with that of the row `last`: a block with none or
+// one loss is in hand, of another the least is taken.
 fn compare_block(l: Layout, y: &[u8], row: &[u8], b: usize, d: usize, a: usize, last: &[u8]) -> u8
     requires { ⌜ (legal l ≡ true) × (AllBits (now y) × ((b < l .l1) × ((l .l1 * l .l2 ≤ length (now row))
         × (length (now last) ≡ bytesFor (rowBits l))))) ⌝ }
@@ -157,8 +157,8 @@ fn after_row(l: Layout, y: &[u8], counts: [u8; 255], row: &[u8], i: usize, last:
     false
 }
 
-// Whether every consistent row under the first i counts of a loss pattern is known, as more rows were found than fit and it comes after
-// the last row held.
+// Whether every consistent row under the first i counts of a loss pattern is known, as more rows were found than fit
+// and it comes after the last row held.
 pub fn above(
     l: Layout,
     numbers: &[u16],
@@ -170,7 +170,8 @@ pub fn above(
     list: &[u8],
     kept: Kept,
 ) -> bool
-    requires { ⌜ Given l (now numbers) (now y) × (Holding l (now numbers) (now y) cap (now list) (kept .count) (kept .more)
+    requires { ⌜ Given l (now numbers) (now y)
+        × (Holding l (now numbers) (now y) cap (now list) (kept .count) (kept .more)
         × ((l .l1 * l .l2 ≤ length (now row)) × (i ≤ l .l1))) ⌝ }
     ensures { λ r. ⌜ (r ≡ true → (x : List ℕ) → Sent l (now (numbers .entry)) (now (y .entry)) x
         → OwnCounts l (now (y .entry)) counts i x → LightInHand l counts i (now (row .entry)) x

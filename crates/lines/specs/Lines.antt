@@ -2,8 +2,9 @@
 -- chunk-string a line of every l2-th chunk (document 01, "Rows, blocks, chunks").
 use Prim.Native.Nat.{ℕ, zero, suc, _+_, _-_, _*_, _^_, _<_, _≤_}
 use mathlib.Core.Path.{_≡_}
-use mathlib.Core.Bool.{true}
+use mathlib.Core.Bool.{true, cond}
 use mathlib.Core.List.{List, [], _++_, map}
+use lib.Dec.{eqb}
 use lib.ListN.{getD}
 use Rattle.bits.specs.Bits.{longest, number, digits}
 use Rattle.rows.specs.Deletion.{comesFrom}
@@ -15,6 +16,10 @@ use Rattle.message.specs.declared.Layout.{Layout}
 unfoldable pub values : Layout → List ℕ → List ℕ
 unfolding chunks number
 values l x = map (number (l .nc)) (chunks l x)
+
+-- 1 where two lists differ at a place, 0 where they do not
+abbrev pub unlike : (us vs : List ℕ) → ℕ → ℕ
+unlike us vs c = cond (eqb (getD us c 0) (getD vs c 0)) 0 1
 
 -- the bits of count chunks, the first of them chunk start, each stride chunks after the last
 unfoldable pub line : (nc start stride count : ℕ) → List ℕ → List ℕ

@@ -1,177 +1,114 @@
--- One column of the table of live states, as it is filled state by state, and the table as it is filled column by column. Assumes
--- nothing.
-use Prim.Native.Nat.{ℕ, _+_, _-_, _*_, _<_, _≤_}
-use mathlib.Core.Path.{_≡_, refl, sym, ap, ap₂, _∙_}
-use mathlib.Core.Bool.{Bool, true}
+-- The marks of one column, made anew state by state. Assumes nothing.
+use Prim.Native.Nat.{ℕ, _+_, _*_, _<_, _≤_}
+use mathlib.Core.Path.{_≡_, refl, sym, _∙_}
+use mathlib.Core.Bool.{Bool}
+use mathlib.Core.Logic.{_⊎_, inl, inr, ⊎-elim}
 use mathlib.Core.List.{List}
+use native.Mathlib.Decide.{ℕ-discrete, decLt}
 use native.Mathlib.Nat.{mul-le-mul-right}
-use native.Mathlib.Decide.{ℕ-discrete}
 use native.Mathlib.Omega.{arith}
 use lib.ListN.{length, getD, set, length-set}
 use lib.Seq.{getD-set-same, getD-set-other}
 use Rattle.message.specs.declared.Layout.{Layout}
-use Rattle.live.specs.Live.{stride, state, Reads, Step, Live, each, mostStates, Kept, Filled}
-use Rattle.live.specs.declared.Heavy.{Heavy}
-use Rattle.live.specs.declared.Shape.{Shape}
-use Rattle.live.proofs.Marks.{Within, Reached, Marked, mark, reached-next, marked-next}
-use Rattle.live.proofs.Reading.{reads-same}
-use Rattle.live.proofs.States.{stride-pos, state-low, state-lowered}
+use Rattle.states.specs.declared.Shape.{Shape}
+use Rattle.column.specs.declared.Heavy.{Heavy}
+use Rattle.live.specs.Passes.{Within, numberOf, entryOf, PutAt, Digits, Kept}
+use Rattle.live.specs.Passes.{Remade, Gains, Spread, SpreadBy, Gained}
+use Rattle.live.proofs.Steps.{gained-next}
 
--- the number of states
-all-states : {heavy : Heavy} {shape : Shape} → Kept heavy shape → stride (each (shape .size)) (heavy .n) ≡ shape .states
-all-states {heavy} {shape} kept = ap (stride (each (shape .size))) (sym (kept .blocks)) ∙ sym (kept .shaped .all (kept .some))
+module _ (states at : ℕ) (entry : List ℕ) where
+  pub remade-none : Remade states at entry entry
+  remade-none = record { long = refl; others = λ i h. refl }
 
--- the entries of column j, and of the next one
-abbrev here : Shape → (j : ℕ) → List ℕ → ℕ → ℕ
-here shape j live p = getD live (j * shape .states + p) 0
-
-abbrev after : Shape → (j : ℕ) → List ℕ → ℕ → ℕ
-after shape j live p = getD live (j * shape .states + shape .states + p) 0
-
-module _ (l : Layout) (y numbers : List ℕ) (heavy : Heavy) (row : List ℕ) (shape : Shape) (j : ℕ) (entry : List ℕ) where
-  abbrev size : ℕ → ℕ
-  size = each (shape .size)
-
-  -- the states below q have their marks
-  pub record Filling (live any : List ℕ) (q : ℕ) : Type 0 where
-    pub low : q ≤ shape .states
-    pub long-any : length any ≡ mostStates
-    pub long : length live ≡ length entry
-    pub later : (i : ℕ) → j * shape .states + shape .states ≤ i → getD live i 0 ≡ getD entry i 0
-    pub reached : Reached (shape .n) size (after shape j entry) (each any) q
-    pub marked : Marked (shape .n) size (after shape j entry) (each any) (here shape j live) (Reads l y numbers heavy row j) q
-
-  pub filling-starts : (any : List ℕ) → length any ≡ mostStates → Filling entry any 0
-  filling-starts any h =
+  -- one mark of the column more
+  pub remade-set : (marks : List ℕ) → Remade states at entry marks → (p v : ℕ) → p < states
+      → Remade states at entry (set marks (at + p) v)
+  remade-set marks r p v h =
       record {
-        low = omega arith;
-        long-any = h;
-        long = refl;
-        later = λ i k. refl;
-        reached = record { own = λ p k. absurd (omega arith); down = λ left w k. absurd (omega arith) };
-        marked = record { down = λ left w k. absurd (omega arith); read = λ left w k. absurd (omega arith) };
+        long = length-set marks (at + p) v ∙ r .long;
+        others = λ i o. getD-set-other marks (at + p) i v 0 (λ e. ⊎-elim (λ u. omega arith) (λ u. omega arith) o) ∙ r
+            .others i o;
       }
 
-  module _ (kept : Kept heavy shape) (room : j * shape .states + shape .states + shape .states ≤ length entry) where
-    -- what is known of the mark m and of the mark v of state q
-    pub record Told (any : List ℕ) (q : ℕ) (left : List ℕ) (lower : Bool) (m v : ℕ) : Type 0 where
-      pub digits : (f : ℕ → ℕ) → Within (shape .n) size f → q ≡ state size f (shape .n)
-          → (s : ℕ) → s < shape .n → getD left s 0 ≡ f s
-      pub down : (s : ℕ) → s < shape .n → 0 < getD left s 0 → 0 < getD (shape .stride) s 0 → getD (shape .stride) s 0 ≤ q
-          → 0 < getD any (q - getD (shape .stride) s 0) 0 → lower ≡ true
-      pub mark-down : lower ≡ true → 0 < m
-      pub mark-read : 0 < after shape j entry q → Reads l y numbers heavy row j (each left) → 0 < m
-      pub reach-down : lower ≡ true → 0 < v
-      pub reach-next : 0 < after shape j entry q → 0 < v
+-- the marks of another column are unchanged
+pub other-column : (states c at : ℕ) (entry marks : List ℕ) → at ≡ c * states → Remade states at entry marks
+    → (i p : ℕ) → (i ≡ c → ⊥) → p < states → getD marks (i * states + p) 0 ≡ getD entry (i * states + p) 0
+other-column states c at entry marks e r i p n h = r .others (i * states + p) (go (decLt i c))
+  where
+    go : Dec (i < c) → (i * states + p < at) ⊎ (at + states ≤ i * states + p)
+    go (yes d) = inl (omega (arith, mul-le-mul-right {m = i + 1} {n = c} states (omega arith)))
+    go (no d) = inr (omega (arith, mul-le-mul-right {m = c + 1} {n = i} states (omega arith)))
 
-    module _ (live any : List ℕ) (q : ℕ) (left : List ℕ) (lower : Bool) (m v : ℕ) (f : Filling live any q) (h : q < shape .states)
-        (told : Told any q left lower m v) where
-      -- a marked state one loss below is found
-      found-down : (g : ℕ → ℕ) → Within (shape .n) size g → state size g (shape .n) ≡ q
-          → (s : ℕ) → s < shape .n → 0 < g s → 0 < getD any (q - stride size s) 0 → lower ≡ true
-      found-down g w e s k p a =
-          let t : getD (shape .stride) s 0 ≡ stride size s = kept .shaped .counts (kept .some) s k in
-          let d = state-lowered size g (shape .n) s k p in
-          told .down s k (omega (arith, told .digits g w (sym e) s k)) (omega (arith, stride-pos size s)) (omega arith) (rw t a)
+-- two columns, one after the other, stand in marks that have room for all
+pub two-columns : (states j columns : ℕ) (marks : List ℕ) → j < columns → (columns + 1) * states ≤ length marks
+    → (j + 1) * states + states ≤ length marks
+two-columns states j columns marks h room =
+    omega (arith, mul-le-mul-right {m = j + 2} {n = columns + 1} states (omega arith))
 
-      pub filling-next : Filling (set live (j * shape .states + q) m) (set any q v) (q + 1)
-      filling-next =
-          let at : ℕ = j * shape .states + q in
-          let place : at < length live = omega (arith, f .long) in
-          let few : q < length any = omega (arith, f .long-any, kept .shaped .few) in
-          let same-any : (p : ℕ) → p < q → each (set any q v) p ≡ each any p =
-          λ p k. getD-set-other any q p v 0 (λ e. omega arith)
-          in
-          let same-live : (p : ℕ) → p < q → here shape j (set live at m) p ≡ here shape j live p =
-          λ p k. getD-set-other live at (j * shape .states + p) m 0 (λ e. omega arith)
-          in
-          let here-any : each (set any q v) q ≡ v = getD-set-same any q v 0 few in
-          let here-live : here shape j (set live at m) q ≡ m = getD-set-same live at m 0 place in
-          record {
-            low = omega arith;
-            long-any = length-set any q v ∙ f .long-any;
-            long = length-set live at m ∙ f .long;
-            later = λ i k. getD-set-other live at i m 0 (λ e. omega arith) ∙ f .later i k;
-            reached = reached-next (shape .n) size (after shape j entry) (each any) (each (set any q v)) q same-any (f .reached)
-                (λ p. rw here-any (told .reach-next p))
-                (λ g w e s k p a. rw here-any (told .reach-down (found-down g w e s k p a)));
-            marked = marked-next (shape .n) size (after shape j entry) (each any) (each (set any q v)) q same-any
-                (here shape j live) (here shape j (set live at m)) same-live (Reads l y numbers heavy row j) (f .marked)
-                (λ g w e s k p a. rw here-live (told .mark-down (found-down g w e s k p a)))
-                (λ g w e p r.
-                let same : (s : ℕ) → s < heavy .n → g s ≡ each left s =
-                λ s k. sym (told .digits g w (sym e) s (omega (arith, kept .blocks)))
-                in
-                rw here-live (told .mark-read p (reads-same l y heavy g (each left) j row numbers same r)));
-          }
+-- ---- fresh marks of a column
+module _ (l : Layout) (y numbers : List ℕ) (heavy : Heavy) (known z digits : List ℕ) (j : ℕ) (ahead : Bool) (other : ℕ
+    → ℕ) (there : ℕ)
+    (marks : List ℕ) (at low : ℕ) (entry : List ℕ) where
+  pub spread-none : Spread l y numbers heavy known z digits j ahead other there marks at low low entry entry
+  spread-none = record { long = refl; grows = λ q. omega arith; gains = λ q lo hi. absurd (omega arith) }
 
-    -- once all states have their marks, the column is filled
-    pub filling-ends : (live any : List ℕ) (q : ℕ) → Filling live any q → shape .states ≤ q
-        → Filled l y numbers heavy row (each (shape .size)) j (shape .states) entry live
-    filling-ends live any q f h =
-        let next-column : (j + 1) * shape .states ≡ j * shape .states + shape .states = omega arith in
-        record {
-          long = f .long;
-          later = λ i k. f .later i (omega arith);
-          step = λ left next b r p.
-              let low = state-low size left (shape .n) (λ s k. b s (omega (arith, kept .blocks)) .1) in
-              let column : j * stride size (heavy .n) + state size left (heavy .n) ≡ j * shape .states + state size left (shape .n) =
-              ap₂ (λ (u v : ℕ). j * u + state size left v) (all-states kept) (sym (kept .blocks))
-              in
-              let there : (j + 1) * stride size (heavy .n) + state size next (heavy .n)
-              ≡ j * shape .states + shape .states + state size next (shape .n) =
-              ap₂ (λ (u v : ℕ). (j + 1) * u + state size next v) (all-states kept) (sym (kept .blocks))
-              ∙ ap (λ (v : ℕ). v + state size next (shape .n)) next-column
-              in
-              rw column
-              (mark (shape .n) size (after shape j entry) (each any) q (f .reached) (here shape j live) (Reads l y numbers heavy row j)
-              (f .marked) left next
-              (omega (arith, low, kept .shaped .all (kept .some)))
-              (λ s k. b s (omega (arith, kept .blocks)))
-              (λ e. r (λ s k. e s (omega (arith, kept .blocks))))
-              (rw (← f .later (j * shape .states + shape .states + state size next (shape .n)) (omega arith)) (rw there at p)));
-        }
-
--- ---- the table from column j on
-module _ (l : Layout) (y numbers : List ℕ) (heavy : Heavy) (row : List ℕ) (shape : Shape) where
-  pub record From (live : List ℕ) (j : ℕ) : Type 0 where
-    pub low : j ≤ l .l2
-    pub last : 0 < getD live (l .l2 * shape .states) 0
-    pub step : (i : ℕ) → j ≤ i → i < l .l2 → Step l y numbers heavy row (each (shape .size)) live i
-
-  pub from-last : (live : List ℕ) → l .l2 * shape .states < length live → From (set live (l .l2 * shape .states) 1) (l .l2)
-  from-last live h =
+  -- one fresh mark more is raised
+  pub spread-next : (q v : ℕ) (fresh : List ℕ) → q < length fresh → getD fresh q 0 ≤ v
+      → (0 < getD marks (at + q) 0 → Gains l y numbers heavy known z j ahead (entryOf digits q) other there v)
+      → Spread l y numbers heavy known z digits j ahead other there marks at low q entry fresh
+      → Spread l y numbers heavy known z digits j ahead other there marks at low (q + 1) entry (set fresh q v)
+  spread-next q v fresh h up here s =
       record {
-        low = omega arith;
-        last = rw (getD-set-same live (l .l2 * shape .states) 1 0 h) (omega arith);
-        step = λ i a b. absurd (omega arith);
+        long = length-set fresh q v ∙ s .long;
+        grows = λ i. grows-at i (ℕ-discrete i q);
+        gains = λ i lo hi m. gains-at i lo hi m (ℕ-discrete i q);
+      }
+    where
+      grows-at : (i : ℕ) → Dec (i ≡ q) → getD entry i 0 ≤ getD (set fresh q v) i 0
+      grows-at i (yes e) = rw (e, getD-set-same fresh q v 0 h) (omega (arith, s .grows q))
+      grows-at i (no e) = rw (getD-set-other fresh q i v 0 e) (s .grows i)
+
+      gains-at : (i : ℕ) → low ≤ i → i < q + 1 → 0 < getD marks (at + i) 0 → Dec (i ≡ q)
+          → Gains l y numbers heavy known z j ahead (entryOf digits i) other there (getD (set fresh q v) i 0)
+      gains-at i lo hi m (yes e) = rw (e, getD-set-same fresh q v 0 h) (here (rw e at m))
+      gains-at i lo hi m (no e) = rw (getD-set-other fresh q i v 0 e) (s .gains i lo (omega arith) m)
+
+-- the fresh marks of a column gain by the other states below p
+module _ (l : Layout) (y numbers : List ℕ) (heavy : Heavy) (known z : List ℕ) (shape : Shape) (j : ℕ) (ahead : Bool)
+    (at base : ℕ)
+    (marks : List ℕ) where
+  pub record Remaking (fresh : List ℕ) (p : ℕ) : Type 0 where
+    pub gained : (own : ℕ → ℕ) → Within shape own → 0 < getD marks (at + numberOf shape own) 0
+        → Gained l y numbers heavy known z shape j ahead marks base p own (getD fresh (numberOf shape own) 0)
+
+  pub remaking-starts : (fresh : List ℕ) → Remaking fresh 0
+  remaking-starts fresh = record { gained = λ own w m other w' k. absurd (omega arith) }
+
+  pub remaking-next : Kept heavy shape → (digits : List ℕ) → Digits shape digits → (fresh more : List ℕ) (p states : ℕ)
+      → shape .states ≡ states
+      → SpreadBy l y numbers heavy known z digits j ahead p (getD marks (base + p) 0) marks at states fresh more
+      → Remaking fresh p → Remaking more (p + 1)
+  remaking-next kept digits d fresh more p states e s r =
+      record {
+        gained = λ own w m. gained-next l y numbers heavy known z j ahead kept d marks base p at states fresh more
+            marks (sym e) s
+            own w m (r .gained own w m);
       }
 
-  module _ (kept : Kept heavy shape) where
-    -- one column more
-    pub from-next : (entry live : List ℕ) (j : ℕ) → From entry (j + 1)
-        → Filled l y numbers heavy row (each (shape .size)) j (shape .states) entry live → From live j
-    from-next entry live j f c =
-        record {
-          low = omega (arith, f .low);
-          last = rw (c .later (l .l2 * shape .states) (mul-le-mul-right (shape .states) (f .low))) (f .last);
-          step = λ i a b. go i a b (ℕ-discrete i j);
-        }
-      where
-        states : ℕ
-        states = stride (each (shape .size)) (heavy .n)
+-- ---- the table of the losses left, for the states below q
+pub record Tabled (shape : Shape) (q : ℕ) (table : List ℕ) : Type 0 where
+  pub entry : (left : ℕ → ℕ) → Within shape left → numberOf shape left < q → (s : ℕ) → s < shape .n
+      → getD table (numberOf shape left * 6 + s) 0 ≡ left s
 
-        go : (i : ℕ) → j ≤ i → i < l .l2 → Dec (i ≡ j) → Step l y numbers heavy row (each (shape .size)) live i
-        go i a b (yes e) = rw e (c .step)
-        go i a b (no e) =
-            λ left next h r p.
-            let m : (j + 1) * states ≤ i * states = mul-le-mul-right states (omega arith) in
-            let later : (k : ℕ) → (j + 1) * states ≤ k → getD live k 0 ≡ getD entry k 0 =
-            λ k. rw (all-states kept) (c .later k)
-            in
-            rw (later (i * states + state (each (shape .size)) left (heavy .n)) (omega arith))
-            (f .step i (omega arith) b left next h r
-            (rw (later ((i + 1) * states + state (each (shape .size)) next (heavy .n)) (omega arith)) at p))
-
-    pub from-first : (live : List ℕ) → From live 0 → Live l y numbers heavy row (each (shape .size)) live
-    from-first live f = record { last = rw (all-states kept) (f .last); step = λ i h. f .step i (omega arith) h }
+pub table-next : (shape : Shape) → shape .n ≤ 6 → (entry exit : List ℕ) (q : ℕ) (found : List ℕ) → Tabled shape q entry
+    → PutAt q found entry exit
+    → ((left : ℕ → ℕ) → Within shape left → q ≡ numberOf shape left → (s : ℕ) → s < shape .n → getD found s 0 ≡ left s)
+    → Tabled shape (q + 1) exit
+table-next shape few entry exit q found before put digits =
+    record { entry = λ left w h s k. go left w h s k (ℕ-discrete (numberOf shape left) q) }
+  where
+    go : (left : ℕ → ℕ) → Within shape left → numberOf shape left < q + 1 → (s : ℕ) → s < shape .n
+        → Dec (numberOf shape left ≡ q) → getD exit (numberOf shape left * 6 + s) 0 ≡ left s
+    go left w h s k (yes e) = rw e (put .here s (omega arith) ∙ digits left w (sym e) s k)
+    go left w h s k (no e) = put .before (numberOf shape left * 6 + s) (omega arith) ∙ before .entry left w (omega
+        arith) s k

@@ -1,6 +1,6 @@
 -- The laws of specs/, for the proofs of this crate and of the crates that stand on it.
-pub mod States
-mod Entries
-mod Marks
-pub mod Reading
+pub mod Steps
 mod Columns
+mod Levels
+mod First
+mod Paths

@@ -1,106 +1,805 @@
-// Live loss states: which shares of the heavy blocks' losses can still be completed, as far as the chunk-strings' sums tell.
-// Contracts cite specs/Live.antt.
+// Marks of loss states: which shares of the heavy blocks' losses can still be completed, as far as the chunk-strings'
+// sums tell, and in how many chunks a row that comes through them can differ from another one. Contracts cite
+// specs/Live.antt and specs/Passes.antt.
+use column::Heavy;
 use message::Layout;
+use states::Shape;
 ghost use mathlib.Core.Path.{_≡_};
 ghost use mathlib.Core.Bool.{true, false};
+ghost use mathlib.Core.Logic.{_⊎_};
+ghost use mathlib.Core.List.{List};
 ghost use Prim.Native.Nat.{ℕ, _+_, _-_, _*_, _<_, _≤_};
 ghost use lib.ListN.{length, getD};
-ghost use Rattle.live.specs.Live.{stride as strideOf, state, Fit, Reads, Live, each, mostStates, Shaped, Kept, Filled};
+ghost use Rattle.windows.specs.Windows.{Tables};
+ghost use Rattle.states.specs.States.{each, Shaped};
+ghost use Rattle.column.specs.Column.{Fit, Light, Crosses, apartIn};
+ghost use Rattle.live.specs.Live.{Path, apartBefore, apartFrom, Covers, Through};
+ghost use Rattle.live.specs.Passes.{Ready, Within, numberOf, PutAt, entryOf, Digits, Kept, Remade, Joined};
+ghost use Rattle.live.specs.Passes.{Gains, Spread, SpreadBy, Gained, Goes, OneLess, FirstMark, Pass};
 
-// The most blocks with two losses or more.
-pub const MOST_HEAVY: usize = 6;
-
-// The most loss states that are kept.
+// The most loss states whose marks are kept.
 const MOST_STATES: usize = 729;
 
-// The blocks with two losses or more: each block, and the losses up to its end.
-pub struct Heavy {
-    pub n: usize,
-    pub block: [u8; MOST_HEAVY],
-    pub end: [u8; MOST_HEAVY],
+// From here on a mark says nothing of a number.
+pub const MANY: u8 = 40;
+
+// What is prepared: the shape of the loss states; whether their marks are kept; whether no row comes through them at
+// all; and whether each that does is near another row.
+pub struct Prepared {
+    pub shape: Shape,
+    pub kept: bool,
+    pub none: bool,
+    pub near: bool,
 }
 
-// The loss states: how many losses each heavy block has at most, what one counts in the number of a state, and how many states
-// there are; none where they are too many to be kept.
-pub struct Shape {
-    pub n: usize,
-    pub size: [u8; MOST_HEAVY],
-    pub stride: [usize; MOST_HEAVY],
-    pub states: usize,
-}
-
-// The shape of the loss states of n heavy blocks with these losses.
-fn shape_of(n: usize, size: [u8; MOST_HEAVY]) -> Shape
-    requires { ⌜ n ≤ 6 ⌝ }
-    ensures { λ r. ⌜ ((r .n ≡ n) × (r .size ≡ size)) × Shaped (r .n) (r .size) (r .stride) (r .states) ⌝ }
+// Sets the losses left in state q.
+fn put_digits(digits: &mut [u8], q: usize, left: [u8; states::MOST_HEAVY])
+    requires { ⌜ q * 6 + 6 ≤ length (now digits) ⌝ }
+    ensures { λ _. ⌜ PutAt q left (now (digits .entry)) (now (digits .exit)) ⌝ }
 {
-    let mut stride: [usize; MOST_HEAVY] = [0; MOST_HEAVY];
-    let mut states: usize = 1;
     let mut s: usize = 0;
-    while s < n {
-        stride[s] = states;
-        states *= bits::wide(size[s]) + 1;
-        if MOST_STATES < states {
-            return Shape {
-                n,
-                size,
-                stride,
-                states: 0,
-            };
-        }
+    while s < states::MOST_HEAVY {
+        digits[q * states::MOST_HEAVY + s] = left[s];
         s += 1;
     }
-    Shape {
-        n,
-        size,
-        stride,
-        states,
+}
+
+// The table of the losses left in each state.
+fn fill_digits(shape: Shape, digits: &mut [u8])
+    requires { ⌜ (shape .n ≤ 6) × (Shaped (shape .n) (shape .size) (shape .stride) (shape .states)
+        × (shape .states * 6 ≤ length (now digits))) ⌝ }
+    ensures { λ _. ⌜ Digits shape (now (digits .exit)) ⌝ }
+{
+    let states = shape.states;
+    let mut q: usize = 0;
+    while q < states {
+        let left = states::losses_left(shape, q);
+        put_digits(digits, q, left);
+        q += 1;
     }
 }
 
-// The losses that each heavy block has left in a state.
-fn losses_left(shape: Shape, q: usize) -> [u8; MOST_HEAVY]
-    requires { ⌜ (shape .n ≤ 6) × ((0 < shape .states) × Shaped (shape .n) (shape .size) (shape .stride) (shape .states)) ⌝ }
-    ensures { λ r. ⌜ ((left : ℕ → ℕ) → ((s : ℕ) → s < shape .n → left s ≤ each (shape .size) s)
-        → q ≡ state (each (shape .size)) left (shape .n) → (s : ℕ) → s < shape .n → getD r s 0 ≡ left s) ⌝ }
+// The losses left in state q.
+fn digits_of(digits: &[u8], q: usize) -> [u8; states::MOST_HEAVY]
+    requires { ⌜ q * 6 + 6 ≤ length (now digits) ⌝ }
+    ensures { λ r. ⌜ ((s : ℕ) → s < 6 → getD r s 0 ≡ getD (now (digits .entry)) (q * 6 + s) 0) ⌝ }
 {
-    let n = shape.n;
-    let mut left: [u8; MOST_HEAVY] = [0; MOST_HEAVY];
+    let mut left: [u8; states::MOST_HEAVY] = [0; states::MOST_HEAVY];
     let mut s: usize = 0;
-    while s < n {
-        left[s] = (q / shape.stride[s] % (bits::wide(shape.size[s]) + 1)) as u8;
+    while s < states::MOST_HEAVY {
+        left[s] = digits[q * states::MOST_HEAVY + s];
         s += 1;
     }
     left
 }
 
-// Whether a state is marked that lies down lower, for a block that has losses left.
-fn lower(any: &[u8], q: usize, down: usize, left: u8) -> bool
-    requires { ⌜ q ≤ length (now any) ⌝ }
-    ensures { λ r. ⌜ (0 < left → 0 < down → down ≤ q → 0 < getD (now (any .entry)) (q - down) 0 → r ≡ true) ⌝ }
+// Whether none of the first n blocks has more left in one state than in another.
+fn no_more(n: usize, next: [u8; states::MOST_HEAVY], left: [u8; states::MOST_HEAVY]) -> bool
+    requires { ⌜ n ≤ 6 ⌝ }
+    ensures { λ r. ⌜ (((s : ℕ) → s < n → getD next s 0 ≤ getD left s 0) → r ≡ true) ⌝ }
+{
+    let mut s: usize = 0;
+    while s < n {
+        if left[s] < next[s] {
+            return false;
+        }
+        s += 1;
+    }
+    true
+}
+
+// The greater of two marks.
+fn higher(a: u8, b: u8) -> u8
+    ensures { λ r. ⌜ (a ≤ r) × (b ≤ r) ⌝ }
+{
+    if a < b {
+        return b;
+    }
+    a
+}
+
+// Crossing column j from one state to another, where no block has more left afterwards; as crossing says.
+fn between(
+    l: Layout,
+    y: &[u8],
+    totals: &[u32],
+    counts: &[u16],
+    numbers: &[u16],
+    heavy: Heavy,
+    known: &[u16],
+    z: &[u8],
+    j: usize,
+    left: [u8; states::MOST_HEAVY],
+    next: [u8; states::MOST_HEAVY],
+) -> u8
+    requires { ⌜ Ready l (now y) (now totals) (now counts) (now numbers) heavy (now known) (now z) × (j < l .l2) ⌝ }
+    ensures { λ r. ⌜ ((row vs : List ℕ) → Light l heavy row (now (known .entry))
+        → Crosses l (now (y .entry)) (now (numbers .entry)) heavy row j (each left) (each next) vs
+        → apartIn l heavy (now (z .entry)) vs j (heavy .n) < r) ⌝ }
+{
+    if !no_more(heavy.n, next, left) {
+        return 0;
+    }
+    column::crossing(
+        l,
+        y,
+        totals,
+        counts,
+        numbers,
+        heavy,
+        known,
+        z,
+        j,
+        left,
+        next,
+    )
+}
+
+// Crossing column j between two states, ahead from other to own and otherwise from own to other; as crossing says.
+fn crossed(
+    l: Layout,
+    y: &[u8],
+    totals: &[u32],
+    counts: &[u16],
+    numbers: &[u16],
+    heavy: Heavy,
+    known: &[u16],
+    z: &[u8],
+    j: usize,
+    ahead: bool,
+    own: [u8; states::MOST_HEAVY],
+    other: [u8; states::MOST_HEAVY],
+) -> u8
+    requires { ⌜ Ready l (now y) (now totals) (now counts) (now numbers) heavy (now known) (now z) × (j < l .l2) ⌝ }
+    ensures { λ r. ⌜ ((vs : List ℕ)
+        → Joined l (now (y .entry)) (now (numbers .entry)) heavy (now (known .entry)) j ahead (each own) (each other) vs
+        → apartIn l heavy (now (z .entry)) vs j (heavy .n) < r) ⌝ }
+{
+    if ahead {
+        return between(
+            l,
+            y,
+            totals,
+            counts,
+            numbers,
+            heavy,
+            known,
+            z,
+            j,
+            other,
+            own,
+        );
+    }
+    between(
+        l,
+        y,
+        totals,
+        counts,
+        numbers,
+        heavy,
+        known,
+        z,
+        j,
+        own,
+        other,
+    )
+}
+
+// A mark and what crossing a column answers together: the mark after crossing it.
+fn carried(mark: u8, cross: u8) -> u8
+    ensures { λ r. ⌜ ((m a : ℕ) → Covers mark m → a < cross → Covers r (m + a)) ⌝ }
+{
+    if mark == 0 {
+        return 0;
+    }
+    if cross == 0 {
+        return 0;
+    }
+    let more = cross - 1;
+    if 255 - more < mark {
+        return 255;
+    }
+    mark + more
+}
+
+// The mark of state q by the mark of one other state.
+fn reached_by(
+    l: Layout,
+    y: &[u8],
+    totals: &[u32],
+    counts: &[u16],
+    numbers: &[u16],
+    heavy: Heavy,
+    known: &[u16],
+    z: &[u8],
+    digits: &[u8],
+    j: usize,
+    ahead: bool,
+    other: [u8; states::MOST_HEAVY],
+    there: u8,
+    q: usize,
+) -> u8
+    requires { ⌜ Ready l (now y) (now totals) (now counts) (now numbers) heavy (now known) (now z) × ((j < l .l2)
+        × (q * 6 + 6 ≤ length (now digits))) ⌝ }
+    ensures { λ r. ⌜ Gains l (now (y .entry)) (now (numbers .entry)) heavy (now (known .entry)) (now
+        (z .entry)) j ahead (entryOf (now (digits .entry)) q) (each other) there r ⌝ }
+{
+    let own = digits_of(digits, q);
+    carried(
+        there,
+        crossed(
+            l,
+            y,
+            totals,
+            counts,
+            numbers,
+            heavy,
+            known,
+            z,
+            j,
+            ahead,
+            own,
+            other,
+        ),
+    )
+}
+
+// The same, for a state that may have had no mark.
+fn reached(
+    l: Layout,
+    y: &[u8],
+    totals: &[u32],
+    counts: &[u16],
+    numbers: &[u16],
+    heavy: Heavy,
+    known: &[u16],
+    z: &[u8],
+    digits: &[u8],
+    j: usize,
+    ahead: bool,
+    other: [u8; states::MOST_HEAVY],
+    there: u8,
+    q: usize,
+    mark: u8,
+) -> u8
+    requires { ⌜ Ready l (now y) (now totals) (now counts) (now numbers) heavy (now known) (now z) × ((j < l .l2)
+        × (q * 6 + 6 ≤ length (now digits))) ⌝ }
+    ensures { λ r. ⌜ (0 < mark
+        → Gains l (now (y .entry)) (now (numbers .entry)) heavy (now (known .entry)) (now (z .entry)) j ahead (entryOf
+        (now (digits .entry)) q) (each other) there r) ⌝ }
+{
+    if mark == 0 {
+        return 0;
+    }
+    reached_by(
+        l,
+        y,
+        totals,
+        counts,
+        numbers,
+        heavy,
+        known,
+        z,
+        digits,
+        j,
+        ahead,
+        other,
+        there,
+        q,
+    )
+}
+
+// Raises the fresh marks of the states low to high - 1 of a column, whose marks stand at a place, by the mark of one
+// other state.
+fn spread_over(
+    l: Layout,
+    y: &[u8],
+    totals: &[u32],
+    counts: &[u16],
+    numbers: &[u16],
+    heavy: Heavy,
+    known: &[u16],
+    z: &[u8],
+    states: usize,
+    digits: &[u8],
+    j: usize,
+    ahead: bool,
+    other: [u8; states::MOST_HEAVY],
+    there: u8,
+    marks: &[u8],
+    at: usize,
+    low: usize,
+    high: usize,
+    fresh: &mut [u8],
+)
+    requires { ⌜ Ready l (now y) (now totals) (now counts) (now numbers) heavy (now known) (now z) × ((j < l .l2)
+        × ((states * 6 ≤ length (now digits))
+        × (((low ≤ high) × (high ≤ states)) × ((at + states ≤ length (now marks))
+        × (states ≤ length (now fresh)))))) ⌝ }
+    ensures { λ _. ⌜ Spread l (now (y .entry)) (now (numbers .entry)) heavy (now (known .entry)) (now (z .entry)) (now
+        (digits .entry)) j ahead (each other) there
+        (now (marks .entry)) at low high (now (fresh .entry)) (now (fresh .exit)) ⌝ }
+{
+    let mut q = low;
+    while q < high {
+        fresh[q] = higher(
+            fresh[q],
+            reached(
+                l,
+                y,
+                totals,
+                counts,
+                numbers,
+                heavy,
+                known,
+                z,
+                digits,
+                j,
+                ahead,
+                other,
+                there,
+                q,
+                marks[at + q],
+            ),
+        );
+        q += 1;
+    }
+}
+
+// Raises the fresh marks of a column by the mark of the other state p: ahead of the states that have no more left,
+// otherwise of those that have no less.
+fn spread(
+    l: Layout,
+    y: &[u8],
+    totals: &[u32],
+    counts: &[u16],
+    numbers: &[u16],
+    heavy: Heavy,
+    known: &[u16],
+    z: &[u8],
+    states: usize,
+    digits: &[u8],
+    j: usize,
+    ahead: bool,
+    p: usize,
+    there: u8,
+    marks: &[u8],
+    at: usize,
+    fresh: &mut [u8],
+)
+    requires { ⌜ Ready l (now y) (now totals) (now counts) (now numbers) heavy (now known) (now z) × ((j < l .l2)
+        × ((states * 6 ≤ length (now digits))
+        × ((p < states) × ((at + states ≤ length (now marks)) × (states ≤ length (now fresh)))))) ⌝ }
+    ensures { λ _. ⌜ SpreadBy l (now (y .entry)) (now (numbers .entry)) heavy (now (known .entry)) (now (z .entry))
+        (now (digits .entry)) j ahead p there
+        (now (marks .entry)) at states (now (fresh .entry)) (now (fresh .exit)) ⌝ }
+{
+    if there == 0 {
+        return;
+    }
+    let other = digits_of(digits, p);
+    if ahead {
+        spread_over(
+            l,
+            y,
+            totals,
+            counts,
+            numbers,
+            heavy,
+            known,
+            z,
+            states,
+            digits,
+            j,
+            ahead,
+            other,
+            there,
+            marks,
+            at,
+            0,
+            p + 1,
+            fresh,
+        );
+        return;
+    }
+    spread_over(
+        l,
+        y,
+        totals,
+        counts,
+        numbers,
+        heavy,
+        known,
+        z,
+        states,
+        digits,
+        j,
+        ahead,
+        other,
+        there,
+        marks,
+        at,
+        p,
+        states,
+        fresh,
+    );
+}
+
+// Sets the marks of a column.
+fn put_column(states: usize, at: usize, fresh: &[u8], marks: &mut [u8])
+    requires { ⌜ (states ≤ length (now fresh)) × (at + states ≤ length (now marks)) ⌝ }
+    ensures { λ _. ⌜ Remade states at (now (marks .entry)) (now (marks .exit))
+        × ((p : ℕ) → p < states → getD (now (marks .exit)) (at + p) 0 ≡ getD (now (fresh .entry)) p 0) ⌝ }
+{
+    let mut p: usize = 0;
+    while p < states {
+        marks[at + p] = fresh[p];
+        p += 1;
+    }
+}
+
+// New marks of one column, at a place, by those of a column next to it, at base, for the states that had one.
+fn remake(
+    l: Layout,
+    y: &[u8],
+    totals: &[u32],
+    counts: &[u16],
+    numbers: &[u16],
+    heavy: Heavy,
+    known: &[u16],
+    z: &[u8],
+    shape: Shape,
+    digits: &[u8],
+    j: usize,
+    ahead: bool,
+    at: usize,
+    base: usize,
+    marks: &mut [u8],
+)
+    requires { ⌜ Ready l (now y) (now totals) (now counts) (now numbers) heavy (now known) (now z) × ((j < l .l2)
+        × (Kept heavy shape × (Digits shape (now digits)
+        × ((at + shape .states ≤ length (now marks)) × (base + shape .states ≤ length (now marks)))))) ⌝ }
+    ensures { λ _. ⌜ Remade (shape .states) at (now (marks .entry)) (now (marks .exit))
+        × ((own : ℕ → ℕ) → Within shape own → 0 < getD (now (marks .entry)) (at + numberOf shape own) 0
+        → Gained l (now (y .entry)) (now (numbers .entry)) heavy (now (known .entry)) (now (z .entry)) shape j ahead
+        (now (marks .entry)) base (shape .states) own
+        (getD (now (marks .exit)) (at + numberOf shape own) 0)) ⌝ }
+{
+    let states = shape.states;
+    let mut fresh: [u8; MOST_STATES] = [0; MOST_STATES];
+    let mut p: usize = 0;
+    while p < states {
+        spread(
+            l,
+            y,
+            totals,
+            counts,
+            numbers,
+            heavy,
+            known,
+            z,
+            states,
+            digits,
+            j,
+            ahead,
+            p,
+            marks[base + p],
+            marks,
+            at,
+            &mut fresh,
+        );
+        p += 1;
+    }
+    put_column(states, at, &fresh, marks);
+}
+
+// Gives one state of a column a mark, and the others none.
+fn only(states: usize, at: usize, q: usize, mark: u8, marks: &mut [u8])
+    requires { ⌜ (q < states) × (at + states ≤ length (now marks)) ⌝ }
+    ensures { λ _. ⌜ Remade states at (now (marks .entry)) (now (marks .exit))
+        × (getD (now (marks .exit)) (at + q) 0 ≡ mark) ⌝ }
+{
+    let mut p: usize = 0;
+    while p < states {
+        marks[at + p] = 0;
+        p += 1;
+    }
+    marks[at + q] = mark;
+}
+
+// Marks that count the chunks that can be others than in z, from the first column on: in the columns before each.
+fn ahead(
+    l: Layout,
+    y: &[u8],
+    totals: &[u32],
+    counts: &[u16],
+    numbers: &[u16],
+    heavy: Heavy,
+    known: &[u16],
+    z: &[u8],
+    shape: Shape,
+    digits: &[u8],
+    marks: &mut [u8],
+)
+    requires { ⌜ Ready l (now y) (now totals) (now counts) (now numbers) heavy (now known) (now z)
+        × (Kept heavy shape × (Digits shape (now digits) × ((l .l2 + 1) * shape .states ≤ length (now marks)))) ⌝ }
+    ensures { λ _. ⌜ Pass l (now (y .entry)) (now (numbers .entry)) heavy (now (known .entry)) shape
+        (apartBefore l heavy (now (z .entry)))
+        (now (marks .entry)) (now (marks .exit)) ⌝ }
+{
+    let states = shape.states;
+    let columns = l.l2;
+    only(states, 0, states - 1, 1, marks);
+    let mut j: usize = 0;
+    while j < columns {
+        remake(
+            l,
+            y,
+            totals,
+            counts,
+            numbers,
+            heavy,
+            known,
+            z,
+            shape,
+            digits,
+            j,
+            true,
+            (j + 1) * states,
+            j * states,
+            marks,
+        );
+        j += 1;
+    }
+}
+
+// Marks that count the chunks that can be others than in z, from the last column back: in the columns from each on.
+fn back(
+    l: Layout,
+    y: &[u8],
+    totals: &[u32],
+    counts: &[u16],
+    numbers: &[u16],
+    heavy: Heavy,
+    known: &[u16],
+    z: &[u8],
+    shape: Shape,
+    digits: &[u8],
+    marks: &mut [u8],
+)
+    requires { ⌜ Ready l (now y) (now totals) (now counts) (now numbers) heavy (now known) (now z)
+        × (Kept heavy shape × (Digits shape (now digits) × ((l .l2 + 1) * shape .states ≤ length (now marks)))) ⌝ }
+    ensures { λ _. ⌜ Pass l (now (y .entry)) (now (numbers .entry)) heavy (now (known .entry)) shape
+        (apartFrom l heavy (now (z .entry)))
+        (now (marks .entry)) (now (marks .exit)) ⌝ }
+{
+    let states = shape.states;
+    let mut j = l.l2;
+    only(states, j * states, 0, 1, marks);
+    while 0 < j {
+        j -= 1;
+        remake(
+            l,
+            y,
+            totals,
+            counts,
+            numbers,
+            heavy,
+            known,
+            z,
+            shape,
+            digits,
+            j,
+            false,
+            j * states,
+            (j + 1) * states,
+            marks,
+        );
+    }
+}
+
+// One more than the level of the state that lies down lower, for a block that has losses left; at most three.
+fn raised(levels: &[u8], q: usize, down: usize, left: u8) -> u8
+    requires { ⌜ q ≤ length (now levels) ⌝ }
+    ensures { λ r. ⌜ ((v : ℕ) → 0 < left → 0 < down → down ≤ q → 0 < v → v < 3
+        → v ≤ getD (now (levels .entry)) (q - down) 0
+        → v + 1 ≤ r) ⌝ }
 {
     if left == 0 {
-        return false;
+        return 0;
     }
     if down == 0 {
+        return 0;
+    }
+    if q < down {
+        return 0;
+    }
+    let level = levels[q - down];
+    if level == 0 {
+        return 0;
+    }
+    if 2 < level {
+        return 3;
+    }
+    level + 1
+}
+
+// One for a mark, zero for none.
+fn one_if(mark: u8) -> u8
+    ensures { λ r. ⌜ (0 < mark → 0 < r) ⌝ }
+{
+    if mark == 0 {
+        return 0;
+    }
+    1
+}
+
+// The level of state q: one more than the losses that it has above a state that is marked in the next column, up to two
+// losses.
+fn level_of(
+    n: usize,
+    strides: &[usize; states::MOST_HEAVY],
+    digits: &[u8],
+    q: usize,
+    levels: &[u8; MOST_STATES],
+    next: u8,
+) -> u8
+    requires { ⌜ (n ≤ 6) × ((q * 6 + 6 ≤ length (now digits)) × (q < 729)) ⌝ }
+    ensures { λ r. ⌜ (0 < next → 0 < r) × ((s v : ℕ) → s < n → 0 < getD (now (digits .entry)) (q * 6 + s) 0
+        → 0 < getD (now (strides .entry)) s 0 → getD (now (strides .entry)) s 0 ≤ q → 0 < v → v < 3
+        → v ≤ getD (now (levels .entry)) (q - getD (now (strides .entry)) s 0) 0 → v + 1 ≤ r) ⌝ }
+{
+    let mut level = one_if(next);
+    let mut s: usize = 0;
+    while s < n {
+        level = higher(
+            level,
+            raised(levels, q, strides[s], digits[q * states::MOST_HEAVY + s]),
+        );
+        if 2 < level {
+            return level;
+        }
+        s += 1;
+    }
+    level
+}
+
+// Whether the next state is marked and a row can cross column j to it.
+fn goes(
+    l: Layout,
+    y: &[u8],
+    totals: &[u32],
+    counts: &[u16],
+    numbers: &[u16],
+    heavy: Heavy,
+    known: &[u16],
+    z: &[u8],
+    j: usize,
+    left: [u8; states::MOST_HEAVY],
+    next: [u8; states::MOST_HEAVY],
+    mark: u8,
+) -> bool
+    requires { ⌜ Ready l (now y) (now totals) (now counts) (now numbers) heavy (now known) (now z) × (j < l .l2) ⌝ }
+    ensures { λ r. ⌜ ((row vs : List ℕ) → Light l heavy row (now (known .entry))
+        → Crosses l (now (y .entry)) (now (numbers .entry)) heavy row j (each left) (each next) vs → 0 < mark
+        → r ≡ true) ⌝ }
+{
+    if mark == 0 {
+        return false;
+    }
+    0
+        < column::crossing(
+            l,
+            y,
+            totals,
+            counts,
+            numbers,
+            heavy,
+            known,
+            z,
+            j,
+            left,
+            next,
+        )
+}
+
+// Whether a row can cross column j from state q with one loss in heavy block s, to a marked state; the marks of the
+// next column stand at base.
+fn loses_one(
+    l: Layout,
+    y: &[u8],
+    totals: &[u32],
+    counts: &[u16],
+    numbers: &[u16],
+    heavy: Heavy,
+    known: &[u16],
+    z: &[u8],
+    shape: Shape,
+    j: usize,
+    left: [u8; states::MOST_HEAVY],
+    q: usize,
+    s: usize,
+    marks: &[u8],
+    base: usize,
+) -> bool
+    requires { ⌜ Ready l (now y) (now totals) (now counts) (now numbers) heavy (now known) (now z) × ((j < l .l2)
+        × (Kept heavy shape
+        × ((q < shape .states) × ((s < heavy .n) × (base + shape .states ≤ length (now marks)))))) ⌝ }
+    ensures { λ r. ⌜ ((row vs : List ℕ) (next : ℕ → ℕ) → Light l heavy row (now (known .entry))
+        → Crosses l (now (y .entry)) (now (numbers .entry)) heavy row j (each left) next vs
+        → OneLess (heavy .n) (each left) next s → getD (shape .stride) s 0 ≤ q
+        → 0 < getD (now (marks .entry)) (base + (q - getD (shape .stride) s 0)) 0 → r ≡ true) ⌝ }
+{
+    let down = shape.stride[s];
+    if left[s] == 0 {
         return false;
     }
     if q < down {
         return false;
     }
-    0 < any[q - down]
+    let mut next = left;
+    next[s] -= 1;
+    goes(
+        l,
+        y,
+        totals,
+        counts,
+        numbers,
+        heavy,
+        known,
+        z,
+        j,
+        left,
+        next,
+        marks[base + (q - down)],
+    )
 }
 
-// Whether a state with one loss less in some block is marked.
-fn below(shape: Shape, left: [u8; MOST_HEAVY], q: usize, any: &[u8]) -> bool
-    requires { ⌜ (shape .n ≤ 6) × (q ≤ length (now any)) ⌝ }
-    ensures { λ r. ⌜ ((s : ℕ) → s < shape .n → 0 < getD left s 0 → 0 < getD (shape .stride) s 0 → getD (shape .stride) s 0 ≤ q
-        → 0 < getD (now (any .entry)) (q - getD (shape .stride) s 0) 0 → r ≡ true) ⌝ }
+// Whether a row can cross column j from state q with one loss, to a marked state.
+fn loses(
+    l: Layout,
+    y: &[u8],
+    totals: &[u32],
+    counts: &[u16],
+    numbers: &[u16],
+    heavy: Heavy,
+    known: &[u16],
+    z: &[u8],
+    shape: Shape,
+    j: usize,
+    left: [u8; states::MOST_HEAVY],
+    q: usize,
+    marks: &[u8],
+    base: usize,
+) -> bool
+    requires { ⌜ Ready l (now y) (now totals) (now counts) (now numbers) heavy (now known) (now z) × ((j < l .l2)
+        × (Kept heavy shape
+        × ((q < shape .states) × (base + shape .states ≤ length (now marks))))) ⌝ }
+    ensures { λ r. ⌜ ((row vs : List ℕ) (next : ℕ → ℕ) (s : ℕ) → s < heavy .n → Light l heavy row (now (known .entry))
+        → Crosses l (now (y .entry)) (now (numbers .entry)) heavy row j (each left) next vs
+        → OneLess (heavy .n) (each left) next s → getD (shape .stride) s 0 ≤ q
+        → 0 < getD (now (marks .entry)) (base + (q - getD (shape .stride) s 0)) 0 → r ≡ true) ⌝ }
 {
-    let n = shape.n;
+    let n = heavy.n;
     let mut s: usize = 0;
     while s < n {
-        if lower(any, q, shape.stride[s], left[s]) {
+        if loses_one(
+            l,
+            y,
+            totals,
+            counts,
+            numbers,
+            heavy,
+            known,
+            z,
+            shape,
+            j,
+            left,
+            q,
+            s,
+            marks,
+            base,
+        ) {
             return true;
         }
         s += 1;
@@ -108,185 +807,442 @@ fn below(shape: Shape, left: [u8; MOST_HEAVY], q: usize, any: &[u8]) -> bool
     false
 }
 
-// Whether the heavy blocks need no loss in column j at a state: the chunk-string as read has its sum.
-fn reads(
+// The mark of state q by the marks of the next column, which stand at base, where no loss or one is lost in the column.
+fn tested_mark(
     l: Layout,
     y: &[u8],
+    totals: &[u32],
+    counts: &[u16],
     numbers: &[u16],
     heavy: Heavy,
-    row: [u8; 255],
+    known: &[u16],
+    z: &[u8],
+    shape: Shape,
+    digits: &[u8],
     j: usize,
-    left: [u8; MOST_HEAVY],
-) -> bool
-    requires { ⌜ Fit l (now y) (now numbers) heavy × (j < l .l2) ⌝ }
-    ensures { λ r. ⌜ (Reads l (now (y .entry)) (now (numbers .entry)) heavy row j (each left) → r ≡ true) ⌝ }
-{
-    let n = heavy.n;
-    let nc = l.nc;
-    let mut read = row;
-    let mut s: usize = 0;
-    while s < n {
-        let c = bits::wide(heavy.block[s]) * l.l2 + j;
-        let from = c * nc + bits::wide(left[s]);
-        let end = bits::wide(heavy.end[s]);
-        if from < end {
-            return false;
-        }
-        if y.len() + end < from + nc {
-            return false;
-        }
-        read[c] = message::sums::number_at(y, from - end, nc);
-        s += 1;
-    }
-    let sum = lines::line_sum(nc, j, l.l2, l.l1, &read);
-    sum == numbers[l.l1 + j] as usize
-}
-
-// The mark of a state in column j: one is set where a state below is marked, and where the state is live in the next column and
-// reads this one.
-fn mark(
-    l: Layout,
-    y: &[u8],
-    numbers: &[u16],
-    heavy: Heavy,
-    row: [u8; 255],
-    j: usize,
-    left: [u8; MOST_HEAVY],
-    lower: bool,
-    next: u8,
+    q: usize,
+    marks: &[u8],
+    base: usize,
 ) -> u8
-    requires { ⌜ Fit l (now y) (now numbers) heavy × (j < l .l2) ⌝ }
-    ensures { λ r. ⌜ (lower ≡ true → 0 < r)
-        × (0 < next → Reads l (now (y .entry)) (now (numbers .entry)) heavy row j (each left) → 0 < r) ⌝ }
+    requires { ⌜ Ready l (now y) (now totals) (now counts) (now numbers) heavy (now known) (now z) × ((j < l .l2)
+        × (Kept heavy shape × (Digits shape (now digits)
+        × ((q < shape .states) × (base + shape .states ≤ length (now marks)))))) ⌝ }
+    ensures { λ r. ⌜ FirstMark l (now (y .entry)) (now (numbers .entry)) heavy (now (known .entry)) shape j (now
+        (marks .entry)) base (entryOf (now (digits .entry)) q) q 1 r ⌝ }
 {
-    if lower {
-        return 1;
+    let left = digits_of(digits, q);
+    if goes(
+        l,
+        y,
+        totals,
+        counts,
+        numbers,
+        heavy,
+        known,
+        z,
+        j,
+        left,
+        left,
+        marks[base + q],
+    ) {
+        return 255;
     }
-    if next == 0 {
-        return 0;
-    }
-    if reads(l, y, numbers, heavy, row, j, left) {
-        return 1;
+    if loses(
+        l,
+        y,
+        totals,
+        counts,
+        numbers,
+        heavy,
+        known,
+        z,
+        shape,
+        j,
+        left,
+        q,
+        marks,
+        base,
+    ) {
+        return 255;
     }
     0
 }
 
-// The mark of a state that is live in the next column or has a marked one below.
-fn reach(lower: bool, next: u8) -> u8
-    ensures { λ r. ⌜ (lower ≡ true → 0 < r) × (0 < next → 0 < r) ⌝ }
-{
-    if lower {
-        return 1;
-    }
-    next
-}
-
-// The live states of column j, from those of the next column.
-fn fill_column(
+// The mark of state q, from its level and by the marks of the next column, which stand at base.
+fn first_mark(
     l: Layout,
     y: &[u8],
+    totals: &[u32],
+    counts: &[u16],
     numbers: &[u16],
     heavy: Heavy,
-    row: [u8; 255],
+    known: &[u16],
+    z: &[u8],
     shape: Shape,
+    digits: &[u8],
     j: usize,
-    live: &mut [u8],
-)
-    requires { ⌜ (Fit l (now y) (now numbers) heavy × Kept heavy shape)
-        × ((j < l .l2) × ((j + 2) * shape .states ≤ length (now live))) ⌝ }
-    ensures { λ _. ⌜ Filled l (now (y .entry)) (now (numbers .entry)) heavy row (each (shape .size)) j (shape .states)
-        (now (live .entry)) (now (live .exit)) ⌝ }
+    q: usize,
+    level: u8,
+    marks: &[u8],
+    base: usize,
+) -> u8
+    requires { ⌜ Ready l (now y) (now totals) (now counts) (now numbers) heavy (now known) (now z) × ((j < l .l2)
+        × (Kept heavy shape × (Digits shape (now digits)
+        × ((q < shape .states) × (base + shape .states ≤ length (now marks)))))) ⌝ }
+    ensures { λ r. ⌜ FirstMark l (now (y .entry)) (now (numbers .entry)) heavy (now (known .entry)) shape j (now
+        (marks .entry)) base (entryOf (now (digits .entry)) q) q level r ⌝ }
 {
+    if 2 < level {
+        return 255;
+    }
+    if level == 0 {
+        return 0;
+    }
+    tested_mark(
+        l,
+        y,
+        totals,
+        counts,
+        numbers,
+        heavy,
+        known,
+        z,
+        shape,
+        digits,
+        j,
+        q,
+        marks,
+        base,
+    )
+}
+
+// The first marks of a column, at a place, by those of the next column, at base: whether a row can cross it to a marked
+// state. It answers the greatest.
+fn complete_column(
+    l: Layout,
+    y: &[u8],
+    totals: &[u32],
+    counts: &[u16],
+    numbers: &[u16],
+    heavy: Heavy,
+    known: &[u16],
+    z: &[u8],
+    shape: Shape,
+    digits: &[u8],
+    j: usize,
+    at: usize,
+    base: usize,
+    marks: &mut [u8],
+) -> u8
+    requires { ⌜ Ready l (now y) (now totals) (now counts) (now numbers) heavy (now known) (now z) × ((j < l .l2)
+        × (Kept heavy shape × (Digits shape (now digits) × ((at + shape .states ≤ base)
+        × (base + shape .states ≤ length (now marks)))))) ⌝ }
+    ensures { λ r. ⌜ Remade (shape .states) at (now (marks .entry)) (now (marks .exit))
+        × (((p : ℕ) → p < shape .states → getD (now (marks .exit)) (at + p) 0 ≤ r)
+        × ((left : ℕ → ℕ) → Within shape left
+        → Goes l (now (y .entry)) (now (numbers .entry)) heavy (now (known .entry)) shape j (now
+        (marks .entry)) base left
+        (getD (now (marks .exit)) (at + numberOf shape left) 0))) ⌝ }
+{
+    let n = shape.n;
     let states = shape.states;
-    let at = j * states;
-    let after = at + states;
-    let mut any: [u8; MOST_STATES] = [0; MOST_STATES];
+    let strides = shape.stride;
+    let mut levels: [u8; MOST_STATES] = [0; MOST_STATES];
+    let mut most: u8 = 0;
     let mut q: usize = 0;
     while q < states {
-        let left = losses_left(shape, q);
-        let lower = below(shape, left, q, &any);
-        let next = live[after + q];
-        live[at + q] = mark(l, y, numbers, heavy, row, j, left, lower, next);
-        any[q] = reach(lower, next);
+        let level = level_of(n, &strides, digits, q, &levels, marks[base + q]);
+        let mark = first_mark(
+            l,
+            y,
+            totals,
+            counts,
+            numbers,
+            heavy,
+            known,
+            z,
+            shape,
+            digits,
+            j,
+            q,
+            level,
+            marks,
+            base,
+        );
+        levels[q] = level;
+        marks[at + q] = mark;
+        most = higher(most, mark);
         q += 1;
     }
+    most
 }
 
-// The table of live states, from the last column to the first.
-fn fill_live(
+// The first marks of all columns, from the last to the first: where a row can still come to the end. It answers whether
+// one can.
+fn complete(
     l: Layout,
     y: &[u8],
+    totals: &[u32],
+    counts: &[u16],
     numbers: &[u16],
     heavy: Heavy,
-    row: [u8; 255],
+    known: &[u16],
+    z: &[u8],
     shape: Shape,
-    live: &mut [u8],
-)
-    requires { ⌜ (Fit l (now y) (now numbers) heavy × Kept heavy shape) × ((l .l2 + 1) * shape .states ≤ length (now live)) ⌝ }
-    ensures { λ _. ⌜ Live l (now (y .entry)) (now (numbers .entry)) heavy row (each (shape .size)) (now (live .exit)) ⌝ }
+    digits: &[u8],
+    marks: &mut [u8],
+) -> bool
+    requires { ⌜ Ready l (now y) (now totals) (now counts) (now numbers) heavy (now known) (now z)
+        × (Kept heavy shape × (Digits shape (now digits) × ((l .l2 + 1) * shape .states ≤ length (now marks)))) ⌝ }
+    ensures { λ r. ⌜ (length (now (marks .exit)) ≡ length (now (marks .entry)))
+        × ((row vs : List ℕ) (own : ℕ → ℕ → ℕ) → Light l heavy row (now (known .entry))
+        → Path l (now (y .entry)) (now (numbers .entry)) heavy row (each (shape .size)) vs own
+        → (r ≡ true) × Through l shape (now (marks .exit)) own (λ j. 0)) ⌝ }
 {
     let states = shape.states;
     let mut j = l.l2;
-    live[j * states] = 1;
+    only(states, j * states, 0, 255, marks);
     while 0 < j {
         j -= 1;
-        fill_column(l, y, numbers, heavy, row, shape, j, live);
+        if complete_column(
+            l,
+            y,
+            totals,
+            counts,
+            numbers,
+            heavy,
+            known,
+            z,
+            shape,
+            digits,
+            j,
+            j * states,
+            (j + 1) * states,
+            marks,
+        )
+            == 0
+        {
+            return false;
+        }
+    }
+    0 < marks[states - 1]
+}
+
+// Whether each number that a mark covers is below room.
+fn is_near(mark: u8, room: usize) -> bool
+    ensures { λ r. ⌜ (r ≡ true → (n : ℕ) → Covers mark n → n < room) ⌝ }
+{
+    if MANY <= mark {
+        return false;
+    }
+    mark as usize <= room
+}
+
+// The counts of marks that let every row through: from the first column on, and back if not each row is near already.
+fn count_marks(
+    l: Layout,
+    y: &[u8],
+    totals: &[u32],
+    counts: &[u16],
+    numbers: &[u16],
+    heavy: Heavy,
+    known: &[u16],
+    z: &[u8],
+    shape: Shape,
+    digits: &[u8],
+    room: usize,
+    marks: &mut [u8],
+) -> Prepared
+    requires { ⌜ Ready l (now y) (now totals) (now counts) (now numbers) heavy (now known) (now z)
+        × (Kept heavy shape × (Digits shape (now digits) × ((l .l2 + 1) * shape .states ≤ length (now marks)))) ⌝ }
+    ensures { λ r. ⌜ (r .shape ≡ shape) × ((row vs : List ℕ) (own : ℕ → ℕ → ℕ) → Light l heavy row (now (known .entry))
+        → Path l (now (y .entry)) (now (numbers .entry)) heavy row (each (shape .size)) vs own
+        → Through l shape (now (marks .entry)) own (λ j. 0)
+        → (r .none ≡ true → ⊥) × ((r .near ≡ true → apartFrom l heavy (now (z .entry)) vs 0 < room)
+        × (r .kept ≡ true → Through l shape (now (marks .exit)) own (apartFrom l heavy (now (z .entry)) vs)))) ⌝ }
+{
+    let end = l.l2 * shape.states;
+    ahead(
+        l,
+        y,
+        totals,
+        counts,
+        numbers,
+        heavy,
+        known,
+        z,
+        shape,
+        digits,
+        marks,
+    );
+    let last = marks[end];
+    if last == 0 {
+        return Prepared {
+            shape,
+            kept: false,
+            none: true,
+            near: false,
+        };
+    }
+    if is_near(last, room) {
+        return Prepared {
+            shape,
+            kept: false,
+            none: false,
+            near: true,
+        };
+    }
+    back(
+        l,
+        y,
+        totals,
+        counts,
+        numbers,
+        heavy,
+        known,
+        z,
+        shape,
+        digits,
+        marks,
+    );
+    Prepared {
+        shape,
+        kept: true,
+        none: false,
+        near: false,
     }
 }
 
-// The live states of the heavy blocks with these losses; no shape where there is no room for them.
+// The marks of the loss states, in three passes.
+fn fill_marks(
+    l: Layout,
+    y: &[u8],
+    totals: &[u32],
+    counts: &[u16],
+    numbers: &[u16],
+    heavy: Heavy,
+    known: &[u16],
+    z: &[u8],
+    shape: Shape,
+    room: usize,
+    marks: &mut [u8],
+) -> Prepared
+    requires { ⌜ Ready l (now y) (now totals) (now counts) (now numbers) heavy (now known) (now z)
+        × (Kept heavy shape × ((l .l2 + 1) * shape .states ≤ length (now marks))) ⌝ }
+    ensures { λ r. ⌜ (r .shape ≡ shape) × ((row vs : List ℕ) (own : ℕ → ℕ → ℕ) → Light l heavy row (now (known .entry))
+        → Path l (now (y .entry)) (now (numbers .entry)) heavy row (each (shape .size)) vs own
+        → (r .none ≡ true → ⊥) × ((r .near ≡ true → apartFrom l heavy (now (z .entry)) vs 0 < room)
+        × (r .kept ≡ true → Through l shape (now (marks .exit)) own (apartFrom l heavy (now (z .entry)) vs)))) ⌝ }
+{
+    let mut digits: [u8; 4374] = [0; 4374];
+    fill_digits(shape, &mut digits);
+    if !complete(
+        l,
+        y,
+        totals,
+        counts,
+        numbers,
+        heavy,
+        known,
+        z,
+        shape,
+        &digits,
+        marks,
+    ) {
+        return Prepared {
+            shape,
+            kept: false,
+            none: true,
+            near: false,
+        };
+    }
+    count_marks(
+        l,
+        y,
+        totals,
+        counts,
+        numbers,
+        heavy,
+        known,
+        z,
+        shape,
+        &digits,
+        room,
+        marks,
+    )
+}
+
+// The marks of the loss states of the heavy blocks with these losses. A row that differs from z in fewer than room
+// chunks of the heavy blocks is near.
 pub fn prepare(
     l: Layout,
     y: &[u8],
+    totals: &[u32],
+    counts: &[u16],
     numbers: &[u16],
     heavy: Heavy,
-    size: [u8; MOST_HEAVY],
-    row: [u8; 255],
-    live: &mut [u8],
-) -> Shape
-    requires { ⌜ Fit l (now y) (now numbers) heavy ⌝ }
-    ensures { λ r. ⌜ ((r .n ≡ heavy .n) × (r .size ≡ size)) × (Shaped (r .n) (r .size) (r .stride) (r .states)
-        × (0 < r .states → Live l (now (y .entry)) (now (numbers .entry)) heavy row (each size) (now (live .exit)))) ⌝ }
+    size: [u8; states::MOST_HEAVY],
+    known: &[u16],
+    z: &[u8],
+    room: usize,
+    marks: &mut [u8],
+) -> Prepared
+    requires { ⌜ Fit l (now y) (now numbers) heavy × (Tables (now y) 0 (now totals) (now counts)
+        × ((l .l2 ≤ length (now known)) × (l .l1 * l .l2 ≤ length (now z)))) ⌝ }
+    ensures { λ r. ⌜ ((r .shape .n ≡ heavy .n) × (r .shape .size ≡ size))
+        × (Shaped (r .shape .n) (r .shape .size) (r .shape .stride) (r .shape .states)
+        × ((row vs : List ℕ) (own : ℕ → ℕ → ℕ) → Light l heavy row (now (known .entry))
+        → Path l (now (y .entry)) (now (numbers .entry)) heavy row (each size) vs own
+        → (r .none ≡ true → ⊥) × ((r .near ≡ true → apartFrom l heavy (now (z .entry)) vs 0 < room)
+        × (r .kept ≡ true → Through l (r .shape) (now (marks .exit)) own (apartFrom l heavy (now (z .entry)) vs))))) ⌝ }
 {
-    let mut shape = shape_of(heavy.n, size);
-    if live.len() < (l.l2 + 1) * shape.states {
-        shape.states = 0;
-        return shape;
+    let shape = states::shape_of(heavy.n, size);
+    if MOST_STATES < shape.states {
+        return Prepared {
+            shape,
+            kept: false,
+            none: false,
+            near: false,
+        };
     }
-    if shape.states == 0 {
-        return shape;
+    if marks.len() < (l.l2 + 1) * shape.states {
+        return Prepared {
+            shape,
+            kept: false,
+            none: false,
+            near: false,
+        };
     }
-    fill_live(l, y, numbers, heavy, row, shape, live);
-    shape
+    fill_marks(
+        l,
+        y,
+        totals,
+        counts,
+        numbers,
+        heavy,
+        known,
+        z,
+        shape,
+        room,
+        marks,
+    )
 }
 
-// The number of a state.
-fn number_of(shape: Shape, left: [u8; MOST_HEAVY]) -> usize
-    requires { ⌜ (shape .n ≤ 6) × ((0 < shape .states) × Shaped (shape .n) (shape .size) (shape .stride) (shape .states)) ⌝ }
-    ensures { λ r. ⌜ (r ≡ state (each (shape .size)) (each left) (shape .n)) × (r ≤ 255 * mostStates * 6) ⌝ }
+// The mark of a loss state in column j; where none is kept, it is 255.
+pub fn mark_at(shape: Shape, marks: &[u8], j: usize, q: usize) -> u8
+    requires { ⌜ j ≤ 255 ⌝ }
+    ensures { λ r. ⌜ (r ≡ 255) ⊎ ((j * shape .states + q < length (now (marks .entry)))
+        × (r ≡ getD (now (marks .entry)) (j * shape .states + q) 0)) ⌝ }
 {
-    let n = shape.n;
-    let mut q: usize = 0;
-    let mut s: usize = 0;
-    while s < n {
-        q += bits::wide(left[s]) * shape.stride[s];
-        s += 1;
+    if 4294967295 < shape.states {
+        return 255;
     }
-    q
-}
-
-// Whether a state may be live in column j.
-pub fn alive(shape: Shape, left: [u8; MOST_HEAVY], j: usize, live: &[u8]) -> bool
-    requires { ⌜ (shape .n ≤ 6) × ((j ≤ 255) × Shaped (shape .n) (shape .size) (shape .stride) (shape .states)) ⌝ }
-    ensures { λ r. ⌜ (r ≡ false → (0 < shape .states) × (getD (now (live .entry))
-        (j * strideOf (each (shape .size)) (shape .n) + state (each (shape .size)) (each left) (shape .n)) 0 ≡ 0)) ⌝ }
-{
-    if shape.states == 0 {
-        return true;
+    if marks.len() <= q {
+        return 255;
     }
-    let i = j * shape.states + number_of(shape, left);
-    if live.len() <= i {
-        return true;
+    let at = j * shape.states;
+    if marks.len() - q <= at {
+        return 255;
     }
-    0 < live[i]
+    marks[at + q]
 }

@@ -8,7 +8,7 @@ use lib.ListN.{length, getD, take, set}
 use lib.Seq.{getD-set-same, getD-set-other}
 use Rattle.bits.proofs.Laws.{lt-or-ge}
 use Rattle.consistent.specs.Greedy.{inAll}
-use Rattle.live.specs.declared.Heavy.{Heavy}
+use Rattle.column.specs.declared.Heavy.{Heavy}
 use Rattle.search.specs.Patterns.{HeavyIn, Joined}
 use Rattle.anchor.proofs.Totals.{total-next}
 use Rattle.search.proofs.Totals.{total-set}
@@ -25,6 +25,7 @@ heavy-none counts heavy left e z f =
     record {
       few = omega arith;
       inside = λ s h. absurd (omega arith);
+      ascending = λ s t h k. absurd (omega arith);
       lost = λ s h. absurd (omega arith);
       many = λ s h. absurd (omega arith);
       spare = λ s h. f s;
@@ -40,6 +41,7 @@ module _ (counts : List ℕ) (i : ℕ) (heavy : Heavy) (left : List ℕ) (q : He
       record {
         few = omega (arith, q .few, total-next counts i h);
         inside = λ s k. omega (arith, q .inside s k);
+        ascending = q .ascending;
         lost = q .lost;
         many = q .many;
         spare = q .spare;
@@ -95,6 +97,10 @@ module _ (counts : List ℕ) (i : ℕ) (heavy : Heavy) (left : List ℕ) (q : He
         record {
           few = omega (arith, q .few, total-next counts i h, j .one-more);
           inside = all (λ s. getD (after .block) s 0 < i + 1) (λ s k. omega (arith, q .inside s k, kept-block s k)) (omega (arith, new-block));
+          ascending = λ s t k m. ⊎-elim
+              (λ n. omega (arith, q .ascending s t k n, kept-block s (omega arith), kept-block t n))
+              (λ (n : t ≡ heavy .n). rw n (omega (arith, q .inside s (omega arith), kept-block s (omega arith), new-block)))
+              (below-next t (heavy .n) (omega (arith, j .one-more)));
           lost = all (λ s. getD lefts s 0 ≡ count (getD (after .block) s 0))
               (λ s k. kept-left s (λ m. omega arith) ∙ q .lost s k ∙ ap count (sym (kept-block s k)))
               (new-left ∙ ap count (sym new-block));

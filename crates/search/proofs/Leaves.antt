@@ -19,7 +19,7 @@ use Rattle.found.specs.Found.{Given, Sent, InHand}
 use Rattle.found.proofs.Found.{sent-parts}
 use Rattle.tables.specs.Tables.{reached, Sound}
 use Rattle.tables.specs.Tables.{Under as UnderTable}
-use Rattle.live.specs.declared.Heavy.{Heavy}
+use Rattle.column.specs.declared.Heavy.{Heavy}
 use Rattle.tables.specs.declared.Table.{Table}
 use Rattle.search.specs.Patterns.{Under, HeavyIn}
 use Rattle.search.proofs.Losses.{blocks-lose}
@@ -76,6 +76,7 @@ module _ (l : Layout) (counts : List ℕ) (heavy : Heavy) (t : Table) (q : Heavy
       record {
         few = omega (arith, q .few);
         inside = q .inside;
+        ascending = q .ascending;
         placed = λ z o. absurd (omega (arith, closed z, o .1));
         room = omega (arith, q .total);
         fresh = λ z k. closed z;

@@ -13,7 +13,7 @@ use Rattle.message.specs.declared.Layout.{Layout}
 use Rattle.consistent.specs.Greedy.{losses, inAll}
 use Rattle.windows.specs.Windows.{Tables}
 use Rattle.lines.specs.Lines.{values}
-use Rattle.live.specs.declared.Heavy.{Heavy}
+use Rattle.column.specs.declared.Heavy.{Heavy}
 
 -- the row x is under the first i counts: they are its own losses, block by block, and its blocks with none or one loss are those in
 -- hand
@@ -51,10 +51,11 @@ pub record Tried (l : Layout) (s i a : ℕ) (rest entry exit : List ℕ) (ok : B
   pub light : (b : List ℕ) → Loses l s a rest b → a ≤ 1
       → (j : ℕ) → j < l .l2 → getD exit (i * l .l2 + j) 0 ≡ number (l .nc) (drop (j * l .nc) b)
 
--- the heavy blocks among the first i, those with two losses or more: each with its losses and those up to its end
+-- the heavy blocks among the first i, those with two losses or more, in ascending order: each with its losses and those up to its end
 pub record HeavyIn (counts : List ℕ) (i : ℕ) (heavy : Heavy) (left : List ℕ) : Type 0 where
   pub few : heavy .n * 2 ≤ inAll (take i counts)
   pub inside : (s : ℕ) → s < heavy .n → getD (heavy .block) s 0 < i
+  pub ascending : (s t : ℕ) → s < t → t < heavy .n → getD (heavy .block) s 0 < getD (heavy .block) t 0
   pub lost : (s : ℕ) → s < heavy .n → getD left s 0 ≡ getD counts (getD (heavy .block) s 0) 0
   pub many : (s : ℕ) → s < heavy .n → 2 ≤ getD left s 0
   pub spare : (s : ℕ) → heavy .n ≤ s → getD left s 0 ≡ 0

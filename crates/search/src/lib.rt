@@ -1,6 +1,6 @@
 // The search for all consistent rows: loss patterns, block by block. Contracts cite specs/Patterns.antt.
 use cells::Cells;
-use live::Heavy;
+use column::Heavy;
 use message::Layout;
 use rows::Kept;
 use tables::Table;
@@ -15,6 +15,7 @@ ghost use Rattle.message.specs.Read.{fields};
 ghost use Rattle.consistent.specs.Consistent.{mostLosses};
 ghost use Rattle.consistent.specs.Greedy.{inAll};
 ghost use Rattle.rows.specs.Slice.{rowsIn};
+ghost use Rattle.windows.specs.Windows.{Tables};
 ghost use Rattle.found.specs.Found.{Given, Holding, Grown, Listed};
 ghost use Rattle.anchor.specs.Anchor.{Anchored};
 ghost use Rattle.search.specs.Patterns.{Under, hasSum, Tabled, Tried, HeavyIn, Joined, Begun};
@@ -193,19 +194,24 @@ fn heavy_of(l1: usize, pattern: Pattern) -> Heavies
     hs
 }
 
-// The row in hand without heavy blocks is whole; with them, the loss tables share out their losses.
+// The row in hand without heavy blocks is whole; with them, the loss tables share out their losses. Where there is an anchor, rows that
+// differ from it in at most r chunks are known.
 fn finish(
     l: Layout,
     y: &[u8],
+    totals: &[u32],
+    counts: &[u16],
     numbers: &[u16],
     pattern: Pattern,
     hand: [u8; 255],
+    desk: &[u8],
     cap: usize,
     list: &mut [u8],
     kept: Kept,
 ) -> Kept
     requires { ⌜ Given l (now numbers) (now y) × (Holding l (now numbers) (now y) cap (now list) (kept .count) (kept .more)
-        × (inAll (take (l .l1) (pattern .counts)) ≤ mostLosses)) ⌝ }
+        × ((inAll (take (l .l1) (pattern .counts)) ≤ mostLosses) × (Tables (now y) 0 (now totals) (now counts)
+        × Anchored l (now numbers) (now y) (rowsIn (rowBits l) (now list) (kept .count) (kept .more)) (now desk)))) ⌝ }
     ensures { λ r. ⌜ Grown l (now (numbers .entry)) (now (y .entry)) cap (Under l (now (y .entry)) (pattern .counts) (l .l1) hand)
         (now (list .entry)) (kept .count) (kept .more) (now (list .exit)) (r .count) (r .more) ⌝ }
 {
@@ -227,22 +233,57 @@ fn finish(
         cells: cells,
         row: hand,
     };
-    tables::tables(l, y, numbers, heavy, t, cap, list, kept)
+    if anchor::is_set(desk) {
+        let near = l.r + 1;
+        return tables::tables(
+            l,
+            y,
+            totals,
+            counts,
+            numbers,
+            heavy,
+            t,
+            &desk[1..256],
+            near,
+            cap,
+            list,
+            kept,
+        );
+    }
+    tables::tables(
+        l,
+        y,
+        totals,
+        counts,
+        numbers,
+        heavy,
+        t,
+        &hand,
+        0,
+        cap,
+        list,
+        kept,
+    )
 }
 
 // The rows under a whole pattern: none where its losses are not all.
 fn one_pattern(
     l: Layout,
     y: &[u8],
+    totals: &[u32],
+    counts: &[u16],
     numbers: &[u16],
     pattern: Pattern,
     row: &[u8],
+    desk: &[u8],
     cap: usize,
     list: &mut [u8],
     kept: Kept,
 ) -> Kept
     requires { ⌜ Given l (now numbers) (now y) × (Holding l (now numbers) (now y) cap (now list) (kept .count) (kept .more)
-        × ((length (now row) ≡ 255) × (pattern .total ≡ inAll (take (l .l1) (pattern .counts))))) ⌝ }
+        × (((length (now row) ≡ 255) × (pattern .total ≡ inAll (take (l .l1) (pattern .counts))))
+        × (Tables (now y) 0 (now totals) (now counts)
+        × Anchored l (now numbers) (now y) (rowsIn (rowBits l) (now list) (kept .count) (kept .more)) (now desk)))) ⌝ }
     ensures { λ r. ⌜ Grown l (now (numbers .entry)) (now (y .entry)) cap
         (Under l (now (y .entry)) (pattern .counts) (l .l1) (now (row .entry)))
         (now (list .entry)) (kept .count) (kept .more) (now (list .exit)) (r .count) (r .more) ⌝ }
@@ -253,16 +294,31 @@ fn one_pattern(
     }
     let mut hand: [u8; 255] = [0; 255];
     bits::copy_to(row, &mut hand, 0);
-    finish(l, y, numbers, pattern, hand, cap, list, kept)
+    finish(
+        l,
+        y,
+        totals,
+        counts,
+        numbers,
+        pattern,
+        hand,
+        desk,
+        cap,
+        list,
+        kept,
+    )
 }
 
 // The rows under the first counts of a pattern: each count that block i can lose is tried in turn, and the later blocks share out what
-// is left; the last block takes all of it. The part of the received row that starts at block i is handed on, with its tables. Where no
+// is left; the last block takes all of it. The part of the received row that starts at block i is handed on, with its tables; those of the
+// whole received row serve the loss tables. Where no
 // row but the anchor can be under the first counts, or all rows under them come after the last row of a list that is full, nothing is
 // tried; once a row is held, it becomes the anchor.
 fn patterns(
     l: Layout,
     y: &[u8],
+    ytotals: &[u32],
+    ycounts: &[u16],
     numbers: &[u16],
     rest: &[u8],
     totals: &[u32],
@@ -277,7 +333,8 @@ fn patterns(
 ) -> Kept
     requires { ⌜ (Given l (now numbers) (now y) × Holding l (now numbers) (now y) cap (now list) (kept .count) (kept .more))
         × ((later ≤ l .l1) × (Begun l (now y) (now rest) (pattern .counts) (now row) (l .l1 - later) (pattern .total)
-        × (Tabled (now rest) ((l .l1 - later) * blockBits l - pattern .total) (now totals) (now counts)
+        × ((Tables (now y) 0 (now ytotals) (now ycounts)
+        × Tabled (now rest) ((l .l1 - later) * blockBits l - pattern .total) (now totals) (now counts))
         × Anchored l (now numbers) (now y) (rowsIn (rowBits l) (now list) (kept .count) (kept .more)) (now desk)))) ⌝ }
     ensures { λ r. ⌜ Grown l (now (numbers .entry)) (now (y .entry)) cap
         (Under l (now (y .entry)) (pattern .counts) (l .l1 - later) (now (row .entry)))
@@ -294,7 +351,19 @@ fn patterns(
         return kept;
     }
     if later == 0 {
-        return one_pattern(l, y, numbers, pattern, row, cap, list, kept);
+        return one_pattern(
+            l,
+            y,
+            ytotals,
+            ycounts,
+            numbers,
+            pattern,
+            row,
+            desk,
+            cap,
+            list,
+            kept,
+        );
     }
     let nb = l.l2 * l.nc;
     let p = i * nb - pattern.total;
@@ -313,6 +382,8 @@ fn patterns(
             k = patterns(
                 l,
                 y,
+                ytotals,
+                ycounts,
                 numbers,
                 &rest[from..],
                 &totals[from..],
@@ -383,6 +454,8 @@ fn all_patterns(
     patterns(
         l,
         y,
+        &totals,
+        &counts,
         numbers,
         y,
         &totals,

@@ -78,6 +78,18 @@ module _ (l : Layout) (y x : List ℕ) (row : Row (rowBits l) x) (c : ℕ) (insi
     pub chunk-loses : losses (digits (l .nc) (getD (values l x) c 0)) rest ≡ a
     chunk-loses = rw (chunk-digits l x row c inside) loses-bits
 
+    -- it has no more losses than bits
+    pub chunk-few : a ≤ l .nc
+    chunk-few =
+        let most = lost-most (drop (c * l .nc) x) rest (l .nc) (simp length-drop (omega (arith, room))) in
+        omega (arith, loses-bits, most)
+
+    -- the bits that it takes are there
+    pub chunk-there : c * l .nc - lostBefore l y x c + l .nc ≤ length y + a
+    chunk-there =
+        let p = piece (l .nc) a chunk rest length-chunk loses-bits in
+        omega (arith, p .within, chunk-few, length-drop (c * l .nc - lostBefore l y x c) y, place-within)
+
     -- without a loss there are nc bits from that place on, and they are the chunk
     pub chunk-within : a ≡ 0 → c * l .nc - lostBefore l y x c + l .nc ≤ length y
     chunk-within z =

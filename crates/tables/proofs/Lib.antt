@@ -2,5 +2,8 @@
 pub mod Chunk
 pub mod Making
 pub mod Sharing
-pub mod Trying
+pub mod Stepping
+pub mod Coming
+pub mod Going
 pub mod Own
+pub mod Light

@@ -1,12 +1,12 @@
--- Loss tables as they are made: what a share of the losses changes, and what that means for the rows under the table. A chunk that is
--- read whole and a chunk that becomes a cell lead from one heavy block to the next, the last heavy block to the next column, and the
--- last column to the cells. Assumes nothing.
+-- Loss tables as they are made: what a share of the losses changes, and what that means for the rows under the table. A
+-- chunk that is read whole and a chunk that becomes a cell lead from one heavy block to the next, the last heavy block
+-- to the next column, and the last column to the cells. Assumes nothing.
 use Prim.Native.Nat.{ℕ, zero, suc, _+_, _*_, _-_, _<_, _≤_}
 use mathlib.Core.Path.{_≡_, refl, sym, ap, _∙_}
 use mathlib.Core.Bool.{Bool, true, false, cond}
 use mathlib.Core.Logic.{_⊎_, inl, inr, ⊎-elim}
 use mathlib.Core.List.{List, [], _∷_}
-use native.Mathlib.Nat.{mul-assoc, add-comm}
+use native.Mathlib.Nat.{mul-assoc}
 use native.Mathlib.Omega.{arith}
 use borrow.Author.Tests.{lt-ltb, le-ltb}
 use lib.Dec.{eqb}
@@ -14,25 +14,20 @@ use lib.ListN.{length, getD, set, take, drop}
 use lib.Seq.{getD-set-same, getD-set-other, set-set}
 use Rattle.bits.specs.Bits.{digits}
 use Rattle.bits.proofs.Laws.{lt-or-ge}
-use Rattle.rows.specs.Order.{Row}
-use Rattle.vt.specs.Sum.{sum}
-use Rattle.message.specs.Layout.{rowBits, blockBits}
-use Rattle.message.specs.Message.{stringSums}
+use Rattle.message.specs.Layout.{blockBits}
 use Rattle.message.specs.declared.Layout.{Layout}
-use Rattle.message.proofs.Fields.{field-room}
 use Rattle.consistent.specs.Greedy.{losses, inAll}
-use Rattle.lines.specs.Lines.{values, line}
-use Rattle.lines.proofs.Lines.{string-line, line-same}
+use Rattle.lines.specs.Lines.{values}
 use Rattle.cells.specs.Cells.{share, NoSingle, Open, OpenAt}
 use Rattle.cells.specs.declared.Cells.{Cells}
 use Rattle.cells.proofs.Shares.{share-found, all-found}
-use Rattle.cells.proofs.State.{same-or-not, none-open}
-use Rattle.live.specs.Live.{chunkAt}
+use Rattle.cells.proofs.State.{same-or-not}
+use Rattle.column.specs.Column.{chunkAt}
 use Rattle.tables.specs.Tables.{reached, Undecided, lostBefore, Loses, Sound, Under}
-use Rattle.tables.specs.Tables.{pushed, withChunk, withCell, ColumnDecided, NoneLeft, Whole}
-use Rattle.live.specs.declared.Heavy.{Heavy}
+use Rattle.tables.specs.Tables.{pushed, withChunk, withCell, NoneLeft, Whole}
+use Rattle.column.specs.declared.Heavy.{Heavy}
 use Rattle.tables.specs.declared.Table.{Table}
-use Rattle.tables.proofs.Chunk.{chunk-next, lost-grows}
+use Rattle.tables.proofs.Chunk.{chunk-next}
 
 -- ---- how far the heavy blocks have come
 pub reached-past : (j h s : ℕ) → s < h → reached j h s ≡ j + 1
@@ -273,6 +268,7 @@ module _ {l : Layout} {m : ℕ} {heavy : Heavy} {t : Table} (s : Sound l m heavy
       record {
         few = s .few;
         inside = s .inside;
+        ascending = s .ascending;
         placed = s .placed;
         room = s .room;
         fresh = s .fresh;
@@ -292,6 +288,7 @@ module _ {l : Layout} {m : ℕ} {heavy : Heavy} {t : Table} (s : Sound l m heavy
         record {
           few = s .few;
           inside = s .inside;
+          ascending = s .ascending;
           placed = each-pushed (t .cells) twelve room unused block j a place
               (λ b c lost q. (b < l .l1) × ((c < l .l2) × (q ≤ m))) (s .placed) (s .inside h some, (inside, within));
           room = omega (arith, all-set (t .left) h a (omega (arith, s .few)) less, s .room);
@@ -323,14 +320,7 @@ module _ {l : Layout} {m : ℕ} {heavy : Heavy} {t : Table} (s : Sound l m heavy
 
 -- ---- the end of a column, and of the last
 module _ {l : Layout} {y : List ℕ} {heavy : Heavy} {t : Table} {x : List ℕ} where
-  -- once all heavy blocks have their share in column j, the column is decided
-  pub column-decided : {j : ℕ} → j < l .l2 → Under l y heavy j (heavy .n) t x → ColumnDecided l j (t .cells) (t .row) x
-  column-decided {j} k u i p = ⊎-elim (λ w. absurd (past w)) (λ w. w) (u .decided i j p k)
-    where
-      past : Undecided heavy j (heavy .n) i j → ⊥
-      past w = omega (arith, w .1 .1 .1, reached-past j (heavy .n) (w .0) (w .1 .0))
-
-  -- and the next can be shared out
+  -- once all heavy blocks have their share in column j, the next can be shared out
   pub next-column : {j : ℕ} → Under l y heavy j (heavy .n) t x → Under l y heavy (j + 1) 0 t x
   next-column {j} u =
       record {
@@ -373,33 +363,6 @@ module _ {l : Layout} {y : List ℕ} {heavy : Heavy} {t : Table} {x : List ℕ} 
 
       past : {i : ℕ} (c : ℕ) → c < l .l2 → Undecided heavy (l .l2) 0 i c → ⊥
       past c q w = omega (arith, w .1 .1 .1, reached-not (l .l2) 0 (w .0) (omega arith))
-
-  -- ---- how many losses a chunk can have
-  module _ {j h : ℕ} (row : Row (rowBits l) x) (u : Under l y heavy j h t x) (some : h < heavy .n)
-      (block : getD (heavy .block) h 0 < l .l1) (column : j < l .l2) where
-    -- no more than are left
-    pub share-most : lostBefore l y x (chunkAt l heavy j h + 1) ≤ lostBefore l y x (chunkAt l heavy j h) + getD (t .left) h 0
-    share-most =
-        let f = field-room (l .l1) (l .l2) (getD (heavy .block) h 0) block in
-        let g = lost-grows l y x row (chunkAt l heavy j h + 1) (chunkAt l heavy (l .l2) h) (omega arith) f in
-        omega (arith, g, end-at u h some, shift-at u some)
-
-    -- and in the last column all that are left
-    pub share-last : j + 1 ≡ l .l2 → Loses l y x (chunkAt l heavy j h) (getD (t .left) h 0)
-    share-last e =
-        let n : chunkAt l heavy j h + 1 ≡ chunkAt l heavy (l .l2) h = omega arith in
-        rw n (omega (arith, end-at u h some, shift-at u some))
-
--- a decided column without open losses has the sum that the row in hand has there
-pub closed-column : (l : Layout) (x row : List ℕ) (cells : Cells) (j : ℕ) → Row (rowBits l) x → j < l .l2 → length (cells .column) ≡ 12
-    → share (cells .column) (cells .lost) j ≡ 0 → ColumnDecided l j cells row x
-    → getD (stringSums l x) j 0 ≡ sum (line (l .nc) j (l .l2) (l .l1) row)
-closed-column l x row cells j r k n s d =
-    string-line l x r j k
-    ∙ ap sum (line-same (l .nc) j (l .l2) (l .l1) (values l x) row (λ i p. rw (add-comm j (i * l .l2)) (in-hand i p)))
-  where
-    in-hand : (i : ℕ) → i < l .l1 → getD (values l x) (i * l .l2 + j) 0 ≡ getD row (i * l .l2 + j) 0
-    in-hand i p = ⊎-elim (λ o. absurd (none-open cells (cells .column) n j s (o .0) (o .1 .0) (o .1 .1 .1))) (λ e. e) (d i p)
 
 -- where no losses are left, no block has exactly one in its cells
 pub no-single : {l : Layout} {m : ℕ} {heavy : Heavy} {t : Table} → Sound l m heavy t → NoneLeft (t .left)

@@ -1,10 +1,12 @@
--- What sharing out answers: a chunk is read, or becomes a cell, or no row under the table has that share. Assumes nothing.
+-- What sharing out answers: a chunk is read, or becomes a cell, or no row under the table has that share. Assumes
+-- nothing.
 use Prim.Native.Nat.{ℕ, _+_, _*_, _-_, _<_, _≤_}
 use mathlib.Core.Path.{_≡_, refl}
-use mathlib.Core.Bool.{true, false}
+use mathlib.Core.Bool.{true, false, false≢true}
 use mathlib.Core.List.{List}
 use native.Mathlib.Omega.{arith}
 use lib.ListN.{length, getD, drop}
+use lib.Seq.{getD-set-same, getD-set-other}
 use Rattle.bits.specs.Bits.{longest, number, digits}
 use Rattle.rows.specs.Order.{Row}
 use Rattle.message.specs.Layout.{rowBits}
@@ -13,9 +15,9 @@ use Rattle.message.proofs.Fields.{field-room}
 use Rattle.message.proofs.Legal.{Sizes, legal-bounds, sizes}
 use Rattle.consistent.specs.Greedy.{losses}
 use Rattle.lines.specs.Lines.{values}
-use Rattle.live.specs.Live.{chunkAt}
+use Rattle.column.specs.Column.{chunkAt}
 use Rattle.tables.specs.Tables.{lostBefore, Loses, Under, withChunk, withCell, Sharable, Shared}
-use Rattle.live.specs.declared.Heavy.{Heavy}
+use Rattle.column.specs.declared.Heavy.{Heavy}
 use Rattle.tables.specs.declared.Table.{Table}
 use Rattle.tables.proofs.Chunk.{chunk-inside, lost-before, place-within, chunk-within, chunk-read, chunk-loses}
 use Rattle.tables.proofs.Making.{Twelve, shift-at, under-read, under-cell, sound-read, room-cell, sound-cell}
@@ -71,9 +73,20 @@ module _ {l : Layout} {y : List ℕ} {heavy : Heavy} {j h a : ℕ} {t : Table} (
       is-read : a ≡ 0 → getD (values l x) chunk 0 ≡ number (l .nc) (drop place y)
       is-read z = rw place-at (chunk-read l y x row chunk (inside q) a own z)
 
+  -- no row has that share
+  failed : ((x : List ℕ) → Row (rowBits l) x → Under l y heavy j h t x → Loses l y x (chunkAt l heavy j h) a → ⊥)
+      → Shared l y heavy j h a t false t
+  failed none =
+      record {
+        sound = q .sound;
+        falls = λ e. absurd (false≢true e);
+        others = λ s n. refl;
+        under = λ x row u own. absurd (none x row u own);
+      }
+
   -- too few bits are left to read the chunk
   pub shared-short : a ≡ 0 → length y < place + l .nc → Shared l y heavy j h a t false t
-  shared-short z short = record { sound = q .sound; under = λ x row u own. absurd (omega (arith, fits x row u own z)) }
+  shared-short z short = failed (λ x row u own. omega (arith, fits x row u own z))
 
   -- the chunk is read
   pub shared-read : a ≡ 0 → length (t .row) ≡ 255
@@ -82,13 +95,15 @@ module _ {l : Layout} {y : List ℕ} {heavy : Heavy} {j h a : ℕ} {t : Table} (
       let v = number (l .nc) (drop place y) in
       record {
         sound = sound-read (q .sound) (chunkAt l heavy j h) v;
+        falls = λ e. omega (arith, z);
+        others = λ s n. refl;
         under = λ x row u own.
             (refl, under-read u (q .some) v (rw z at own) (is-read x row u own z) (omega (arith, chunk-low q)));
       }
 
   -- the received row does not reach to where the chunk would be read
   pub shared-beyond : length y < place → Shared l y heavy j h a t false t
-  shared-beyond beyond = record { sound = q .sound; under = λ x row u own. absurd (omega (arith, reaches x row u)) }
+  shared-beyond beyond = failed (λ x row u own. omega (arith, reaches x row u))
 
   -- the chunk becomes a cell
   module _ (pos : 0 < a) (in-left : length (t .left) ≡ 6) (in-block : length (heavy .block) ≡ 6) (twelve : Twelve (t .cells)) where
@@ -101,6 +116,8 @@ module _ {l : Layout} {y : List ℕ} {heavy : Heavy} {j h a : ℕ} {t : Table} (
         let unused = q .sound .fresh (t .cells .n) (omega arith) in
         record {
           sound = sound-cell (q .sound) j h a place (q .some) (q .less) in-left in-block pos (q .column) within twelve;
+          falls = λ e. omega (arith, getD-set-same (t .left) h (getD (t .left) h 0 - a) 0 in-range, q .less);
+          others = λ s n. getD-set-other (t .left) h s (getD (t .left) h 0 - a) 0 n;
           under = λ x row u own.
               (refl, under-cell u (q .some) a place own pos (q .less) in-range twelve cell-room unused (loses x row u own));
         }

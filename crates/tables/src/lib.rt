@@ -1,38 +1,45 @@
 // Loss tables: how the losses of the heavy blocks are shared among their chunks. Contracts cite specs/Tables.antt.
 ghost use mathlib.Core.Path.{_≡_};
 ghost use mathlib.Core.Bool.{true, false};
-ghost use mathlib.Core.Logic.{_⊎_};
 ghost use mathlib.Core.List.{List};
 ghost use Prim.Native.Nat.{ℕ, _+_, _-_, _*_, _<_, _≤_};
 ghost use lib.ListN.{length, getD, drop};
 ghost use Rattle.bits.specs.Bits.{AllBits, longest, number};
-ghost use Rattle.rows.specs.Order.{Row};
+ghost use Rattle.rows.specs.Slice.{rowsIn};
 ghost use Rattle.message.specs.Layout.{legal, rowBits};
-ghost use Rattle.message.specs.Message.{stringSums};
-ghost use Rattle.cells.specs.Cells.{NoSingle, Placed};
+ghost use Rattle.windows.specs.Windows.{Tables};
+ghost use Rattle.lines.specs.Lines.{unlike};
 ghost use Rattle.found.specs.Found.{Given, Holding, Grown};
-ghost use Rattle.live.specs.Live.{each, Shaped};
+ghost use Rattle.anchor.specs.Anchor.{over};
+ghost use Rattle.cells.specs.Cells.{NoSingle, Placed};
+ghost use Rattle.states.specs.States.{each};
+ghost use Rattle.live.specs.Live.{Covers, apartFrom};
 ghost use Rattle.tables.specs.Tables.{
   pushed,
   withChunk,
   withCell,
   Sharable,
   Shared,
-  ColumnDecided,
+  Stepped,
   NoneLeft,
   Whole,
   Sound,
   Under,
   ShapeOf,
-  entryOf,
-  Begun,
-  UnderLive,
+  ownLeft,
+  stateOf,
+  IsMark,
+  LightIn,
+  HeavyOf,
+  Looked,
+  NearKnown,
+  UnderMarks,
 };
 use cells::Cells;
-use live::Heavy;
-use live::Shape;
+use column::Heavy;
 use message::Layout;
 use rows::Kept;
+use states::Shape;
 
 // A table as it is made: the losses that each heavy block has left to share, the short chunks so far, and the chunks in hand.
 pub struct Table {
@@ -138,21 +145,6 @@ fn share_out(l: Layout, y: &[u8], heavy: Heavy, j: usize, h: usize, a: u8, t: Ta
     }
 }
 
-// Whether column j, in which all heavy blocks have their share, can have its sum: with a cell in it, it can.
-fn column_fits(l: Layout, numbers: &[u16], j: usize, cells: Cells, row: [u8; 255]) -> bool
-    requires { ⌜ (legal l ≡ true) × ((j < l .l2) × (l .l1 + l .l2 ≤ length (now numbers))) ⌝ }
-    ensures { λ r. ⌜ ((x : List ℕ) → Row (rowBits l) x → getD (stringSums l x) j 0 ≡ getD (now (numbers .entry)) (l .l1 + j) 0
-        → ColumnDecided l j cells row x → r ≡ true) ⌝ }
-{
-    let column = cells.column;
-    let lost = cells.lost;
-    if cells::share(column, lost, j as u8) != 0 {
-        return true;
-    }
-    let sum = lines::line_sum(l.nc, j, l.l2, l.l1, &row);
-    sum == numbers[l.l1 + j] as usize
-}
-
 // Whether all losses of the heavy blocks are shared out.
 fn none_left(left: [u8; 6]) -> bool
     ensures { λ r. ⌜ (r ≡ true → NoneLeft left) × (NoneLeft left → r ≡ true) ⌝ }
@@ -165,17 +157,6 @@ fn none_left(left: [u8; 6]) -> bool
         s += 1;
     }
     true
-}
-
-// The least share that a heavy block with so many losses left can have in column j: in the last column all that are left.
-fn first_share(l2: usize, j: usize, left: u8) -> u8
-    requires { ⌜ j < l2 ⌝ }
-    ensures { λ r. ⌜ (r ≤ left) × ((r ≡ 0) ⊎ ((j + 1 ≡ l2) × (r ≡ left))) ⌝ }
-{
-    if j + 1 == l2 {
-        return left;
-    }
-    0
 }
 
 // All rows under a table after the last column: there are none where losses are left, and otherwise the cells are mended.
@@ -201,137 +182,405 @@ fn mend_table(
     kept
 }
 
-// Whether a column may be gone on with: at its start, where h = 0, the loss state may be live.
-fn goes_on(shape: Shape, live: &[u8], left: [u8; 6], j: usize, h: usize) -> bool
-    requires { ⌜ (shape .n ≤ 6) × ((j ≤ 255) × Shaped (shape .n) (shape .size) (shape .stride) (shape .states)) ⌝ }
-    ensures { λ r. ⌜ (r ≡ false
-        → (h ≡ 0) × ((0 < shape .states) × (getD (now (live .entry)) (entryOf shape j (each left)) 0 ≡ 0))) ⌝ }
+// The table after column j, if each heavy block has so much left then.
+fn step(l: Layout, y: &[u8], heavy: Heavy, j: usize, next: [u8; 6], t: Table) -> Share
+    requires { ⌜ (legal l ≡ true) × (AllBits (now y) × ((length (now y) ≤ rowBits l)
+        × (Sound l (length (now y)) heavy t × (j < l .l2)))) ⌝ }
+    ensures { λ r. ⌜ Stepped l (now (y .entry)) heavy j (each next) t (r .ok) (r .table) ⌝ }
 {
-    if h != 0 {
-        return true;
+    let n = heavy.n;
+    let mut r = Share { ok: true, table: t };
+    let mut h: usize = 0;
+    while h < n {
+        let table = r.table;
+        let left = table.left[h];
+        if left < next[h] {
+            return Share {
+                ok: false,
+                table: t,
+            };
+        }
+        r = share_out(l, y, heavy, j, h, left - next[h], table);
+        if !r.ok {
+            return r;
+        }
+        h += 1;
     }
-    live::alive(shape, left, j, live)
+    r
 }
 
-// All rows under a table of which in column j the first h heavy blocks have their share, that come through live loss states: at the
-// start of a column the table is given up where its state is not live, each share of the next block is tried, at the end of a
-// column its sum is looked at, and after the last column the cells are mended. The states come in the order of j * 7 + h, and the last is column l2 with h = 0.
+// Whether a state with this mark can hold a row that is not known: one comes through it, and it can differ from z in room
+// chunks.
+fn hopeful(mark: u8, differ: usize, room: usize) -> bool
+    requires { ⌜ differ ≤ 4000 ⌝ }
+    ensures { λ r. ⌜ ((n : ℕ) → r ≡ false → Covers mark n → differ + n < room) ⌝ }
+{
+    if mark == 0 {
+        return false;
+    }
+    if live::MANY <= mark {
+        return true;
+    }
+    room < differ + bits::wide(mark)
+}
+
+// All rows under a table at the start of column j that come through marked loss states. Column by column: those that lose
+// a bit in the column are looked for; then it is read whole, and gone on with where it has its sum. After the last column
+// the cells are mended.
 fn columns(
     l: Layout,
     y: &[u8],
+    totals: &[u32],
+    counts: &[u16],
     numbers: &[u16],
     heavy: Heavy,
     shape: Shape,
-    live: &[u8],
+    known: &[u16],
+    marks: &[u8],
+    z: &[u8],
+    room: usize,
     j: usize,
-    h: usize,
     t: Table,
+    differ: usize,
     cap: usize,
     list: &mut [u8],
     kept: Kept,
 ) -> Kept
     requires { ⌜ Given l (now numbers) (now y) × (Holding l (now numbers) (now y) cap (now list) (kept .count) (kept .more)
-        × (Sound l (length (now y)) heavy t × ((h ≤ heavy .n) × ((j * 7 + h ≤ l .l2 * 7) × ShapeOf heavy shape)))) ⌝ }
+        × (Sound l (length (now y)) heavy t × ((j ≤ l .l2) × (ShapeOf heavy shape (t .left)
+        × (Looked l (now y) (now totals) (now counts) (now known) (now z) differ j
+        × NearKnown l (now numbers) (now y) (rowsIn (rowBits l) (now list) (kept .count) (kept .more)) (now z) room))))) ⌝ }
     ensures { λ r. ⌜ Grown l (now (numbers .entry)) (now (y .entry)) cap
-        (UnderLive l (now (y .entry)) heavy shape (now (live .entry)) j h t)
+        (UnderMarks l (now (y .entry)) (now (numbers .entry)) heavy shape (now (known .entry)) (now (marks .entry)) (now (z .entry))
+        differ j t)
         (now (list .entry)) (kept .count) (kept .more) (now (list .exit)) (r .count) (r .more) ⌝ }
 {
-    if j == l.l2 {
-        return mend_table(l, y, numbers, t, cap, list, kept);
-    }
-    let lefts = t.left;
-    if !goes_on(shape, live, lefts, j, h) {
-        return kept;
-    }
-    if h == heavy.n {
-        let row = t.row;
-        if column_fits(l, numbers, j, t.cells, row) {
-            return columns(
-                l,
-                y,
-                numbers,
-                heavy,
-                shape,
-                live,
-                j + 1,
-                0,
-                t,
-                cap,
-                list,
-                kept,
-            );
-        }
-        return kept;
-    }
-    let left = t.left[h];
-    let first = first_share(l.l2, j, left);
+    let mut now = t;
+    let mut apart = differ;
     let mut k = kept;
-    for a in first..=left {
-        let s = share_out(l, y, heavy, j, h, a, t);
-        if s.ok {
-            k = columns(
+    let mut c = j;
+    while c < l.l2 {
+        let left = now.left;
+        let q = states::number_of(shape, left);
+        let mark = live::mark_at(shape, marks, c, q);
+        if !hopeful(mark, apart, room) {
+            return k;
+        }
+        k = losses_here(
+            l,
+            y,
+            totals,
+            counts,
+            numbers,
+            heavy,
+            shape,
+            known,
+            marks,
+            z,
+            room,
+            c,
+            now,
+            apart,
+            cap,
+            list,
+            k,
+        );
+        let whole = column::crossing(
+            l,
+            y,
+            totals,
+            counts,
+            numbers,
+            heavy,
+            known,
+            z,
+            c,
+            left,
+            left,
+        );
+        if whole == 0 {
+            return k;
+        }
+        let read = step(l, y, heavy, c, left, now);
+        if !read.ok {
+            return k;
+        }
+        now = read.table;
+        apart += bits::wide(whole) - 1;
+        c += 1;
+    }
+    mend_table(l, y, numbers, now, cap, list, k)
+}
+
+// All rows under a table at the start of column j that come through marked loss states and lose a bit in the column: each
+// lower state is tried.
+fn losses_here(
+    l: Layout,
+    y: &[u8],
+    totals: &[u32],
+    counts: &[u16],
+    numbers: &[u16],
+    heavy: Heavy,
+    shape: Shape,
+    known: &[u16],
+    marks: &[u8],
+    z: &[u8],
+    room: usize,
+    j: usize,
+    t: Table,
+    differ: usize,
+    cap: usize,
+    list: &mut [u8],
+    kept: Kept,
+) -> Kept
+    requires { ⌜ Given l (now numbers) (now y) × (Holding l (now numbers) (now y) cap (now list) (kept .count) (kept .more)
+        × (Sound l (length (now y)) heavy t × ((j < l .l2) × (ShapeOf heavy shape (t .left)
+        × (Looked l (now y) (now totals) (now counts) (now known) (now z) differ j
+        × NearKnown l (now numbers) (now y) (rowsIn (rowBits l) (now list) (kept .count) (kept .more)) (now z) room))))) ⌝ }
+    ensures { λ r. ⌜ Grown l (now (numbers .entry)) (now (y .entry)) cap
+        (λ x. UnderMarks l (now (y .entry)) (now (numbers .entry)) heavy shape (now (known .entry)) (now (marks .entry))
+        (now (z .entry)) differ j t x
+        × (stateOf shape (ownLeft l (now (y .entry)) heavy x (j + 1)) < stateOf shape (each (t .left))))
+        (now (list .entry)) (kept .count) (kept .more) (now (list .exit)) (r .count) (r .more) ⌝ }
+{
+    let left = t.left;
+    let q = states::number_of(shape, left);
+    let mut k = kept;
+    let mut to: usize = 0;
+    while to < q {
+        let mark = live::mark_at(shape, marks, j + 1, to);
+        if mark != 0 {
+            k = losses_to(
                 l,
                 y,
+                totals,
+                counts,
                 numbers,
                 heavy,
                 shape,
-                live,
+                known,
+                marks,
+                z,
+                room,
                 j,
-                h + 1,
-                s.table,
+                t,
+                to,
+                mark,
+                differ,
                 cap,
                 list,
                 k,
             );
         }
+        to += 1;
     }
     k
 }
 
-// The live loss states of a table with which the columns begin; none are kept where it has cells, since these are not read.
-fn live_states(
+// Those of them that are at one lower state after the column, which has this mark.
+fn losses_to(
     l: Layout,
     y: &[u8],
+    totals: &[u32],
+    counts: &[u16],
     numbers: &[u16],
     heavy: Heavy,
+    shape: Shape,
+    known: &[u16],
+    marks: &[u8],
+    z: &[u8],
+    room: usize,
+    j: usize,
     t: Table,
-    live: &mut [u8],
-) -> Shape
-    requires { ⌜ Given l (now numbers) (now y) × Sound l (length (now y)) heavy t ⌝ }
-    ensures { λ r. ⌜ ShapeOf heavy r
-        × (0 < r .states → Begun l (now (y .entry)) (now (numbers .entry)) heavy t r (now (live .exit))) ⌝ }
-{
-    let left = t.left;
-    let row = t.row;
-    let mut shape = live::prepare(l, y, numbers, heavy, left, row, live);
-    if t.cells.n == 0 {
-        return shape;
-    }
-    shape.states = 0;
-    shape
-}
-
-// The most entries of a table of live states: it is made where they are enough.
-const ENTRIES: usize = 32768;
-
-// All rows whose losses are those of the pattern that the heavy blocks come from: their losses are shared among their chunks in every
-// way that comes through live loss states.
-pub fn tables(
-    l: Layout,
-    y: &[u8],
-    numbers: &[u16],
-    heavy: Heavy,
-    t: Table,
+    to: usize,
+    mark: u8,
+    differ: usize,
     cap: usize,
     list: &mut [u8],
     kept: Kept,
 ) -> Kept
-    requires { ⌜ Given l (now numbers) (now y) × (Holding l (now numbers) (now y) cap (now list) (kept .count) (kept .more)
-        × Sound l (length (now y)) heavy t) ⌝ }
+    requires { ⌜ (Given l (now numbers) (now y) × (Holding l (now numbers) (now y) cap (now list) (kept .count) (kept .more)
+        × (Sound l (length (now y)) heavy t × ((j < l .l2) × (ShapeOf heavy shape (t .left)
+        × (Looked l (now y) (now totals) (now counts) (now known) (now z) differ j
+        × NearKnown l (now numbers) (now y) (rowsIn (rowBits l) (now list) (kept .count) (kept .more)) (now z) room))))))
+        × ((to < stateOf shape (each (t .left))) × IsMark shape (now marks) (j + 1) to mark) ⌝ }
+    ensures { λ r. ⌜ Grown l (now (numbers .entry)) (now (y .entry)) cap
+        (λ x. UnderMarks l (now (y .entry)) (now (numbers .entry)) heavy shape (now (known .entry)) (now (marks .entry))
+        (now (z .entry)) differ j t x × (stateOf shape (ownLeft l (now (y .entry)) heavy x (j + 1)) ≡ to))
+        (now (list .entry)) (kept .count) (kept .more) (now (list .exit)) (r .count) (r .more) ⌝ }
+{
+    let left = t.left;
+    let next = states::losses_left(shape, to);
+    let here = column::crossing(
+        l,
+        y,
+        totals,
+        counts,
+        numbers,
+        heavy,
+        known,
+        z,
+        j,
+        left,
+        next,
+    );
+    if here == 0 {
+        return kept;
+    }
+    let apart = differ + (bits::wide(here) - 1);
+    if !hopeful(mark, apart, room) {
+        return kept;
+    }
+    let s = step(l, y, heavy, j, next, t);
+    if !s.ok {
+        return kept;
+    }
+    columns(
+        l,
+        y,
+        totals,
+        counts,
+        numbers,
+        heavy,
+        shape,
+        known,
+        marks,
+        z,
+        room,
+        j + 1,
+        s.table,
+        apart,
+        cap,
+        list,
+        kept,
+    )
+}
+
+// Whether block i is heavy block h.
+fn is_heavy(heavy: Heavy, h: usize, i: usize) -> bool
+    requires { ⌜ heavy .n ≤ 6 ⌝ }
+    ensures { λ r. ⌜ (r ≡ true → (h < heavy .n) × (getD (heavy .block) h 0 ≡ i))
+        × (r ≡ false → h < heavy .n → getD (heavy .block) h 0 ≡ i → ⊥) ⌝ }
+{
+    if heavy.n <= h {
+        return false;
+    }
+    heavy.block[h] as usize == i
+}
+
+// In how many chunks the row in hand differs from z, the heavy blocks left out.
+fn apart_light(l: Layout, heavy: Heavy, row: [u8; 255], z: &[u8]) -> usize
+    requires { ⌜ (legal l ≡ true) × (HeavyOf l heavy × (l .l1 * l .l2 ≤ length (now z))) ⌝ }
+    ensures { λ r. ⌜ ((vs : List ℕ) → LightIn l heavy row vs
+        → over (unlike vs (now (z .entry))) 0 (l .l1 * l .l2) ≤ r + apartFrom l heavy (now (z .entry)) vs 0) × (r ≤ 255) ⌝ }
+{
+    let mut count: usize = 0;
+    let mut h: usize = 0;
+    let mut i: usize = 0;
+    while i < l.l1 {
+        if is_heavy(heavy, h, i) {
+            h += 1;
+        } else {
+            count += anchor::count_unlike(&row, z, i * l.l2, l.l2);
+        }
+        i += 1;
+    }
+    count
+}
+
+// The most marks of loss states: they are kept where they are enough.
+const MARKS: usize = 32768;
+
+// All rows whose losses are those of the pattern that the heavy blocks come from: their losses are shared among their chunks in every
+// way that comes through marked loss states. Rows that differ from z in fewer than room chunks are known.
+pub fn tables(
+    l: Layout,
+    y: &[u8],
+    totals: &[u32],
+    counts: &[u16],
+    numbers: &[u16],
+    heavy: Heavy,
+    t: Table,
+    z: &[u8],
+    room: usize,
+    cap: usize,
+    list: &mut [u8],
+    kept: Kept,
+) -> Kept
+    requires { ⌜ (Given l (now numbers) (now y) × Holding l (now numbers) (now y) cap (now list) (kept .count) (kept .more))
+        × ((Sound l (length (now y)) heavy t × (t .cells .n ≡ 0)) × (Tables (now y) 0 (now totals) (now counts)
+        × ((l .l1 * l .l2 ≤ length (now z))
+        × NearKnown l (now numbers) (now y) (rowsIn (rowBits l) (now list) (kept .count) (kept .more)) (now z) room))) ⌝ }
     ensures { λ r. ⌜ Grown l (now (numbers .entry)) (now (y .entry)) cap (Under l (now (y .entry)) heavy 0 0 t)
         (now (list .entry)) (kept .count) (kept .more) (now (list .exit)) (r .count) (r .more) ⌝ }
 {
-    let mut live: [u8; ENTRIES] = [0; ENTRIES];
-    let shape = live_states(l, y, numbers, heavy, t, &mut live);
-    columns(l, y, numbers, heavy, shape, &live, 0, 0, t, cap, list, kept)
+    let row = t.row;
+    let left = t.left;
+    let mut known: [u16; 255] = [0; 255];
+    column::light_sums(l, y, numbers, heavy, row, &mut known);
+    let light = apart_light(l, heavy, row, z);
+    let mut rest: usize = 0;
+    if light < room {
+        rest = room - light;
+    }
+    let mut marks: [u8; MARKS] = [0; MARKS];
+    let p = live::prepare(
+        l,
+        y,
+        totals,
+        counts,
+        numbers,
+        heavy,
+        left,
+        &known,
+        z,
+        rest,
+        &mut marks,
+    );
+    if p.none {
+        return kept;
+    }
+    if p.near {
+        return kept;
+    }
+    if p.kept {
+        return columns(
+            l,
+            y,
+            totals,
+            counts,
+            numbers,
+            heavy,
+            p.shape,
+            &known,
+            &marks,
+            z,
+            room,
+            0,
+            t,
+            light,
+            cap,
+            list,
+            kept,
+        );
+    }
+    columns(
+        l,
+        y,
+        totals,
+        counts,
+        numbers,
+        heavy,
+        p.shape,
+        &known,
+        &marks[0..0],
+        z,
+        room,
+        0,
+        t,
+        light,
+        cap,
+        list,
+        kept,
+    )
 }

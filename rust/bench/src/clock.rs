@@ -9,14 +9,13 @@ const ONE_BY_ONE: usize = 64;
 
 /// What one of the two took.
 struct Taken {
-    calls: usize,
-    together: Duration,
+    turns: Vec<Duration>,
     single: Vec<Duration>,
 }
 
 impl Taken {
     fn new() -> Taken {
-        Taken { calls: 0, together: Duration::ZERO, single: Vec::new() }
+        Taken { turns: Vec::new(), single: Vec::new() }
     }
 
     /// One turn from input `first` on. Answers the total of what the calls answered.
@@ -26,8 +25,7 @@ impl Taken {
         for i in first..first + TOGETHER {
             total = total.wrapping_add(call(i));
         }
-        self.together += start.elapsed();
-        self.calls += TOGETHER;
+        self.turns.push(start.elapsed());
         for i in first..first + ONE_BY_ONE {
             let start = Instant::now();
             let answer = call(i);
@@ -37,32 +35,34 @@ impl Taken {
         total
     }
 
-    fn per_second(&self) -> f64 {
-        self.calls as f64 / self.together.as_secs_f64()
-    }
-
-    fn print(&mut self, name: &str) {
-        self.single.sort_unstable();
-        let at = |percent: usize| microseconds(self.single[(self.single.len() - 1) * percent / 100]);
-        let (p50, p99, worst) = (at(50), at(99), at(100));
-        let per_second = self.per_second();
-        println!("    {name:<8}{per_second:>12.0} /s   p50 {p50:>8.2} us   p99 {p99:>8.2} us   worst {worst:>9.2} us");
+    /// Microseconds of one call: on average over the middle turn, and p50, p99 and worst of single calls.
+    fn times(&mut self) -> [f64; 4] {
+        let average = at(&mut self.turns, 50) / TOGETHER as f64;
+        [average, at(&mut self.single, 50), at(&mut self.single, 99), at(&mut self.single, 100)]
     }
 }
 
-fn microseconds(time: Duration) -> f64 {
-    time.as_secs_f64() * 1e6
+/// The time that so many of a hundred do not pass, in microseconds.
+fn at(times: &mut [Duration], percent: usize) -> f64 {
+    times.sort_unstable();
+    times[(times.len() - 1) * percent / 100].as_secs_f64() * 1e6
 }
 
-/// Lets the library and another implementation take turns for about this time, and prints what they took. They get
-/// the same inputs, and what they answer must be the same.
+fn print(name: &str, times: &[f64; 4]) {
+    let [average, p50, p99, worst] = times;
+    let per_second = 1e6 / average;
+    println!("    {name:<8}{per_second:>12.0} /s   p50 {p50:>8.2} us   p99 {p99:>8.2} us   worst {worst:>9.2} us");
+}
+
+/// Lets the library and another implementation take turns for about this time, and prints and answers what they took,
+/// as [`bench::results::Call`] has it. They get the same inputs, and what they answer must be the same.
 pub fn compare(
     name: &str,
     time: Duration,
     mut library: impl FnMut(usize) -> usize,
     other: &str,
     mut peer: impl FnMut(usize) -> usize,
-) {
+) -> [f64; 6] {
     let (mut ours, mut theirs) = (Taken::new(), Taken::new());
     let begin = Instant::now();
     let mut round = 0;
@@ -86,10 +86,12 @@ pub fn compare(
         }
         round += 1;
     }
+    let (ours, theirs) = (ours.times(), theirs.times());
     println!("  {name}");
-    ours.print("library");
-    theirs.print(other);
-    println!("    the library takes {:.2} times as long as the {other}", theirs.per_second() / ours.per_second());
+    print("library", &ours);
+    print(other, &theirs);
+    println!("    the library takes {:.2} times as long as the {other}", ours[0] / theirs[0]);
+    [ours[0], ours[1], ours[2], ours[3], theirs[0], theirs[1]]
 }
 
 /// How long one reading of the clock takes, in the middle of many.

@@ -3,6 +3,8 @@
 use reference::bits::pack;
 use reference::random::Random;
 
+use crate::films::packed_rows;
+
 /// Rows of one kind, gone through again and again.
 pub struct Rows {
     pub kind: &'static str,
@@ -13,7 +15,7 @@ pub struct Rows {
 const ROWS: usize = 64;
 
 /// Rows of `n` bits of every kind; `film` is a PBM file (`P4`) of that width.
-pub fn every_kind(n: usize, film: &[u8]) -> [Rows; 4] {
+pub fn every_kind(n: usize, film: &'static [u8]) -> [Rows; 4] {
     let mut random = Random::new(1);
     let of = |kind, rows| Rows { kind, rows };
     [
@@ -28,10 +30,9 @@ fn row(n: usize, bit: impl FnMut(usize) -> bool) -> Vec<u8> {
     pack(&(0..n).map(bit).collect::<Vec<bool>>())
 }
 
-/// Rows from all over a film. Its two lines of head are skipped.
-fn film_rows(n: usize, film: &[u8]) -> Vec<Vec<u8>> {
-    let body = film.splitn(3, |byte| *byte == b'\n').nth(2).unwrap_or_default();
-    let rows: Vec<Vec<u8>> = body.chunks_exact((n + 7) / 8).map(<[u8]>::to_vec).collect();
+/// Rows from all over a film.
+fn film_rows(n: usize, film: &'static [u8]) -> Vec<Vec<u8>> {
+    let rows = packed_rows(film, n);
     let step = rows.len() / ROWS + 1;
-    rows.into_iter().step_by(step).collect()
+    rows.into_iter().step_by(step).map(<[u8]>::to_vec).collect()
 }

@@ -1,42 +1,56 @@
-//! Listing in a child process, which is ended when a list takes too long.
+//! Lists in a child process, which is ended when one takes too long.
 
 use std::io::{self, BufRead, BufReader, Write};
 use std::process::{Child, ChildStdin, Command, Stdio};
-use std::sync::mpsc::{self, Receiver};
+use std::sync::mpsc::{self, Receiver, RecvTimeoutError};
 use std::time::{Duration, Instant};
-use std::{env, fmt, thread};
+use std::{env, thread};
 
 use dairyhour::Refusal;
 use reference::list::USED_BYTES;
+use reference::message::read_head;
+use reference::samples::{Kind, Losses};
 use reference::steps;
 
-/// The word by which this program, started again, knows that it is to list what it is told.
+use crate::cases::{Kinds, Place, Rows};
+
+/// The word by which this program, started again, knows that it is to do what it is told.
 pub const WORD: &str = "list-worker";
 
-/// Who lists.
+/// A child's first line.
+const READY: &str = "ready";
+
+/// What is done with a task.
 #[derive(Clone, Copy, Debug, PartialEq, Eq)]
-pub enum Lister {
-    Library,
+pub enum Work {
+    /// The library lists.
+    List,
+    /// The source's steps list.
     Steps,
+    /// The library writes the message of the row, in the layout of the message that is given.
+    Write,
 }
 
-impl fmt::Display for Lister {
-    fn fmt(&self, f: &mut fmt::Formatter<'_>) -> fmt::Result {
-        f.write_str(match self {
-            Lister::Library => "library",
-            Lister::Steps => "steps",
-        })
+impl Work {
+    const ALL: [Work; 3] = [Work::List, Work::Steps, Work::Write];
+
+    fn name(self) -> &'static str {
+        match self {
+            Work::List => "list",
+            Work::Steps => "steps",
+            Work::Write => "write",
+        }
     }
 }
 
-/// What was received.
+/// A message, and the bits of a row.
 pub struct Task {
     pub message: Vec<u8>,
     pub row: Vec<u8>,
     pub m: usize,
 }
 
-/// How long a list took, and what it was: the answer, and a number made of the list slice's bytes.
+/// How long it took, and what came of it: the answer, and a number made of the lent slice's bytes.
 #[derive(Clone, Copy, Debug)]
 pub struct Reply {
     pub time: Duration,
@@ -44,16 +58,54 @@ pub struct Reply {
     pub mark: u64,
 }
 
-/// A small task (layout 2, 1, 4, 0), so that the first list that is timed does not pay for the child's start.
-const WARMING: &str = "6 x52534d0001020104004080 x3c";
+/// What takes less than this is done several times, and the least time counts: whatever else the machine does in
+/// between only adds to it.
+const QUICK: Duration = Duration::from_millis(20);
+const TIMES: usize = 3;
+
+/// Does a task into a slice that was cleared.
+fn perform(work: Work, task: &Task, out: &mut [u8]) -> Reply {
+    let Task { message, row, m } = task;
+    let layout = read_head(message).map(|(layout, _)| layout);
+    out.fill(0);
+    let (time, answer) = match work {
+        Work::List => least(|| dairyhour::list(message, row, *m, out).map_err(Refusal::number)),
+        Work::Steps => least(|| steps::list(message, row, *m, out)),
+        Work::Write => least(|| {
+            let reference::Layout { l1, l2, nc, r } = layout?;
+            dairyhour::write(dairyhour::Layout { l1, l2, nc, r }, row, out).map_err(Refusal::number)
+        }),
+    };
+    Reply { time, answer, mark: mark(out) }
+}
+
+/// The least time that a call took, and what it answered.
+fn least(mut call: impl FnMut() -> Result<usize, u32>) -> (Duration, Result<usize, u32>) {
+    let mut least = Duration::MAX;
+    let begin = Instant::now();
+    for turn in 1.. {
+        let start = Instant::now();
+        let answer = call();
+        least = least.min(start.elapsed());
+        if turn == TIMES || begin.elapsed() > QUICK {
+            return (least, answer);
+        }
+    }
+    unreachable!("the turns end at {TIMES}")
+}
+
+/// A number that two different lists hardly have in common (FNV-1a).
+fn mark(bytes: &[u8]) -> u64 {
+    bytes.iter().fold(0xCBF2_9CE4_8422_2325, |mark, byte| (mark ^ u64::from(*byte)).wrapping_mul(0x0000_0100_0000_01B3))
+}
 
 /// The child's side: a line for each task, and a line for each reply.
 pub fn serve() {
-    for lister in [Lister::Library, Lister::Steps] {
-        let _ = reply_to(&format!("{lister} {WARMING}"));
-    }
+    let mut out = vec![0; USED_BYTES];
+    warm(&mut out);
+    println!("{READY}");
     for line in io::stdin().lock().lines() {
-        let reply = line.ok().and_then(|line| reply_to(&line));
+        let reply = line.ok().and_then(|line| reply_to(&line, &mut out));
         match reply {
             Some(reply) => println!("{reply}"),
             None => return,
@@ -61,26 +113,27 @@ pub fn serve() {
     }
 }
 
-fn reply_to(line: &str) -> Option<String> {
-    let mut words = line.split(' ');
-    let lister = words.next()?;
-    let m = words.next()?.parse().ok()?;
-    let (message, row) = (bytes(words.next()?)?, bytes(words.next()?)?);
-    let mut out = vec![0; USED_BYTES];
-    let start = Instant::now();
-    let answer = if lister == "steps" {
-        steps::list(&message, &row, m, &mut out)
-    } else {
-        dairyhour::list(&message, &row, m, &mut out).map_err(Refusal::number)
-    };
-    let time = start.elapsed().as_nanos();
-    let (refusal, count) = answer.map_or_else(|number| (number, 0), |count| (0, count));
-    Some(format!("{time} {refusal} {count} {}", mark(&out)))
+/// Lists a few bits short of random rows, so that what is timed does not pay for the child's start.
+fn warm(out: &mut [u8]) {
+    let (rows, losses) = (("random", Rows::Made(Kind::Random)), ("uniform", Losses::Uniform));
+    for place in Place::all() {
+        let case = Kinds { place, rows, losses, k: 2 }.case(0);
+        for work in Work::ALL {
+            perform(work, &case.whole, out);
+        }
+        perform(Work::List, &case.short, out);
+    }
 }
 
-/// A number that two different lists hardly have in common (FNV-1a).
-fn mark(bytes: &[u8]) -> u64 {
-    bytes.iter().fold(0xCBF2_9CE4_8422_2325, |mark, byte| (mark ^ u64::from(*byte)).wrapping_mul(0x0000_0100_0000_01B3))
+fn reply_to(line: &str, out: &mut [u8]) -> Option<String> {
+    let mut words = line.split(' ');
+    let name = words.next()?;
+    let work = Work::ALL.into_iter().find(|work| work.name() == name)?;
+    let m = words.next()?.parse().ok()?;
+    let task = Task { m, message: bytes(words.next()?)?, row: bytes(words.next()?)? };
+    let Reply { time, answer, mark } = perform(work, &task, out);
+    let (refusal, count) = answer.map_or_else(|number| (number, 0), |count| (0, count));
+    Some(format!("{} {refusal} {count} {mark}", time.as_nanos()))
 }
 
 /// Bytes in hexadecimal behind an x, which stands there so that no bytes are a word as well.
@@ -94,8 +147,8 @@ fn bytes(word: &str) -> Option<Vec<u8>> {
 }
 
 /// The parent's side: a child that is started when it is needed.
+#[derive(Default)]
 pub struct Worker {
-    lister: Lister,
     child: Option<Running>,
 }
 
@@ -106,24 +159,26 @@ struct Running {
 }
 
 impl Worker {
-    pub fn new(lister: Lister) -> Worker {
-        Worker { lister, child: None }
-    }
-
     /// The reply, or nothing if there is none after this time: the child is then ended.
-    pub fn ask(&mut self, task: &Task, limit: Duration) -> io::Result<Option<Reply>> {
+    pub fn ask(&mut self, work: Work, task: &Task, limit: Duration) -> io::Result<Option<Reply>> {
         let running = match self.child.take() {
             Some(running) => running,
             None => Running::start()?,
         };
-        let line = format!("{} {} {} {}", self.lister, task.m, word(&task.message), word(&task.row));
+        let line = format!("{} {} {} {}", work.name(), task.m, word(&task.message), word(&task.row));
         let running = self.child.insert(running);
         writeln!(running.tasks, "{line}")?;
-        let reply = running.replies.recv_timeout(limit).ok().and_then(|line| parse(&line));
-        if reply.is_none() {
-            self.end();
+        match running.replies.recv_timeout(limit + QUICK) {
+            Ok(line) => {
+                let reply = parse(&line).ok_or_else(|| broken("a child's reply is not understood"))?;
+                Ok(Some(reply).filter(|reply| reply.time <= limit))
+            }
+            Err(RecvTimeoutError::Timeout) => {
+                self.end();
+                Ok(None)
+            }
+            Err(RecvTimeoutError::Disconnected) => Err(broken(&format!("a child ended at: {line}"))),
         }
-        Ok(reply.filter(|reply| reply.time <= limit))
     }
 
     fn end(&mut self) {
@@ -142,12 +197,12 @@ impl Drop for Worker {
 }
 
 impl Running {
+    /// A child that is ready: what it was warmed with is not part of the first task's time.
     fn start() -> io::Result<Running> {
         let mut child =
             Command::new(env::current_exe()?).arg(WORD).stdin(Stdio::piped()).stdout(Stdio::piped()).spawn()?;
-        let missing = || io::Error::new(io::ErrorKind::BrokenPipe, "a child without pipes");
-        let tasks = child.stdin.take().ok_or_else(missing)?;
-        let output = child.stdout.take().ok_or_else(missing)?;
+        let tasks = child.stdin.take().ok_or_else(|| broken("a child without pipes"))?;
+        let output = child.stdout.take().ok_or_else(|| broken("a child without pipes"))?;
         let (sender, replies) = mpsc::channel();
         thread::spawn(move || {
             for line in BufReader::new(output).lines().map_while(Result::ok) {
@@ -156,8 +211,15 @@ impl Running {
                 }
             }
         });
-        Ok(Running { child, tasks, replies })
+        match replies.recv() {
+            Ok(line) if line == READY => Ok(Running { child, tasks, replies }),
+            _ => Err(broken("a child did not start")),
+        }
     }
+}
+
+fn broken(text: &str) -> io::Error {
+    io::Error::new(io::ErrorKind::BrokenPipe, text)
 }
 
 fn parse(line: &str) -> Option<Reply> {

@@ -7,8 +7,8 @@ use lib.ListN.{drop, length-drop}
 use lib.Seq.{length-take-le}
 use Rattle.message.proofs.Fields.{field-room}
 use Rattle.message.proofs.Legal.{Sizes, legal-bounds, sizes}
-use Rattle.lines.specs.Lines.{values}
-use Rattle.anchor.specs.Anchor.{over, unlike}
+use Rattle.lines.specs.Lines.{values, unlike}
+use Rattle.anchor.specs.Anchor.{over}
 use Rattle.anchor.proofs.Anchor.{light-bound, heavy-bound}
 use Rattle.anchor.proofs.block_most.Statement.{statement}
 use Rattle.anchor.proofs.block_most.Tie as tie

@@ -6,7 +6,8 @@ use mathlib.Core.Logic.{⊎-elim}
 use native.Mathlib.Omega.{arith}
 use borrow.Author.Tests.{eq-eqb, ne-eqb}
 use lib.ListN.{getD}
-use Rattle.anchor.specs.Anchor.{over, unlike}
+use Rattle.anchor.specs.Anchor.{over}
+use Rattle.lines.specs.Lines.{unlike}
 use Rattle.anchor.proofs.Over.{over-none, over-next}
 use Rattle.anchor.proofs.count_unlike.Statement.{statement}
 use Rattle.anchor.proofs.count_unlike.Tie as tie

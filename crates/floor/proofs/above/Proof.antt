@@ -1,17 +1,15 @@
 -- `floor::above` meets its contract: what comes after the last row held is known. Assumes nothing.
 use borrow.Author.Needs.{needs}
 use Prim.Native.Nat.{ℕ, _+_, _-_, _*_, _<_, _≤_}
-use mathlib.Core.Path.{_≡_, refl, sym, ap, _∙_}
-use mathlib.Core.Bool.{true, false≢true}
-use mathlib.Core.List.{List}
+use mathlib.Core.Path.{_≡_, _∙_}
+use mathlib.Core.Bool.{false≢true}
 use native.Mathlib.Omega.{arith}
 use borrow.Author.Tests.{not-false}
 use lib.ListN.{length, take, drop, length-drop}
 use lib.Seq.{length-take-le}
-use Rattle.bits.specs.Bits.{bytesFor, unpack}
-use Rattle.rows.specs.Order.{Less}
+use Rattle.bits.specs.Bits.{bytesFor}
 use Rattle.message.specs.Layout.{rowBits}
-use Rattle.floor.proofs.Floor.{lastRow, none-known, last-known, last-room}
+use Rattle.floor.proofs.Floor.{none-known, last-known, last-room}
 use Rattle.floor.proofs.above.Statement.{statement}
 use Rattle.floor.proofs.above.Tie as tie
 
@@ -39,7 +37,8 @@ returns-2 : tie.Need-returns-2
 returns-2 c =
     let m = c .before .before in
     let a = m .before .before .before .before .before .before .args in
-    λ e x sent own light. none-known (a .l) (a .list .now) (a .kept .count) (a .kept .more) (c .if2 .taken) (not-false _ (m .if1 .left)) x
+    λ e x sent own light.
+    none-known (a .l) (a .list .now) (a .kept .count) (a .kept .more) (c .if2 .taken) (not-false _ (m .if1 .left)) x
 
 mul-w : tie.Need-mul-w
 mul-w c = search needs
@@ -74,8 +73,9 @@ after-row-requires c κs =
     let a = s .args in
     let w : ℕ = bytesFor (rowBits (a .l)) in
     let at : ℕ = (a .kept .count - 1) * w in
+    let rest = length-drop at (a .list .now) in
     let part : length (take (at + w - at) (drop at (a .list .now))) ≡ w =
-    length-take-le (at + w - at) (drop at (a .list .now)) (omega (arith, room (c .before), length-drop at (a .list .now))) ∙ width at w
+    length-take-le (at + w - at) (drop at (a .list .now)) (omega (arith, room (c .before))) ∙ width at w
     in
     (s .pre .0 .is-legal, (s .pre .0 .bits, (s .pre .1 .1 .0, (s .pre .1 .1 .1, part))))
 

@@ -1,9 +1,9 @@
--- `floor::after_row` meets its contract. The loop's invariant: a row under the counts is at least the row `last` up to block b.
--- Assumes nothing.
+-- `floor::after_row` meets its contract. The loop's invariant: a row under the counts is at least the row `last` up to
+-- block b. Assumes nothing.
 use borrow.Author.Needs.{needs}
-use Prim.Native.Nat.{ℕ, _+_, _-_, _*_, _<_, _≤_}
-use mathlib.Core.Path.{_≡_, refl, sym, ap, _∙_}
-use mathlib.Core.Bool.{true, false≢true}
+use Prim.Native.Nat.{ℕ, _-_, _*_, _≤_}
+use mathlib.Core.Path.{_≡_, refl, sym}
+use mathlib.Core.Bool.{false≢true}
 use mathlib.Core.Logic.{inr}
 use mathlib.Core.List.{List}
 use native.Mathlib.Nat.{zero-mul}
@@ -15,7 +15,7 @@ use mir.Val.{Fits}
 use Rattle.bits.specs.Bits.{unpack}
 use Rattle.rows.specs.Order.{Row}
 use Rattle.message.specs.Layout.{rowBits, blockBits}
-use Rattle.message.proofs.Legal.{Sizes, legal-bounds, sizes}
+use Rattle.message.proofs.Legal.{legal-bounds, sizes}
 use Rattle.consistent.specs.Greedy.{inAll}
 use Rattle.anchor.specs.Anchor.{OwnCounts, LightInHand}
 use Rattle.anchor.proofs.Totals.{total-none, total-next}
@@ -54,7 +54,8 @@ byte c =
 loop-holds : tie.Need-loop-holds Inv-loop μ-loop
 loop-holds c =
     let a = c .before .before .before .args in
-    ((omega arith, (sym (total-none (a .t3)), omega arith)), λ x r own light. rw (zero-mul (blockBits (a .l))) (inr refl))
+    let none = zero-mul (blockBits (a .l)) in
+    ((omega arith, (sym (total-none (a .t3)), omega arith)), λ x r own light. rw none (inr refl))
 
 array-read-wide : tie.Need-array-read-wide Inv-loop μ-loop
 array-read-wide c = omega (arith, few (start (c .before)))
@@ -65,11 +66,13 @@ wide-requires c κs = search needs
 compare-block-requires : tie.Need-compare-block-requires Inv-loop μ-loop
 compare-block-requires c κs =
     let s = start (c .before .before) in
-    (s .pre .0, (s .pre .1 .0, (omega (arith, c .before .loop-test .taken, s .pre .1 .1 .1 .0), (s .pre .1 .1 .0, s .pre .1 .1 .1 .1))))
+    let h = c .before .loop-test .taken in
+    (s .pre .0, (s .pre .1 .0, (omega (arith, s .pre .1 .1 .1 .0), (s .pre .1 .1 .0, s .pre .1 .1 .1 .1))))
 
 -- what the comparison of block b says of a row under the counts
 compared : (c : tie.After-compare-block Inv-loop μ-loop) → let t = c .before .before .before in let a = start t .args in
-    (x : List ℕ) → Row (rowBits (a .l)) x → OwnCounts (a .l) (a .y .now) (a .t3) (a .i) x → LightInHand (a .l) (a .t3) (a .i) (a .row .now) x
+    (x : List ℕ) → Row (rowBits (a .l)) x → OwnCounts (a .l) (a .y .now) (a .t3) (a .i) x
+    → LightInHand (a .l) (a .t3) (a .i) (a .row .now) x
     → BlockCompared (a .l) (t .loop .b) (unpack (a .last .now)) x (c .compare-block .result)
 compared c x r own light =
     let t = c .before .before .before in
@@ -106,8 +109,9 @@ loop-again c =
     let a = s .args in
     let inside = w .before .loop-test .taken in
     let n = many s in
-    let next = total-next (a .t3) (t .loop .b) (omega (arith, few s)) in (
-      (omega arith, (omega (arith, t .loop .inv .0 .1 .0, w .wide .ensures), omega (arith, t .loop .inv .0 .1 .1, byte w))),
+    let next = total-next (a .t3) (t .loop .b) (omega (arith, few s)) in
+    let own = t .loop .inv .0 .1 in (
+      (omega arith, (omega (arith, own .0, w .wide .ensures), omega (arith, own .1, byte w))),
       λ x r own light.
           next-at-least (t .loop .b) (blockBits (a .l)) (unpack (a .last .now)) x
           (compared (c .before) x r own light .same (c .if1 .left) (t .loop .inv .1 x r own light)),

@@ -1,8 +1,9 @@
--- `floor::heavy_block` meets its contract. The loop's invariant: a row that loses d bits before the block and a in it is above the row
--- `last`, or has its bits up to bit u of the block and as many losses left as the least block. Assumes nothing.
+-- `floor::heavy_block` meets its contract. The loop's invariant: a row that loses d bits before the block and a in it
+-- is above the row `last`, or has its bits up to bit u of the block and as many losses left as the least block. Assumes
+-- nothing.
 use borrow.Author.Needs.{needs}
 use Prim.Native.Nat.{ℕ, _+_, _-_, _*_, _<_, _≤_}
-use mathlib.Core.Path.{_≡_, refl, sym, ap, _∙_}
+use mathlib.Core.Path.{_≡_, _∙_}
 use mathlib.Core.Logic.{inl, inr, ⊎-elim}
 use mathlib.Core.List.{List}
 use native.Mathlib.Omega.{arith}
@@ -15,7 +16,8 @@ use Rattle.message.proofs.Fields.{field-room}
 use Rattle.message.proofs.Legal.{Sizes, legal-bounds, sizes}
 use Rattle.consistent.specs.Greedy.{losses}
 use Rattle.floor.specs.Floor.{AtLeast, BlockLoses}
-use Rattle.floor.proofs.Floor.{Stands, bit-after, bit-same, compared-before, compared-same, compared-after}
+use Rattle.floor.proofs.Floor.{Stands, Rest, Bit, bit-after, bit-same}
+use Rattle.floor.proofs.Floor.{compared-before, compared-same, compared-after}
 use Rattle.floor.proofs.heavy_block.Statement.{statement}
 use Rattle.floor.proofs.heavy_block.Tie as tie
 
@@ -57,54 +59,73 @@ long : (s : tie.Start Inv-loop μ-loop) → rowBits (s .args .l) ≤ length (unp
 long s = omega (arith, length-unpack (s .args .last .now), s .pre .1 .1 .1)
 
 -- a row of which this is asked
-under : (s : tie.Start Inv-loop μ-loop) (x : List ℕ) → let a = s .args in Row (rowBits (a .l)) x → BlockLoses (a .l) (a .y .now) (a .b) (a .d) (a .a) x
-    → AtLeast (a .b * blockBits (a .l)) (unpack (a .last .now)) x
-    → Under (a .y .now) (unpack (a .last .now)) (a .b * blockBits (a .l)) (blockBits (a .l)) (a .d) (a .a) x
-under s x r q k = record { bits = r .1; long = omega (arith, room s, r .0); before = q .before; inside = q .inside; least = k }
+abbrev Asked : (s : tie.Start Inv-loop μ-loop) (x : List ℕ) → Type 0
+Asked s x =
+    let a = s .args in
+    Under (a .y .now) (unpack (a .last .now)) (a .b * blockBits (a .l)) (blockBits (a .l)) (a .d) (a .a) x
 
--- what the bit that was read says of such a row: the least bit is above it, or is it
-module _ (n : tie.After-number-in Inv-loop μ-loop) (x : List ℕ) where
+asked : (s : tie.Start Inv-loop μ-loop) (x : List ℕ) → let a = s .args in Row (rowBits (a .l)) x
+    → BlockLoses (a .l) (a .y .now) (a .b) (a .d) (a .a) x → AtLeast (a .b * blockBits (a .l)) (unpack (a .last .now)) x
+    → Asked s x
+asked s x r q k =
+    let h = room s in
+    record { bits = r .1; long = omega (arith, r .0); before = q .before; inside = q .inside; least = k }
+
+-- what the bit that was read says of such a row
+module _ (n : tie.After-number-in Inv-loop μ-loop) where
+  abbrev t : tie.At-loop Inv-loop μ-loop
+  t = turn n
+
   abbrev s : tie.Start Inv-loop μ-loop
-  s = start (turn n)
-
-  abbrev from : ℕ
-  from = s .args .b * blockBits (s .args .l)
+  s = start t
 
   abbrev z : List ℕ
   z = unpack (s .args .last .now)
 
-  abbrev u : ℕ
-  u = turn n .loop .u
+  abbrev at-bit : ℕ
+  at-bit = s .args .b * blockBits (s .args .l) + t .loop .u
+
+  abbrev w : ℕ
+  w = blockBits (s .args .l) - t .loop .u
 
   abbrev all : ℕ
   all = s .args .d + s .args .a
 
-  abbrev least : ℕ
-  least = n .before .bit-of .result
+  taken : t .loop .u < blockBits (s .args .l)
+  taken = n .before .before .before .before .loop-test .taken
 
-  above : n .number-in .result < least → Under (s .args .y .now) z from (blockBits (s .args .l)) (s .args .d) (s .args .a) x → Less z x
-  above h q =
-      let t = turn n in
-      let e : from + u + (blockBits (s .args .l) - u) ≡ from + blockBits (s .args .l) = omega (arith, t .loop .inv .0 .0) in
-      bit-after z x (bits-unpack (s .args .last .now)) (q .bits) (s .args .y .now) (s .pre .1 .0) (from + u) (blockBits (s .args .l) - u)
-      (t .loop .left) all (t .loop .p) (omega (arith, n .before .before .before .before .loop-test .taken)) (omega (arith, room s, long s)) (omega (arith, q .long))
-      (t .loop .inv .0 .1 .1) (rw e (q .inside)) (n .before .before .before .next-bit .result) (n .before .before .least-lost .result) least
-      (n .before .before .before .next-bit .ensures .0) (n .before .before .least-lost .ensures .0) (n .before .bit-of .ensures)
+  rest : (x : List ℕ) → Asked s x → Rest (s .args .y .now) z x at-bit w (t .loop .left) all (t .loop .p)
+  rest x q =
+      let h = taken in
+      let e : at-bit + w ≡ s .args .b * blockBits (s .args .l) + blockBits (s .args .l) = omega arith in
+      record {
+        some = omega arith;
+        in-z = omega (arith, room s, long s);
+        in-x = omega (arith, q .long);
+        place = t .loop .inv .0 .1 .1;
+        end = rw e (q .inside);
+      }
+
+  bit : Bit (s .args .y .now) (t .loop .p) (t .loop .left) w (n .before .before .before .next-bit .result)
+      (n .before .before .least-lost .result) (n .before .bit-of .result)
+  bit =
+      record {
+        next-is = n .before .before .before .next-bit .ensures .0;
+        lost-is = n .before .before .least-lost .ensures .0;
+        bit-is = n .before .bit-of .ensures;
+      }
+
+  above : n .number-in .result < n .before .bit-of .result → (x : List ℕ) → Asked s x → Less z x
+  above h x q =
+      bit-after z x (bits-unpack (s .args .last .now)) (q .bits) (s .args .y .now) (s .pre .1 .0) (rest x q) bit
       (omega (arith, n .number-in .ensures)) (t .loop .inv .1 x q)
 
-  agrees : least ≡ n .number-in .result → Under (s .args .y .now) z from (blockBits (s .args .l)) (s .args .d) (s .args .a) x
-      → Stands (s .args .y .now) z x (from + (u + 1)) (turn n .loop .left - n .before .before .least-lost .result) all
-  agrees h q =
-      let t = turn n in
-      let e : from + u + (blockBits (s .args .l) - u) ≡ from + blockBits (s .args .l) = omega (arith, t .loop .inv .0 .0) in
-      let f : from + (u + 1) ≡ from + u + 1 = omega arith in
-      rw f
-      (bit-same z x (bits-unpack (s .args .last .now)) (q .bits) (s .args .y .now) (s .pre .1 .0) (from + u) (blockBits (s .args .l) - u)
-      (t .loop .left) all (t .loop .p) (omega (arith, n .before .before .before .before .loop-test .taken)) (omega (arith, room s, long s)) (omega (arith, q .long))
-      (t .loop .inv .0 .1 .1) (rw e (q .inside)) (n .before .before .before .next-bit .result) (n .before .before .least-lost .result) least
-      (n .before .before .before .next-bit .ensures .0) (n .before .before .least-lost .ensures .0) (n .before .bit-of .ensures)
+  agrees : n .before .bit-of .result ≡ n .number-in .result → (x : List ℕ) → Asked s x
+      → Stands (s .args .y .now) z x (at-bit + 1) (t .loop .left - n .before .before .least-lost .result) all
+  agrees h x q =
+      bit-same z x (bits-unpack (s .args .last .now)) (q .bits) (s .args .y .now) (s .pre .1 .0) (rest x q) bit
       (h ∙ n .number-in .ensures) (t .loop .left - n .before .before .least-lost .result)
-      (omega (arith, n .before .before .least-lost .ensures .1 .1)) (t .loop .inv .1 x q))
+      (omega (arith, n .before .before .least-lost .ensures .1 .1)) (t .loop .inv .1 x q)
 
 mul-nb : tie.Need-mul-nb Inv-loop μ-loop
 mul-nb c = omega (arith, size (c .before .before .before) .block)
@@ -119,8 +140,10 @@ loop-holds : tie.Need-loop-holds Inv-loop μ-loop
 loop-holds c =
     let s = c .before .before .before .before in
     let a = s .args in
-    let e : a .b * blockBits (a .l) + 0 ≡ a .b * blockBits (a .l) = omega arith in
-    ((omega arith, (omega arith, omega (arith, c .if1 .left))), λ x q. rw e (⊎-elim inl (λ k. inr (k, omega (arith, q .before))) (q .least)))
+    let e : a .b * blockBits (a .l) + 0 ≡ a .b * blockBits (a .l) = omega arith in (
+      (omega arith, (omega arith, omega (arith, c .if1 .left))),
+      λ x q. rw e (⊎-elim inl (λ k. inr (k, omega (arith, q .before))) (q .least)),
+    )
 
 next-bit-requires : tie.Need-next-bit-requires Inv-loop μ-loop
 next-bit-requires c κs = start (c .before) .pre .1 .0
@@ -144,7 +167,8 @@ number-in-requires : tie.Need-number-in-requires Inv-loop μ-loop
 number-in-requires c κs =
     let i = c .before .before .before in
     let s = start (i .before) in
-    (omega arith, (omega (arith, s .pre .1 .1 .1, size s .row), omega (arith, s .pre .1 .1 .1, room s, i .loop-test .taken)))
+    let h = i .loop-test .taken in
+    (omega arith, (omega (arith, s .pre .1 .1 .1, size s .row), omega (arith, s .pre .1 .1 .1, room s)))
 
 returns-2 : tie.Need-returns-2 Inv-loop μ-loop
 returns-2 c = λ x r q. compared-before
@@ -152,7 +176,7 @@ returns-2 c = λ x r q. compared-before
 returns-3 : tie.Need-returns-3 Inv-loop μ-loop
 returns-3 c =
     let n = c .before .before in
-    λ x r q. compared-after (λ k. above n x (c .if3 .taken) (under (start (turn n)) x r q k))
+    λ x r q. compared-after (λ k. above n (c .if3 .taken) x (asked (start (turn n)) x r q k))
 
 sub-p : tie.Need-sub-p Inv-loop μ-loop
 sub-p c = let o = c .before .before .before .before .least-lost .ensures in omega (arith, o .1 .0)
@@ -162,7 +186,7 @@ add-p c =
     let n = c .before .before in
     let t = turn n in
     let s = start t in
-    omega (arith, t .loop .inv .0 .1 .1, t .loop .inv .0 .1 .0, room s, size s .row, n .before .before .before .before .loop-test .taken)
+    omega (arith, t .loop .inv .0 .1 .1, t .loop .inv .0 .1 .0, room s, size s .row, taken n)
 
 sub-left : tie.Need-sub-left Inv-loop μ-loop
 sub-left c = let o = c .before .before .before .before .least-lost .ensures in omega (arith, o .1 .1)
@@ -170,7 +194,7 @@ sub-left c = let o = c .before .before .before .before .least-lost .ensures in o
 add-u : tie.Need-add-u Inv-loop μ-loop
 add-u c =
     let n = c .before .before in
-    omega (arith, size (start (turn n)) .block, n .before .before .before .before .loop-test .taken)
+    omega (arith, size (start (turn n)) .block, taken n)
 
 loop-less : tie.Need-loop-less Inv-loop μ-loop
 loop-less c = search needs
@@ -180,12 +204,12 @@ loop-again c =
     let n = c .before .before in
     let t = turn n in
     let lost = n .before .before .least-lost .ensures .1 in
-    let same : n .before .bit-of .result ≡ n .number-in .result = omega arith in (
-      (
-        omega (arith, n .before .before .before .before .loop-test .taken),
-        (omega (arith, t .loop .inv .0 .1 .0), omega (arith, t .loop .inv .0 .1 .1, lost .0, lost .1)),
-      ),
-      λ x q. agrees n x same q,
+    let own = t .loop .inv .0 .1 in
+    let from : ℕ = start t .args .b * blockBits (start t .args .l) in
+    let same : n .before .bit-of .result ≡ n .number-in .result = omega arith in
+    let next : from + (t .loop .u + 1) ≡ from + t .loop .u + 1 = omega arith in (
+      (omega (arith, taken n), (omega (arith, own .0), omega (arith, own .1, lost .0, lost .1))),
+      λ x q. rw next (agrees n same x q),
     )
 
 returns-4 : tie.Need-returns-4 Inv-loop μ-loop
@@ -194,7 +218,7 @@ returns-4 c =
     let s = start t in
     let nb : ℕ = blockBits (s .args .l) in
     let e : t .loop .u ≡ nb = omega (arith, t .loop .inv .0 .0, c .loop-test .left) in
-    λ x r q. compared-same (λ k. ⊎-elim inl (λ w. inr (rw e at (w .0))) (t .loop .inv .1 x (under s x r q k)))
+    λ x r q. compared-same (λ k. ⊎-elim inl (λ w. inr (rw e at (w .0))) (t .loop .inv .1 x (asked s x r q k)))
 
 pub heavy-block-spec : {M : Type 1} → statement M
 heavy-block-spec =

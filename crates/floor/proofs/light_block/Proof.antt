@@ -1,8 +1,8 @@
--- `floor::light_block` meets its contract. The loop's invariant: a row whose block is in hand is at least the row `last` up to chunk j of
--- the block. Assumes nothing.
+-- `floor::light_block` meets its contract. The loop's invariant: a row whose block is in hand is at least the row
+-- `last` up to chunk j of the block. Assumes nothing.
 use borrow.Author.Needs.{needs}
 use Prim.Native.Nat.{ℕ, _+_, _-_, _*_, _<_, _≤_}
-use mathlib.Core.Path.{_≡_, refl, sym, ap, _∙_}
+use mathlib.Core.Path.{_≡_, sym, ap, _∙_}
 use mathlib.Core.List.{List}
 use native.Mathlib.Nat.{add-mul, mul-assoc}
 use native.Mathlib.Omega.{arith}
@@ -59,7 +59,8 @@ turn n = n .before .before .before .before .before .before
 taken : (n : tie.After-number-in Inv-loop μ-loop) → turn n .loop .j < start (turn n) .args .l .l2
 taken n = n .before .before .before .before .if1 .taken
 
-inside : (n : tie.After-number-in Inv-loop μ-loop) → let a = start (turn n) .args in a .b * a .l .l2 + turn n .loop .j < a .l .l1 * a .l .l2
+inside : (n : tie.After-number-in Inv-loop μ-loop) → let a = start (turn n) .args in
+    a .b * a .l .l2 + turn n .loop .j < a .l .l1 * a .l .l2
 inside n = omega (arith, taken n, room (start (turn n)))
 
 mul-from : tie.Need-mul-from Inv-loop μ-loop
@@ -68,7 +69,9 @@ mul-from c = let s = c .before .before .before in omega (arith, room s, size s .
 loop-holds : tie.Need-loop-holds Inv-loop μ-loop
 loop-holds c =
     let a = c .before .before .before .args in
-    let e : (a .b * a .l .l2 + 0) * a .l .nc ≡ a .b * blockBits (a .l) = ap (λ (n : ℕ). n * a .l .nc) (omega arith) ∙ mul-assoc (a .b) (a .l .l2) (a .l .nc) in
+    let e : (a .b * a .l .l2 + 0) * a .l .nc ≡ a .b * blockBits (a .l) =
+    ap (λ (n : ℕ). n * a .l .nc) (omega arith) ∙ mul-assoc (a .b) (a .l .l2) (a .l .nc)
+    in
     (omega arith, λ x r h k. rw e k)
 
 add-c : tie.Need-add-c Inv-loop μ-loop
@@ -101,11 +104,14 @@ returns-2 c =
     let n = c .before .before in
     let t = turn n in
     let s = start t in
-    let z : List ℕ = unpack (s .args .last .now) in
+    let l = s .args .l in
+    let last = s .args .last .now in
+    let own = n .before .before .wide in
+    let at : ℕ = s .args .b * l .l2 + t .loop .j in
     λ x r h. compared-after (λ k.
-    chunk-after (s .args .l) z x (bits-unpack (s .args .last .now)) r (long s) (s .args .b * s .args .l .l2 + t .loop .j) (n .before .before .wide .result)
-    (inside n) (h (t .loop .j) (taken n) ∙ sym (n .before .before .wide .ensures)) (omega (arith, n .number-in .ensures, c .if3 .taken))
-    (t .loop .inv .1 x r h k))
+    let value = h (t .loop .j) (taken n) ∙ sym (own .ensures) in
+    chunk-after l (unpack last) x (bits-unpack last) r (long s) at (own .result) (inside n) value
+    (omega (arith, n .number-in .ensures, c .if3 .taken)) (t .loop .inv .1 x r h k))
 
 add-j : tie.Need-add-j Inv-loop μ-loop
 add-j c = search needs
@@ -118,15 +124,17 @@ loop-again c =
     let n = c .before .before in
     let t = turn n in
     let s = start t in
-    let z : List ℕ = unpack (s .args .last .now) in
-    let own = n .before .before .wide .result in
-    let same : own ≡ n .number-in .result = omega arith in
-    let next : s .args .b * s .args .l .l2 + (t .loop .j + 1) ≡ s .args .b * s .args .l .l2 + t .loop .j + 1 = omega arith in (
+    let l = s .args .l in
+    let last = s .args .last .now in
+    let own = n .before .before .wide in
+    let at : ℕ = s .args .b * l .l2 + t .loop .j in
+    let same : own .result ≡ n .number-in .result = omega arith in
+    let next : s .args .b * l .l2 + (t .loop .j + 1) ≡ at + 1 = omega arith in (
       omega (arith, taken n),
       λ x r h k.
-          rw next (chunk-same (s .args .l) z x (bits-unpack (s .args .last .now)) r (long s) (s .args .b * s .args .l .l2 + t .loop .j) own
-          (inside n) (h (t .loop .j) (taken n) ∙ sym (n .before .before .wide .ensures)) (same ∙ n .number-in .ensures)
-          (t .loop .inv .1 x r h k)),
+          let value = h (t .loop .j) (taken n) ∙ sym (own .ensures) in
+          rw next (chunk-same l (unpack last) x (bits-unpack last) r (long s) at (own .result) (inside n) value
+          (same ∙ n .number-in .ensures) (t .loop .inv .1 x r h k)),
     )
 
 returns-3 : tie.Need-returns-3 Inv-loop μ-loop

@@ -1,47 +1,86 @@
 -- `live::prepare` meets its contract. Assumes nothing.
 use Prim.Native.Nat.{_+_}
-use mathlib.Core.Path.{ap}
+use mathlib.Core.Path.{ap, _∙_}
+use mathlib.Core.Bool.{false≢true}
 use native.Mathlib.Nat.{mul-le-mul}
 use native.Mathlib.Omega.{arith}
 use borrow.Author.Needs.{needs}
 use Rattle.message.proofs.Legal.{legal-bounds, sizes}
-use Rattle.live.specs.Live.{each}
+use Rattle.states.specs.declared.Shape.{Shape}
 use Rattle.live.proofs.prepare.Statement.{statement}
 use Rattle.live.proofs.prepare.Tie as tie
+
+-- the arguments
+abbrev begin : tie.After-shape-of → tie.Start
+begin c = c .before .before .before .before .before .before .before .before
 
 shape-of-requires : tie.Need-shape-of-requires
 shape-of-requires c κs = search needs
 
-add-if1 : tie.Need-add-if1
-add-if1 c = search needs
+returns : tie.Need-returns
+returns c =
+    let g = c .before .before .shape-of in (
+      g .ensures .0,
+      (
+        g .ensures .1,
+        λ row vs own light path. (
+          λ e. false≢true e,
+          (
+            λ e. absurd (false≢true e),
+            λ e.
+                absurd (false≢true e),
+          ),
+        ),
+      ),
+    )
 
-mul-if1 : tie.Need-mul-if1
-mul-if1 c =
-    let s = c .before .before .before .before .before .before in
-    let g = c .before .before .shape-of in
+add-if2 : tie.Need-add-if2
+add-if2 c = search needs
+
+mul-if2 : tie.Need-mul-if2
+mul-if2 c =
+    let h = c .before .before .before .before in
+    let s = begin h in
     record {
       fits = omega (
         arith,
-        mul-le-mul {n₁ = s .args .l .l2 + 1} {m₁ = g .result .states} {n₂ = 256} {m₂ = 729}
-            (omega (arith, sizes (s .args .l) (legal-bounds (s .args .l) (s .pre .allowed)) .l2-high)) (g .ensures .1 .few),
+        mul-le-mul {n₁ = s .args .l .l2 + 1} {m₁ = h .shape-of .result .states} {n₂ = 256} {m₂ = 729}
+            (omega (arith, sizes (s .args .l) (legal-bounds (s .args .l) (s .pre .0 .allowed)) .l2-high)) (c .before
+            .before .if1 .left),
       );
     }
 
-returns : tie.Need-returns
-returns c = search needs
-
 returns-2 : tie.Need-returns-2
 returns-2 c =
-    let g = c .before .before .before .before .before .shape-of in
-    (g .ensures .0, (g .ensures .1, λ h. absurd (omega (arith, c .if2 .taken))))
+    let g = c .before .before .before .before .before .shape-of in (
+      g .ensures .0,
+      (
+        g .ensures .1,
+        λ row vs own light path. (
+          λ e. false≢true e,
+          (
+            λ e. absurd (false≢true e),
+            λ e.
+                absurd (false≢true e),
+          ),
+        ),
+      ),
+    )
 
-fill-live-requires : tie.Need-fill-live-requires
-fill-live-requires c κs =
-    let e = c .before .before .before in
-    let g = e .before .before .before .shape-of in
-    let s = e .before .before .before .before .before .before .before in (
-      (s .pre, record { blocks = g .ensures .0 .0; some = omega (arith, c .before .if2 .left); shaped = g .ensures .1 }),
-      omega (arith, e .if1 .left),
+fill-marks-requires : tie.Need-fill-marks-requires
+fill-marks-requires c κs =
+    let h = c .before .before .before .before .before .before in
+    let g = h .shape-of in
+    let p = begin h .pre in (
+      record { fit = p .0; tables = p .1 .0; long = p .1 .1 .0; all = p .1 .1 .1 },
+      (
+        record {
+          blocks = g .ensures .0 .0;
+          few = c .before .before .before .before .if1 .left;
+          shaped = g .ensures .1;
+        },
+        c .before .if2 .left,
+      ),
     )
 
 same-length : tie.Need-same-length
@@ -49,10 +88,15 @@ same-length c = search needs
 
 returns-3 : tie.Need-returns-3
 returns-3 c =
-    let f = c .before .before in
-    let g = f .before .before .before .before .before .before .before .shape-of in (
-      g .ensures .0,
-      (g .ensures .1, λ h. rw (ap each (g .ensures .0 .1)) at (f .fill-live .ensures)),
+    let f = c .before .before .fill-marks in
+    let g = c .before .before .before .before .before .before .before .before .before .shape-of in
+    let e = f .ensures .0 in (
+      (ap (λ (v : Shape). v .n) e ∙ g .ensures .0 .0, ap (λ (v : Shape). v .size) e ∙ g .ensures .0 .1),
+      (
+        rw e (g .ensures .1),
+        λ row vs own light path.
+            rw e (f .ensures .1 row vs own light (rw (g .ensures .0 .1) path)),
+      ),
     )
 
 pub prepare-spec : {M : Type 1} → statement M
@@ -60,10 +104,10 @@ prepare-spec =
     tie.close
     (tie.spec
     shape-of-requires
-    add-if1
-    mul-if1
     returns
+    add-if2
+    mul-if2
     returns-2
-    fill-live-requires
+    fill-marks-requires
     same-length
     returns-3)

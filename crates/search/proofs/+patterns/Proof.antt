@@ -32,23 +32,23 @@ use Rattle.search.proofs.try_block.Reads as try-block-reads
 use Rattle.search.proofs.+patterns.{statement}
 use Rattle.search.proofs.+patterns.Tie.{close}
 
-abbrev μ-patterns : Measures 8 patterns-kinds.ps ℕ
-μ-patterns κs a = a .1 .1 .1 .1 .1 .1 .0
+abbrev μ-patterns : Measures 10 patterns-kinds.ps ℕ
+μ-patterns κs a = a .1 .1 .1 .1 .1 .1 .1 .1 .0
 
-abbrev patterns-at : ℕ → In 8 patterns-kinds.ps
-patterns-at t = and 8 patterns-kinds.ps (is 8 patterns-kinds.ps μ-patterns t) patterns.Pre
+abbrev patterns-at : ℕ → In 10 patterns-kinds.ps
+patterns-at t = and 10 patterns-kinds.ps (is 10 patterns-kinds.ps μ-patterns t) patterns.Pre
 
-abbrev patterns-below : ℕ → In 8 patterns-kinds.ps
-patterns-below t = and 8 patterns-kinds.ps (falls 8 patterns-kinds.ps _<_ μ-patterns t) patterns.Pre
+abbrev patterns-below : ℕ → In 10 patterns-kinds.ps
+patterns-below t = and 10 patterns-kinds.ps (falls 10 patterns-kinds.ps _<_ μ-patterns t) patterns.Pre
 
 abbrev patterns-Inv-loop : patterns-lts.InvT-loop
-patterns-Inv-loop l y numbers rest totals counts later pattern row₀ desk₀ cap list₀ i nb p most first k₀ a₀ row desk list k a =
+patterns-Inv-loop l y ytotals ycounts numbers rest totals counts later pattern row₀ desk₀ cap list₀ i nb p most first k₀ a₀ row desk list k a =
     (a ≤ most)
     × (Tries l numbers y cap (pattern .counts) i (pattern .total) row₀ list₀ (k₀ .count) (k₀ .more) row list (k .count) (k .more) a
     × ((length desk ≡ length desk₀) × Anchored l numbers y (rowsIn (rowBits l) list (k .count) (k .more)) desk))
 
 abbrev patterns-μ-loop : patterns-lts.MeasureT-loop
-patterns-μ-loop l y numbers rest totals counts later pattern row₀ desk₀ cap list₀ i nb p most first k₀ a₀ row desk list k a = most - a
+patterns-μ-loop l y ytotals ycounts numbers rest totals counts later pattern row₀ desk₀ cap list₀ i nb p most first k₀ a₀ row desk list k a = most - a
 
 -- what the functions that are called promise, this one below its measure
 abbrev called : ℕ → patterns-lts.Claims
@@ -91,7 +91,7 @@ abbrev Turned : ℕ → Type 0
 Turned t = patterns-lts.Joined5 (called t) (patterns-at t) patterns.Post patterns-Inv-loop patterns-μ-loop
 
 abbrev first : (t : ℕ) → Anchor t → Start t
-first t c = c .before .before .before .before .before .before .before .before .before .before .before .before .before
+first t c = c .before .before .before .before .before .before .before .before .before .before .before .before .before .before .before
 
 abbrev entry : (t : ℕ) → Tested t → Start t
 entry t c = first t (c .before .before .before .before)
@@ -137,17 +137,17 @@ within t c = c .before .before .before .try-block .ensures .within (c .if5 .take
 tabled-within : (t : ℕ) (c : Can t) → let p = loop t c in let a = start t (p .before) .args in
     (blockBits (a .l) - p .loop .a ≤ length (a .totals .now)) × (blockBits (a .l) - p .loop .a ≤ length (a .counts .now))
 tabled-within t c =
-    let w = start t (loop t c .before) .pre .1 .1 .1 .1 .0 .tables in
+    let w = start t (loop t c .before) .pre .1 .1 .1 .1 .0 .1 .tables in
     let h = within t c .1 in
     (omega (arith, w .totals-long), omega (arith, w .counts-long))
 
 patterns-sub-i : (t : ℕ) → patterns-lts.Need-sub-i (called t) (patterns-at t) patterns.Post patterns-Inv-loop patterns-μ-loop
-patterns-sub-i t c = c .before .before .before .before .before .before .before .before .before .pre .1 .1 .0
+patterns-sub-i t c = c .before .before .before .before .before .before .before .before .before .before .before .pre .1 .1 .0
 
 patterns-near-anchor-requires : (t : ℕ)
     → patterns-lts.Need-near-anchor-requires (called t) (patterns-at t) patterns.Post patterns-Inv-loop patterns-μ-loop
 patterns-near-anchor-requires t c κs =
-    let s = c .before .before .before .before .before .before .before .before .before .before .before .before in
+    let s = c .before .before .before .before .before .before .before .before .before .before .before .before .before .before in
     let b = s .pre .1 .1 .1 .0 in
     let row = high t s .chunks in
     (s .pre .1 .0 .0, (omega (arith, b .hand), (omega arith, omega (arith, b .sums, b .most))))
@@ -197,12 +197,12 @@ patterns-returns-2 t c =
 patterns-one-pattern-requires : (t : ℕ)
     → patterns-lts.Need-one-pattern-requires (called t) (patterns-at t) patterns.Post patterns-Inv-loop patterns-μ-loop
 patterns-one-pattern-requires t c κs =
-    let o = c .before .before in
+    let o = c .before .before .before in
     let s = entry t (o .before .before) in
     let last = o .if3 .taken in
     let e : s .args .l .l1 - s .args .later ≡ s .args .l .l1 = omega arith in
     let b = s .pre .1 .1 .1 .0 in
-    (s .pre .1 .0 .0, (s .pre .1 .0 .1, (b .hand, rw e at (b .sums))))
+    (s .pre .1 .0 .0, (s .pre .1 .0 .1, ((b .hand, rw e at (b .sums)), (s .pre .1 .1 .1 .1 .0 .0, s .pre .1 .1 .1 .1 .1))))
 
 patterns-same-length-6 : (t : ℕ)
     → patterns-lts.Need-same-length-6 (called t) (patterns-at t) patterns.Post patterns-Inv-loop patterns-μ-loop
@@ -220,8 +220,8 @@ patterns-returns-3 : (t : ℕ)
     → patterns-lts.Need-returns-3 (called t) (patterns-at t) patterns.Post patterns-Inv-loop patterns-μ-loop
 patterns-returns-3 t c =
     let o = c .before .before in
-    let s = entry t (o .before .before .before .before .before) in
-    let last = o .before .before .before .if3 .taken in
+    let s = entry t (o .before .before .before .before .before .before) in
+    let last = o .before .before .before .before .if3 .taken in
     let e : s .args .l .l1 - s .args .later ≡ s .args .l .l1 = omega arith in
     let g = o .one-pattern .ensures in
     (rw e g, (refl, anchored-stays (s .pre .1 .0 .1) g (s .pre .1 .1 .1 .1 .1)))
@@ -293,7 +293,7 @@ patterns-try-block-requires t c κs =
     let room : i * a .l .l2 + a .l .l2 ≤ a .l .l1 * a .l .l2 = field-room (a .l .l1) (a .l .l2) i h in
     let hand : i * a .l .l2 + a .l .l2 ≤ length (p .loop .row) = omega (arith, high t s .chunks, b .hand, p .loop .inv .1 .0 .places) in
     let bits = bits-drop (i * blockBits (a .l) - a .pattern .total) (a .y .now) (g .bits) in
-    (g .is-legal, (rw (b .reads) bits, (s .pre .1 .1 .1 .1 .0, (omega (arith, g .count), (g .blocks i h, hand)))))
+    (g .is-legal, (rw (b .reads) bits, (s .pre .1 .1 .1 .1 .0 .1, (omega (arith, g .count), (g .blocks i h, hand)))))
 
 patterns-cast-next : (t : ℕ) → patterns-lts.Need-cast-next (called t) (patterns-at t) patterns.Post patterns-Inv-loop patterns-μ-loop
 patterns-cast-next t c =
@@ -384,14 +384,14 @@ patterns-patterns-requires t c κs =
     let w = within t e in
     let j : ℕ = a .l .l1 - (a .later - 1) in
     let b = begun-next n (s .pre .1 .1 .1 .0) (p .loop .a) most (w .0) row same j (omega arith) in
-    let tabled = tabled-next n (s .pre .1 .1 .1 .0) (p .loop .a) (w .0) (w .1) (s .pre .1 .1 .1 .1 .0) j (omega arith) in
+    let tabled = tabled-next n (s .pre .1 .1 .1 .0) (p .loop .a) (w .0) (w .1) (s .pre .1 .1 .1 .1 .0 .1) j (omega arith) in
     let d : ℕ = blockBits (a .l) - p .loop .a in
     let held = grown-holding (s .pre .1 .0 .1) (p .loop .inv .1 .0 .known) in
     let falls : a .later - 1 < t = omega (arith, s .pre .0) in (
       falls,
       (
         (s .pre .1 .0 .0, held),
-        (omega arith, rw (part-to-end (a .rest .now) d, part-to-end (a .totals .now) d, part-to-end (a .counts .now) d) (b, (tabled, p .loop .inv .1 .1 .1))),
+        (omega arith, rw (part-to-end (a .rest .now) d, part-to-end (a .totals .now) d, part-to-end (a .counts .now) d) (b, ((s .pre .1 .1 .1 .1 .0 .0, tabled), p .loop .inv .1 .1 .1))),
       ),
     )
 
@@ -439,8 +439,8 @@ after-turn t c =
     ⊎-elim
     (λ w. rw (w .21, w .22, w .23, w .24) (
       tries-next n (p .loop .a) (tries .0) (q .try-block .ensures) reads same (s .pre .1 .0 .1) j after
-          (w .9 .ensures .0) (w .9 .ensures .1 .0) (w .9 .kept .1 .1 .1 .1 .1 .1 .1 .1 .0),
-      (w .18 .kept .1 .1 .1 .1 .1 .1 .0 ∙ w .9 .kept .1 .1 .1 .1 .1 .1 .1 .1 .1 .0 ∙ tries .1 .0, w .18 .ensures),
+          (w .9 .ensures .0) (w .9 .ensures .1 .0) (w .9 .kept .1 .1 .1 .1 .1 .1 .1 .1 .1 .1 .0),
+      (w .18 .kept .1 .1 .1 .1 .1 .1 .0 ∙ w .9 .kept .1 .1 .1 .1 .1 .1 .1 .1 .1 .1 .1 .0 ∙ tries .1 .0, w .18 .ensures),
     ))
     (λ w. rw (w .1, w .2, w .3, w .4)
     (tries-none n (p .loop .a) (tries .0) (q .try-block .ensures) reads same (w .0 .left), tries .1))

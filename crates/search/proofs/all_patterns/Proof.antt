@@ -1,5 +1,5 @@
--- `search::all_patterns` meets its contract: an early anchor adds consistent rows only, and every row is under no counts, so after the
--- patterns from the start all consistent rows are known. Assumes nothing.
+-- `search::all_patterns` meets its contract: an early anchor adds consistent rows only, and every row is under no counts,
+-- so after the patterns from the start all consistent rows are known. Assumes nothing.
 use borrow.Author.Needs.{needs}
 use Prim.Native.Nat.{_-_}
 use mathlib.Core.Path.{refl}
@@ -16,8 +16,11 @@ use Rattle.search.proofs.all_patterns.Tie as tie
 abbrev start : tie.After-early-anchor → tie.Start
 start e = e .before .before .before .before .before .before .before
 
-nothing : (e : tie.After-early-anchor) → let a = start e .args in Holding (a .l) (a .numbers .now) (a .y .now) (a .cap) (a .list .now) 0 false
-nothing e = let a = start e .args in holding-none (a .l) (a .numbers .now) (a .y .now) (a .cap) (a .list .now) (start e .pre .1 .0)
+nothing : (e : tie.After-early-anchor) → let a = start e .args in
+    Holding (a .l) (a .numbers .now) (a .y .now) (a .cap) (a .list .now) 0 false
+nothing e =
+    let a = start e .args in
+    holding-none (a .l) (a .numbers .now) (a .y .now) (a .cap) (a .list .now) (start e .pre .1 .0)
 
 early-anchor-requires : tie.Need-early-anchor-requires
 early-anchor-requires c κs = c .before .before .before .before .before .before .pre
@@ -44,16 +47,23 @@ slice-aggregate-patterns-2 c = search needs
 slice-aggregate-patterns-3 : tie.Need-slice-aggregate-patterns-3
 slice-aggregate-patterns-3 c = search needs
 
+slice-aggregate-patterns-4 : tie.Need-slice-aggregate-patterns-4
+slice-aggregate-patterns-4 c = search needs
+
+slice-aggregate-patterns-5 : tie.Need-slice-aggregate-patterns-5
+slice-aggregate-patterns-5 c = search needs
+
 patterns-requires : tie.Need-patterns-requires
 patterns-requires c κs =
-    let f = c .before .before .before .before .before .before .before in
+    let f = c .before .before .before .before .before .before .before .before .before in
     let e = f .before .before .before .before .before .before .before in
     let s = start e in
     let a = s .args in
     let z = a .l .l1 - a .l .l1 in
-    let k = e .early-anchor .ensures in (
+    let k = e .early-anchor .ensures in
+    let tabled = tabled-start (s .pre .0) (f .fill .ensures) z (omega arith) in (
       (s .pre .0, grown-holding (nothing e) (k .0)),
-      (omega arith, (begun-start (s .pre .0) _ _ refl z (omega arith), (tabled-start (s .pre .0) (f .fill .ensures) z (omega arith), k .1))),
+      (omega arith, (begun-start (s .pre .0) _ _ refl z (omega arith), ((f .fill .ensures, tabled), k .1))),
     )
 
 same-length : tie.Need-same-length
@@ -65,7 +75,7 @@ same-length-2 c = search needs
 returns : tie.Need-returns
 returns c =
     let p = c .before .before .before .before .before in
-    let e = p .before .before .before .before .before .before .before .before .before .before .before .before .before .before .before in
+    let e = p .before .before .before .before .before .before .before .before .before .before .before .before .before .before .before .before .before in
     let a = start e .args in
     let both = grown-then (nothing e) (e .early-anchor .ensures .0) (p .patterns .ensures .0) in
     grown-all (start e .pre .1 .0)
@@ -82,6 +92,8 @@ all-patterns-spec =
     slice-aggregate-patterns
     slice-aggregate-patterns-2
     slice-aggregate-patterns-3
+    slice-aggregate-patterns-4
+    slice-aggregate-patterns-5
     patterns-requires
     same-length
     same-length-2

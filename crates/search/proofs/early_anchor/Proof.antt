@@ -1,5 +1,5 @@
--- `search::early_anchor` meets its contract: nothing is held before the guess, and an unset desk has an anchor only once one is set.
--- Assumes nothing.
+-- `search::early_anchor` meets its contract: nothing is held before the guess, and an unset desk has an anchor only
+-- once one is set. Assumes nothing.
 use borrow.Author.Needs.{needs}
 use mathlib.Core.Bool.{false}
 use Rattle.found.specs.Found.{Holding}
@@ -9,7 +9,8 @@ use Rattle.search.proofs.early_anchor.Statement.{statement}
 use Rattle.search.proofs.early_anchor.Tie as tie
 
 -- nothing is held at the start
-nothing : (s : tie.Start) → let a = s .args in Holding (a .l) (a .numbers .now) (a .y .now) (a .cap) (a .list .now) 0 false
+nothing : (s : tie.Start) → let a = s .args in
+    Holding (a .l) (a .numbers .now) (a .y .now) (a .cap) (a .list .now) 0 false
 nothing s = let a = s .args in holding-none (a .l) (a .numbers .now) (a .y .now) (a .cap) (a .list .now) (s .pre .1 .0)
 
 returns : tie.Need-returns
@@ -33,7 +34,9 @@ same-length-2 : tie.Need-same-length-2
 same-length-2 c = search needs
 
 returns-2 : tie.Need-returns-2
-returns-2 c = let a = c .before .before in (a .before .before .before .before .before .guess .ensures, a .set-anchor .ensures)
+returns-2 c =
+    let a = c .before .before in
+    (a .before .before .before .before .before .guess .ensures, a .set-anchor .ensures)
 
 pub early-anchor-spec : {M : Type 1} → statement M
 early-anchor-spec =

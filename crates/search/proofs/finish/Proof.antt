@@ -1,12 +1,21 @@
 -- `search::finish` meets its contract: every row under the whole pattern is the row in hand, or it is under the table that starts with
 -- the heavy blocks. Assumes nothing.
 use borrow.Author.Needs.{needs}
-use Prim.Native.Nat.{_≤_}
+use Prim.Native.Nat.{ℕ, _+_, _*_, _<_, _≤_}
+use mathlib.Core.Path.{_≡_, refl, sym, _∙_}
+use mathlib.Core.Bool.{true}
+use mathlib.Core.List.{List}
 use native.Mathlib.Omega.{arith}
-use lib.ListN.{length}
-use mathlib.Core.Path.{_≡_, refl}
+use lib.ListN.{length, getD, take, drop, length-drop}
+use lib.Seq.{length-take-le, getD-take, getD-drop}
+use Rattle.rows.specs.Held.{Held}
+use Rattle.message.specs.declared.Layout.{Layout}
 use Rattle.message.proofs.Legal.{legal-bounds, sizes}
+use Rattle.found.specs.Found.{Given}
 use Rattle.found.proofs.Found.{grown-weaken}
+use Rattle.anchor.specs.Anchor.{isSet, Anchored}
+use Rattle.anchor.proofs.Anchor.{set-long, near-known}
+use Rattle.tables.specs.Tables.{NearKnown}
 use Rattle.search.proofs.Leaves.{all-in-hand, starts-sound, starts-under}
 use Rattle.search.proofs.Totals.{zeros}
 use Rattle.search.proofs.finish.Statement.{statement}
@@ -16,11 +25,33 @@ use Rattle.search.proofs.finish.Tie as tie
 few : (s : tie.Start) → s .args .l .l1 ≤ 255
 few s = sizes (s .args .l) (legal-bounds (s .args .l) (s .pre .0 .is-legal)) .l1-high
 
+-- a place for each chunk
+chunks : (s : tie.Start) → s .args .l .l1 * s .args .l .l2 ≤ 255
+chunks s = sizes (s .args .l) (legal-bounds (s .args .l) (s .pre .0 .is-legal)) .chunks
+
 counted : (s : tie.Start) → s .args .l .l1 ≤ length (s .args .pattern .counts)
 counted s = let n : length (s .args .pattern .counts) ≡ 255 = search needs in omega (arith, few s)
 
+-- the row in hand has 255 places
+long : (s : tie.Start) → length (s .args .t7) ≡ 255
+long s = search (needs, s .good .1 .1 .1 .1 .1 .1 .0)
+
+-- the function's entry
+abbrev start : tie.After-heavy-of → tie.Start
+start h = h .before .before .before .before .before .before .before
+
+-- the anchor's chunks on the desk, and that rows near them are known
+anchor-part : (desk : List ℕ) → isSet desk ≡ true → length (take 255 (drop 1 desk)) ≡ 255
+anchor-part desk e = length-take-le 255 (drop 1 desk) (omega (arith, length-drop 1 desk, set-long desk e))
+
+anchor-near : (l : Layout) (numbers y : List ℕ) (held : Held) (desk : List ℕ) → Given l numbers y → l .l1 * l .l2 ≤ 255
+    → Anchored l numbers y held desk → isSet desk ≡ true → NearKnown l numbers y held (take 255 (drop 1 desk)) (l .r + 1)
+anchor-near l numbers y held desk given small a e x sent near =
+    near-known given (a e) (take 255 (drop 1 desk))
+    (λ c h. getD-take 255 (drop 1 desk) c 0 (omega arith) ∙ getD-drop 1 desk c 0) x sent (omega (arith, near))
+
 heavy-of-requires : tie.Need-heavy-of-requires
-heavy-of-requires c κs = let s = c .before .before .before in (few s, s .pre .1 .1)
+heavy-of-requires c κs = let s = c .before .before .before .before .before .before in (few s, s .pre .1 .1 .0)
 
 add-row-requires : tie.Need-add-row-requires
 add-row-requires c κs = search needs
@@ -30,38 +61,94 @@ same-length c = search needs
 
 returns : tie.Need-returns
 returns c =
-    let w = c .before .before .before .before in
-    let h = w .before .before .before in
-    let s = h .before .before .before .before in
+    let h = c .before .before .before .before .before .before .before in
+    let s = start h in
     let a = s .args in
     let low = legal-bounds (a .l) (s .pre .0 .is-legal) .l2-low in
     let f = h .heavy-of in
     grown-weaken
-    (λ x k u. all-in-hand (a .l) (a .y .now) (a .pattern .counts) (f .result .heavy) (f .result .left) (f .ensures) low (w .if1 .taken) _ x u)
+    (λ x k u. all-in-hand (a .l) (a .y .now) (a .pattern .counts) (f .result .heavy) (f .result .left) (f .ensures) low
+    (c .before .before .before .before .if1 .taken) _ x u)
     (c .before .before .add-row .ensures)
+
+is-set-requires : tie.Need-is-set-requires
+is-set-requires c κs = search needs
+
+add-near : tie.Need-add-near
+add-near c = let s = start (c .before .before .before .before .before .before .before) in omega (arith, legal-bounds (s .args .l) (s .pre .0 .is-legal) .r-high)
+
+sub-tables : tie.Need-sub-tables
+sub-tables c = search needs
+
+part-tables-start : tie.Need-part-tables-start
+part-tables-start c = search needs
+
+-- the desk has an anchor
+is-anchored : (c : tie.Then2) → isSet (start (c .before .before .before .before .before .before) .args .desk .now) ≡ true
+is-anchored c = sym (c .before .is-set .ensures) ∙ c .if2 .taken
+
+part-tables-end : tie.Need-part-tables-end
+part-tables-end c = omega (arith, set-long (start (c .before .before .before .before .before .before .before) .args .desk .now) (is-anchored (c .before)))
 
 tables-requires : tie.Need-tables-requires
 tables-requires c κs =
-    let h = c .before .before .before .before .before in
-    let s = h .before .before .before .before in
+    let h = c .before .before .before .before .before .before .before .before .before in
+    let s = start h in
     let a = s .args in
     let f = h .heavy-of in
-    let sound = starts-sound (a .l) (a .pattern .counts) (f .result .heavy) _ (f .ensures) refl (zeros 12) (length (a .y .now)) (s .pre .1 .1) in
-    (s .pre .0, (s .pre .1 .0, sound))
+    let sound = starts-sound (a .l) (a .pattern .counts) (f .result .heavy) _ (f .ensures) refl (zeros 12) (length (a .y .now)) (s .pre .1 .1 .0) in
+    let set = is-anchored (c .before .before .before) in
+    let part = anchor-part (a .desk .now) set in (
+      (s .pre .0, s .pre .1 .0),
+      (
+        (sound, refl),
+        (
+          s .pre .1 .1 .1 .0,
+          (
+            omega (arith, part, chunks s),
+            anchor-near (a .l) (a .numbers .now) (a .y .now) _ (a .desk .now) (s .pre .0) (chunks s) (s .pre .1 .1 .1 .1) set,
+          ),
+        ),
+      ),
+    )
 
 same-length-2 : tie.Need-same-length-2
 same-length-2 c = search needs
 
 returns-2 : tie.Need-returns-2
 returns-2 c =
-    let t = c .before .before in
-    let h = t .before .before .before .before .before .before in
-    let s = h .before .before .before .before in
+    let h = c .before .before .before .before .before .before .before .before .before .before .before .before in
+    let s = start h in
     let a = s .args in
     let f = h .heavy-of in
     grown-weaken
     (λ x k u. starts-under (a .l) (a .pattern .counts) (f .result .heavy) _ (f .ensures) refl (zeros 12) (a .y .now) (counted s) x u)
-    (t .tables .ensures)
+    (c .before .before .tables .ensures)
+
+slice-aggregate-tables : tie.Need-slice-aggregate-tables
+slice-aggregate-tables c = let hand = long (c .before .before .before .before .before .before .before .before .before .before .before .before .before .before) in search (needs, hand)
+
+tables-requires-2 : tie.Need-tables-requires-2
+tables-requires-2 c κs =
+    let h = c .before .before .before .before .before .before .before .before in
+    let s = start h in
+    let a = s .args in
+    let f = h .heavy-of in
+    let sound = starts-sound (a .l) (a .pattern .counts) (f .result .heavy) _ (f .ensures) refl (zeros 12) (length (a .y .now)) (s .pre .1 .1 .0) in
+    ((s .pre .0, s .pre .1 .0), ((sound, refl), (s .pre .1 .1 .1 .0, (omega (arith, long s, chunks s), λ x sent near. absurd (omega (arith, near))))))
+
+same-length-3 : tie.Need-same-length-3
+same-length-3 c = search needs
+
+returns-3 : tie.Need-returns-3
+returns-3 c =
+    let h = c .before .before .before .before .before .before .before .before .before .before .before in
+    let s = start h in
+    let a = s .args in
+    let f = h .heavy-of in
+    grown-weaken
+    (λ x k u. starts-under (a .l) (a .pattern .counts) (f .result .heavy) _ (f .ensures) refl (zeros 12) (a .y .now) (counted s) x u)
+    (c .before .before .tables2 .ensures)
 
 pub finish-spec : {M : Type 1} → statement M
 finish-spec =
@@ -71,6 +158,15 @@ finish-spec =
     add-row-requires
     same-length
     returns
+    is-set-requires
+    add-near
+    sub-tables
+    part-tables-start
+    part-tables-end
     tables-requires
     same-length-2
-    returns-2)
+    returns-2
+    slice-aggregate-tables
+    tables-requires-2
+    same-length-3
+    returns-3)

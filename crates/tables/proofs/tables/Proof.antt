@@ -1,53 +1,206 @@
--- `tables::tables` meets its contract: every row under the table with which the columns begin comes through live states. Assumes
+-- `tables::tables` meets its contract: every row under the table with which the columns begin comes through marked states. Assumes
 -- nothing.
-use mathlib.Core.Path.{_≡_}
+use Prim.Native.Nat.{ℕ, _+_, _*_, _<_, _≤_}
+use mathlib.Core.Path.{_≡_, sym, ap, subst}
+use mathlib.Core.Logic.{⊎-elim}
+use mathlib.Core.List.{List}
 use native.Mathlib.Omega.{arith}
 use borrow.Author.Needs.{needs}
-use lib.ListN.{length}
-use Rattle.found.proofs.Found.{grown-weaken}
-use Rattle.tables.proofs.Own.{lives}
+use lib.ListN.{length, getD}
+use Rattle.message.proofs.Legal.{Sizes, legal-bounds, sizes}
+use Rattle.lines.specs.Lines.{values}
+use Rattle.found.specs.Found.{Sent}
+use Rattle.found.proofs.Found.{grown-weaken, grown-none, grown-nothing}
+use Rattle.states.specs.States.{each}
+use Rattle.live.specs.Live.{Path, Through, apartFrom}
+use Rattle.tables.specs.Tables.{Under, ownLeft, ShapeOf, Looked, Comes, apart}
+use Rattle.tables.proofs.Coming.{fits}
+use Rattle.tables.proofs.Own.{in-hand, own-path}
 use Rattle.tables.proofs.tables.Statement.{statement}
 use Rattle.tables.proofs.tables.Tie as tie
 
-slice-aggregate-live-states : tie.Need-slice-aggregate-live-states
-slice-aggregate-live-states c = search needs
+-- the function's entry, seen from where the marks are made
+abbrev start : tie.After-prepare → tie.Start
+start c = c .before .before .before .before .before .before .before .before .before .before .before .before .before .before .before .before
 
-live-states-requires : tie.Need-live-states-requires
-live-states-requires c κs = let p = c .before .before .before .before .pre in (p .0, p .1 .1)
+high : (s : tie.Start) → Sizes (s .args .l)
+high s = sizes (s .args .l) (legal-bounds (s .args .l) (s .pre .0 .0 .is-legal))
+
+slice-aggregate-light-sums : tie.Need-slice-aggregate-light-sums
+slice-aggregate-light-sums c = search needs
+
+light-sums-requires : tie.Need-light-sums-requires
+light-sums-requires c κs = let s = c .before .before .before .before .before .before .before .before .before in (fits (s .pre .0 .0) (s .pre .1 .0 .0), high s .l2-high)
+
+apart-light-requires : tie.Need-apart-light-requires
+apart-light-requires c κs =
+    let s = c .before .before .before .before .before .before .before .before .before .before .before in
+    let sound = s .pre .1 .0 .0 in
+    (s .pre .0 .0 .is-legal, (record { few = sound .few; inside = sound .inside; ascending = sound .ascending }, s .pre .1 .1 .1 .0))
+
+sub-rest : tie.Need-sub-rest
+sub-rest c = search needs
+
+slice-aggregate-prepare : tie.Need-slice-aggregate-prepare
+slice-aggregate-prepare c = search needs
+
+slice-aggregate-prepare-2 : tie.Need-slice-aggregate-prepare-2
+slice-aggregate-prepare-2 c = search needs
+
+prepare-requires : tie.Need-prepare-requires
+prepare-requires c κs =
+    let s = c .before .before .before .before .before .before .before .before .before .before .before .before .before .before .before in
+    let long = c .before .before .before .before .before .light-sums .kept .1 .1 .1 .1 .1 .0 in
+    (fits (s .pre .0 .0) (s .pre .1 .0 .0), (s .pre .1 .1 .0, (omega (arith, high s .l2-high, long), s .pre .1 .1 .1 .0)))
+
+-- a row under the table with which the columns begin has a path through the loss states
+path : (c : tie.After-prepare) → let a = start c .args in
+    (x : List ℕ) → Sent (a .l) (a .numbers .now) (a .y .now) x → Under (a .l) (a .y .now) (a .heavy) 0 0 (a .t) x
+    → Path (a .l) (a .y .now) (a .numbers .now) (a .heavy) (a .t .row) (each (a .t .left)) (values (a .l) x)
+    (ownLeft (a .l) (a .y .now) (a .heavy) x)
+path c x sent u = let p = start c .pre in own-path (p .0 .0) sent (p .1 .0 .0) u (p .1 .0 .1)
+
+-- and differs from z in at most so many chunks beside those of the heavy blocks
+within : (c : tie.After-prepare) → let a = start c .args in
+    (x : List ℕ) → Sent (a .l) (a .numbers .now) (a .y .now) x → Under (a .l) (a .y .now) (a .heavy) 0 0 (a .t) x
+    → apart (a .l) (a .z .now) x ≤ c .before .before .before .before .apart-light .result + apartFrom (a .l) (a .heavy) (a .z .now) (values (a .l) x) 0
+within c x sent u =
+    let p = start c .pre in
+    c .before .before .before .before .apart-light .ensures .0 (values (start c .args .l) x) (in-hand (p .0 .0) sent (p .1 .0 .0) u (p .1 .0 .1))
+
+returns : tie.Need-returns
+returns c =
+    let q = c .before .before in
+    let g = q .prepare .ensures .1 .1 in
+    grown-nothing (start q .pre .0 .1)
+    (λ x sent u. g _ _ _ (q .before .before .before .before .before .before .light-sums .ensures) (path q x sent u) .0 (c .if2 .taken))
+
+returns-2 : tie.Need-returns-2
+returns-2 c =
+    let q = c .before .before .before in
+    let g = q .prepare .ensures .1 .1 in
+    let s = start q in
+    grown-none (s .pre .0 .1)
+    (λ x sent u.
+    let near = g _ _ _ (q .before .before .before .before .before .before .light-sums .ensures) (path q x sent u) .1 .0 (c .if3 .taken) in
+    s .pre .1 .1 .1 .1 x sent
+    (⊎-elim
+    (λ w. omega (arith, near, within q x sent u, w .1, w .0 .taken))
+    (λ w. absurd (omega (arith, near, w .1)))
+    (q .before .before .before .if1 .came)))
+
+-- what the columns ask: tables, sums, chunks to compare with
+looked : (c : tie.After-prepare) → let a = start c .args in
+    Looked (a .l) (a .y .now) (a .totals .now) (a .counts .now) (c .before .before .before .before .before .before .light-sums .last .1 .1 .1 .1 .1 .0) (a .z .now)
+    (c .before .before .before .before .apart-light .result) 0
+looked c =
+    let s = start c in
+    let long = c .before .before .before .before .before .before .light-sums .kept .1 .1 .1 .1 .1 .0 in
+    record {
+      tables = s .pre .1 .1 .0;
+      sums = omega (arith, high s .l2-high, long);
+      others = s .pre .1 .1 .1 .0;
+      small = omega (arith, c .before .before .before .before .apart-light .ensures .1);
+    }
+
+-- that a row under the first table comes through marked states, where the marks let its own through
+comes : (c : tie.After-prepare) (marks : List ℕ) → let a = start c .args in
+    (x : List ℕ) → Sent (a .l) (a .numbers .now) (a .y .now) x → Under (a .l) (a .y .now) (a .heavy) 0 0 (a .t) x
+    → Through (a .l) (c .prepare .result .shape) marks (ownLeft (a .l) (a .y .now) (a .heavy) x)
+    (apartFrom (a .l) (a .heavy) (a .z .now) (values (a .l) x))
+    → Comes (a .l) (a .y .now) (a .numbers .now) (a .heavy) (c .prepare .result .shape)
+    (c .before .before .before .before .before .before .light-sums .last .1 .1 .1 .1 .1 .0) marks (a .z .now) (c .before .before .before .before .apart-light .result) 0 x
+comes c marks x sent u t =
+    let a = start c .args in
+    record {
+      row = start c .args .t .row;
+      light = c .before .before .before .before .before .before .light-sums .ensures;
+      path = subst
+          (λ (v : List ℕ). Path (a .l) (a .y .now) (a .numbers .now) (a .heavy) (a .t .row) (each v) (values (a .l) x)
+          (ownLeft (a .l) (a .y .now) (a .heavy) x))
+          (sym (c .prepare .ensures .0 .1)) (path c x sent u);
+      through = t;
+      within = within c x sent u;
+    }
+
+-- and the shape of the states
+shape-of : (c : tie.After-prepare) → ShapeOf (start c .args .heavy) (c .prepare .result .shape) (start c .args .t .left)
+shape-of c =
+    let g = c .prepare .ensures in
+    record { blocks = g .0 .0; shaped = g .1 .0; within = λ s h. omega (arith, ap (λ (v : List ℕ). getD v s 0) (g .0 .1)) }
 
 slice-aggregate-columns : tie.Need-slice-aggregate-columns
 slice-aggregate-columns c = search needs
 
+slice-aggregate-columns-2 : tie.Need-slice-aggregate-columns-2
+slice-aggregate-columns-2 c = search needs
+
 columns-requires : tie.Need-columns-requires
 columns-requires c κs =
-    let f = c .before .before .before in
-    let p = f .before .before .before .before .before .pre in
-    (p .0, (p .1 .0, (p .1 .1, (omega arith, (omega arith, f .live-states .ensures .0)))))
+    let q = c .before .before .before .before .before .before .before in
+    let p = start q .pre in
+    (p .0 .0, (p .0 .1, (p .1 .0 .0, (omega arith, (shape-of q, (looked q, p .1 .1 .1 .1))))))
 
 same-length : tie.Need-same-length
 same-length c = search needs
 
--- the row in hand has 255 places
-long : (c : tie.Start) → length (c .args .t .row) ≡ 255
-long c = search (needs, c .good .1 .1 .1 .1 .0 .1 .1)
+returns-3 : tie.Need-returns-3
+returns-3 c =
+    let q = c .before .before .before .before .before .before .before .before .before .before in
+    let kept = c .before .before .before .before .before .before .if4 .taken in
+    let g = q .prepare .ensures .1 .1 in
+    grown-weaken
+    (λ x sent u. (u, comes q _ x sent u (g _ _ _ (q .before .before .before .before .before .before .light-sums .ensures) (path q x sent u) .1 .1 kept)))
+    (c .before .before .columns .ensures)
 
-returns : tie.Need-returns
-returns c =
-    let d = c .before .before in
-    let f = d .before .before .before .before in
-    let s = f .before .before .before .before .before in
-    let p = s .pre in
-    let g = f .live-states .ensures in
-    grown-weaken (λ x sent u. (u, lives (f .live-states .result) _ (p .0) sent (p .1 .1) u (long s) (g .0) (g .1)))
-    (d .columns .ensures)
+slice-aggregate-columns-3 : tie.Need-slice-aggregate-columns-3
+slice-aggregate-columns-3 c = search needs
+
+sub-columns : tie.Need-sub-columns
+sub-columns c = search needs
+
+part-columns-start : tie.Need-part-columns-start
+part-columns-start c = search needs
+
+part-columns-end : tie.Need-part-columns-end
+part-columns-end c = search needs
+
+columns-requires-2 : tie.Need-columns-requires-2
+columns-requires-2 c κs =
+    let q = c .before .before .before .before .before .before .before .before in
+    let p = start q .pre in
+    (p .0 .0, (p .0 .1, (p .1 .0 .0, (omega arith, (shape-of q, (looked q, p .1 .1 .1 .1))))))
+
+same-length-2 : tie.Need-same-length-2
+same-length-2 c = search needs
+
+returns-4 : tie.Need-returns-4
+returns-4 c =
+    let q = c .before .before .before .before .before .before .before .before .before .before .before in
+    grown-weaken (λ x sent u. (u, comes q _ x sent u (λ j h k. absurd (omega (arith, k))))) (c .before .before .columns2 .ensures)
 
 pub tables-spec : {M : Type 1} → statement M
 tables-spec =
     tie.close
     (tie.spec
-    slice-aggregate-live-states
-    live-states-requires
+    slice-aggregate-light-sums
+    light-sums-requires
+    apart-light-requires
+    sub-rest
+    slice-aggregate-prepare
+    slice-aggregate-prepare-2
+    prepare-requires
+    returns
+    returns-2
     slice-aggregate-columns
+    slice-aggregate-columns-2
     columns-requires
     same-length
-    returns)
+    returns-3
+    slice-aggregate-columns-3
+    sub-columns
+    part-columns-start
+    part-columns-end
+    columns-requires-2
+    same-length-2
+    returns-4)

@@ -1,0 +1,201 @@
+-- A chunk-string whose chunks in the heavy blocks count as zero: its total and what those chunks bring are the whole
+-- total, since a line's total changes just by what a changed chunk brings. Assumes nothing.
+use Prim.Native.Nat.{ℕ, zero, suc, _+_, _-_, _*_, _%_, _<_, _≤_}
+use mathlib.Core.Path.{_≡_, refl, sym, ap, _∙_}
+use mathlib.Core.List.{List, [], _∷_, _++_}
+use mathlib.Core.Logic.{⊎-elim}
+use native.Mathlib.Decide.{ℕ-discrete}
+use native.Mathlib.Nat.{mul-zero, zero-div, mod-add-mod, mod-lt, add-comm, add-mul}
+use native.Mathlib.Omega.{arith}
+use lib.ListN.{getD, set, length}
+use lib.Seq.{getD-set-other}
+use Rattle.bits.specs.Bits.{digits}
+use Rattle.bits.proofs.Laws.{length-digits, lt-or-ge}
+use Rattle.vt.specs.Sum.{total, sum}
+use Rattle.message.specs.declared.Layout.{Layout}
+use Rattle.message.proofs.Fields.{field-room}
+use Rattle.message.proofs.Positions.{total-append}
+use Rattle.lines.specs.Lines.{line}
+use Rattle.lines.proofs.Lines.{length-line, line-cons, line-split, line-same}
+use Rattle.weigh.specs.declared.Chunks.{Chunks}
+use Rattle.weigh.specs.Weigh.{brought}
+use Rattle.column.specs.Column.{Fit, chunkAt, filled}
+use Rattle.column.specs.declared.Heavy.{Heavy}
+
+-- a zero brings nothing
+total-zero : (k i : ℕ) → total i (digits k 0) ≡ 0
+unfolding total digits
+total-zero zero i = refl
+total-zero (suc k) i = rw (zero-div, mul-zero) (omega (arith, total-zero k (suc i)))
+
+-- where a zero is set a zero stands, also beyond the end
+set-zero : (xs : List ℕ) (c : ℕ) → getD (set xs c 0) c 0 ≡ 0
+set-zero [] c = refl
+set-zero (x ∷ xs) zero = refl
+set-zero (x ∷ xs) (suc c) = set-zero xs c
+
+-- ---- a line's total, around chunk t
+module _ (nc start stride count t : ℕ) (h : t < count) where
+  -- the chunks before it, the chunk and those behind it
+  in-parts : (us : List ℕ)
+      → total 1 (line nc start stride count us)
+      ≡ total 1 (line nc start stride t us) + (total (t * nc + 1) (digits nc (getD us (start + t * stride) 0))
+      + total (t * nc + 1 + nc) (line nc (start + t * stride + stride) stride (count - (t + 1)) us))
+  in-parts us =
+      let rest : ℕ = count - (t + 1) in
+      let e : count ≡ t + suc rest = omega arith in
+      let front = line nc start stride t us in
+      let d = digits nc (getD us (start + t * stride) 0) in
+      let back = line nc (start + t * stride + stride) stride rest us in
+      let n : 1 + length front ≡ t * nc + 1 = omega (arith, length-line nc start stride t us) in
+      let m : length d ≡ nc = length-digits nc (getD us (start + t * stride) 0) in
+      ap (λ (c : ℕ). total 1 (line nc start stride c us)) e
+      ∙ ap (total 1)
+      (line-split nc start stride t (suc rest) us
+      ∙ ap (λ (v : List ℕ). front ++ v) (line-cons nc (start + t * stride) stride rest us))
+      ∙ total-append 1 front (d ++ back)
+      ∙ ap (λ (v : ℕ). total 1 front + v)
+      (ap (λ (i : ℕ). total i (d ++ back)) n ∙ total-append (t * nc + 1) d back
+      ∙ ap (λ (k : ℕ). total (t * nc + 1) d + total (t * nc + 1 + k) back) m)
+
+  -- lines that are alike but for chunk t
+  pub total-but : (us vs : List ℕ)
+      → ((i : ℕ) → i < count → (i ≡ t → ⊥) → getD us (start + i * stride) 0 ≡ getD vs (start + i * stride) 0)
+      → total 1 (line nc start stride count us) + total (t * nc + 1) (digits nc (getD vs (start + t * stride) 0))
+      ≡ total 1 (line nc start stride count vs) + total (t * nc + 1) (digits nc (getD us (start + t * stride) 0))
+  total-but us vs same =
+      let a = line-same nc start stride t us vs (λ i k. same i (omega arith) (λ e. omega arith)) in
+      let b = line-same nc (start + t * stride + stride) stride (count - (t + 1)) us vs behind in
+      omega (arith, in-parts us, in-parts vs, ap (total 1) a, ap (total (t * nc + 1 + nc)) b)
+    where
+      behind : (i : ℕ) → i < count - (t + 1)
+          → getD us (start + t * stride + stride + i * stride) 0 ≡ getD vs (start + t * stride + stride + i * stride) 0
+      behind i k =
+          let e : start + (t + 1 + i) * stride ≡ start + t * stride + stride + i * stride =
+          omega (arith, add-mul (t + 1) i stride, add-mul t 1 stride)
+          in
+          rw e at (same (t + 1 + i) (omega arith) (λ q. omega arith))
+
+-- the sum of a line is its total, modulo its length and one
+line-sum : (nc start stride count : ℕ) (us : List ℕ)
+    → sum (line nc start stride count us) ≡ total 1 (line nc start stride count us) % (count * nc + 1)
+unfolding sum
+line-sum nc start stride count us =
+    ap (λ (n : ℕ). total 1 (line nc start stride count us) % (n + 1)) (length-line nc start stride count us)
+
+-- and is below that
+pub sum-low : (nc start stride count : ℕ) (us : List ℕ) → sum (line nc start stride count us) < count * nc + 1
+sum-low nc start stride count us =
+    rw (line-sum nc start stride count us) (mod-lt (total 1 (line nc start stride count us)) (omega arith))
+
+-- ---- the chunks of the heavy blocks as zeros
+module _ (l : Layout) (heavy : Heavy) (j : ℕ) where
+  -- chunk c belongs to none of the first k heavy blocks
+  abbrev Else : (k c : ℕ) → Type 0
+  Else k c = (s : ℕ) → s < k → c ≡ chunkAt l heavy j s → ⊥
+
+  -- the row with the first k of them as zeros
+  abbrev zeros : (k : ℕ) → List ℕ → List ℕ
+  zeros k us = filled l heavy (λ s. 0) j k us
+
+  -- the chunks of the others stay
+  zeros-other : (k c : ℕ) (us : List ℕ) → Else k c → getD (zeros k us) c 0 ≡ getD us c 0
+  unfolding filled
+  zeros-other zero c us n = refl
+  zeros-other (suc k) c us n =
+      getD-set-other (zeros k us) (chunkAt l heavy j k) c 0 0 (n k (omega arith))
+      ∙ zeros-other k c us (λ s h. n s (omega arith))
+
+  -- rows that are alike but for the heavy blocks
+  zeros-same : (k c : ℕ) (us vs : List ℕ) → (Else k c → getD us c 0 ≡ getD vs c 0)
+      → getD (zeros k us) c 0 ≡ getD (zeros k vs) c 0
+  unfolding filled
+  zeros-same zero c us vs e = e (λ s h. absurd (omega arith))
+  zeros-same (suc k) c us vs e = go (ℕ-discrete c (chunkAt l heavy j k)) (λ n. zeros-same k c us vs (λ f. e (more n f)))
+    where
+      more : (c ≡ chunkAt l heavy j k → ⊥) → Else k c → Else (suc k) c
+      more n f s h q = last (ℕ-discrete s k)
+        where
+          last : Dec (s ≡ k) → ⊥
+          last (yes d) = n (q ∙ ap (chunkAt l heavy j) d)
+          last (no d) = f s (omega arith) q
+
+      go : Dec (c ≡ chunkAt l heavy j k)
+          → ((c ≡ chunkAt l heavy j k → ⊥) → getD (zeros k us) c 0 ≡ getD (zeros k vs) c 0)
+          → getD (set (zeros k us) (chunkAt l heavy j k) 0) c 0 ≡ getD (set (zeros k vs) (chunkAt l heavy j k) 0) c 0
+      go (yes d) r =
+          rw d (set-zero (zeros k us) (chunkAt l heavy j k) ∙ sym (set-zero (zeros k vs) (chunkAt l heavy j k)))
+      go (no d) r =
+          getD-set-other (zeros k us) (chunkAt l heavy j k) c 0 0 d ∙ r d
+          ∙ sym (getD-set-other (zeros k vs) (chunkAt l heavy j k) c 0 0 d)
+
+  -- ---- what the heavy blocks' chunks bring
+  module _ (y numbers : List ℕ) (f : Fit l y numbers heavy) (inside : j < l .l2) (vs : List ℕ) where
+    -- the chunks of two blocks are two chunks
+    other-block : (a b : ℕ) → (a ≡ b → ⊥) → j + a * l .l2 ≡ b * l .l2 + j → ⊥
+    other-block a b n e =
+        ⊎-elim
+        (λ h. omega (arith, field-room b (l .l2) a h))
+        (λ h. omega (arith, field-room a (l .l2) b (omega arith)))
+        (lt-or-ge a b)
+
+    -- a heavy block's chunk is none of the earlier ones'
+    else-earlier : (k : ℕ) → k < heavy .n → Else k (chunkAt l heavy j k)
+    else-earlier k h s g e =
+        let n = f .ascending s k g h in
+        other-block (getD (heavy .block) k 0) (getD (heavy .block) s 0) (λ q. omega arith) (omega (arith, e))
+
+    module _ (chunks : Chunks) (blocks : chunks .block ≡ heavy .block) where
+      -- the numbers of the heavy blocks' chunks
+      abbrev own : ℕ → ℕ
+      own s = getD vs (chunkAt l heavy j s) 0
+
+      -- the total of the chunk-string
+      abbrev whole : List ℕ → ℕ
+      whole us = total 1 (line (l .nc) j (l .l2) (l .l1) us)
+
+      -- what the first k bring and the rest are the whole
+      pub makes-up : (k : ℕ) → k ≤ heavy .n → whole (zeros k vs) + brought (l .nc) chunks own k ≡ whole vs
+      unfolding filled brought
+      makes-up zero h = omega arith
+      makes-up (suc k) h =
+          let i : ℕ = getD (heavy .block) k 0 in
+          let c : ℕ = chunkAt l heavy j k in
+          let at : j + i * l .l2 ≡ c = add-comm j (i * l .l2) in
+          let b = f .inside k (omega arith) in
+          let step = total-but (l .nc) j (l .l2) (l .l1) i b (set (zeros k vs) c 0) (zeros k vs) (away k) in
+          let was : getD (zeros k vs) c 0 ≡ own k = zeros-other k c vs (else-earlier k (omega arith)) in
+          let here : getD (chunks .block) k 0 ≡ i = ap (λ (b : List ℕ). getD b k 0) blocks in
+          let s = rw (at, set-zero (zeros k vs) c, was, total-zero (l .nc) (i * l .nc + 1)) at step in
+          rw here (omega (arith, s, makes-up k (omega arith)))
+        where
+          away : (k : ℕ) → (i : ℕ) → i < l .l1 → (i ≡ getD (heavy .block) k 0 → ⊥)
+              → getD (set (zeros k vs) (chunkAt l heavy j k) 0) (j + i * l .l2) 0 ≡ getD (zeros k vs) (j + i * l .l2) 0
+          away k i g n =
+              getD-set-other (zeros k vs) (chunkAt l heavy j k) (j + i * l .l2) 0 0
+              (other-block i (getD (heavy .block) k 0) n)
+
+      -- the sum of the chunk-string, where a row in hand has the chunks of the other blocks
+      pub whole-sum : (row : List ℕ)
+          → ((i : ℕ) → i < l .l1 → ((s : ℕ) → s < heavy .n → getD (heavy .block) s 0 ≡ i → ⊥)
+          → getD vs (i * l .l2 + j) 0 ≡ getD row (i * l .l2 + j) 0)
+          → (sum (line (l .nc) j (l .l2) (l .l1) (filled l heavy (λ s. 0) j (heavy .n) row))
+          + brought (l .nc) chunks own (heavy .n))
+          % (l .l1 * l .nc + 1)
+          ≡ sum (line (l .nc) j (l .l2) (l .l1) vs)
+      whole-sum row others =
+          let m : ℕ = l .l1 * l .nc + 1 in
+          let b : ℕ = brought (l .nc) chunks own (heavy .n) in
+          let e = line-same (l .nc) j (l .l2) (l .l1) (zeros (heavy .n) row) (zeros (heavy .n) vs) alike in
+          ap (λ (v : ℕ). (v + b) % m) (ap sum e ∙ line-sum (l .nc) j (l .l2) (l .l1) (zeros (heavy .n) vs))
+          ∙ mod-add-mod (whole (zeros (heavy .n) vs)) m b
+          ∙ ap (λ (v : ℕ). v % m) (makes-up (heavy .n) (omega arith))
+          ∙ sym (line-sum (l .nc) j (l .l2) (l .l1) vs)
+        where
+          alike : (i : ℕ) → i < l .l1
+              → getD (zeros (heavy .n) row) (j + i * l .l2) 0 ≡ getD (zeros (heavy .n) vs) (j + i * l .l2) 0
+          alike i h =
+              zeros-same (heavy .n) (j + i * l .l2) row vs
+              (λ n.
+              rw (add-comm j (i * l .l2))
+              (sym (others i h (λ s g e. n s g (add-comm j (i * l .l2) ∙ ap (λ (b : ℕ). b * l .l2 + j) (sym e))))))

@@ -1,0 +1,43 @@
+-- Blocks within a row of a legal layout. Assumes nothing.
+use Prim.Native.Nat.{ℕ, _+_, _*_, _<_, _≤_}
+use mathlib.Core.Path.{_≡_}
+use mathlib.Core.List.{List}
+use native.Mathlib.Nat.{mul-le-mul, mul-le-mul-right}
+use native.Mathlib.Omega.{arith}
+use lib.ListN.{length}
+use Rattle.bits.specs.Bits.{longest}
+use Rattle.message.specs.Layout.{rowBits, blockBits}
+use Rattle.message.specs.declared.Layout.{Layout}
+use Rattle.message.proofs.Legal.{Bounds, Sizes, legal-bounds, sizes}
+use Rattle.found.specs.Found.{Given}
+
+module _ {l : Layout} {numbers y : List ℕ} (g : Given l numbers y) where
+  bounds : Bounds l
+  bounds = legal-bounds l (g .is-legal)
+
+  pub high : Sizes l
+  high = sizes l bounds
+
+  -- a block has bits
+  pub block-low : 0 < blockBits l
+  block-low = let p : 1 * 3 ≤ l .l2 * l .nc = mul-le-mul (bounds .l2-low) (bounds .nc-low) in omega arith
+
+  -- the received row is short
+  pub received-short : length y ≤ longest
+  received-short = omega (arith, g .short, high .row)
+
+  -- block i ends where the next begins, within the row
+  pub block-next : (i : ℕ) → (i + 1) * blockBits l ≡ i * blockBits l + blockBits l
+  block-next i = omega arith
+
+  pub block-inside : (i : ℕ) → i < l .l1 → i * blockBits l + blockBits l ≤ rowBits l
+  block-inside i h =
+      let k : i + 1 ≤ l .l1 = omega arith in
+      let a : (i + 1) * blockBits l ≤ l .l1 * blockBits l = mul-le-mul-right (blockBits l) k in
+      omega (arith, block-next i, high .l1-block)
+
+  -- a place up to the end of the row is small
+  pub place-high : (i p : ℕ) → i ≤ l .l1 → p ≤ i * blockBits l → p ≤ longest
+  place-high i p h k =
+      let a : i * blockBits l ≤ l .l1 * blockBits l = mul-le-mul-right (blockBits l) h in
+      omega (arith, high .l1-block, high .row)

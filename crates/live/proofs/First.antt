@@ -1,0 +1,139 @@
+-- The first marks of one column, made state by state: a state is marked if a row can cross the column from it to a
+-- marked state. Assumes nothing.
+use Prim.Native.Nat.{ℕ, _+_, _-_, _<_, _≤_}
+use mathlib.Core.Path.{_≡_, refl, _∙_}
+use mathlib.Core.Logic.{inr, ⊎-elim}
+use mathlib.Core.List.{List}
+use native.Mathlib.Decide.{ℕ-discrete}
+use native.Mathlib.Omega.{arith}
+use lib.ListN.{length, getD, set, length-set}
+use lib.Seq.{getD-set-same, getD-set-other}
+use Rattle.message.specs.declared.Layout.{Layout}
+use Rattle.states.specs.States.{stride, state, each}
+use Rattle.states.specs.declared.Shape.{Shape}
+use Rattle.states.proofs.States.{stride-pos, state-same, state-lowered}
+use Rattle.column.specs.declared.Heavy.{Heavy}
+use Rattle.live.specs.Passes.{mostStates, Within, numberOf, Kept, Remade, Goes, FirstMark}
+use Rattle.live.proofs.Columns.{remade-none, remade-set}
+use Rattle.live.proofs.Levels.{Above, Levels, level-or, levels-next}
+use Rattle.live.proofs.Steps.{crosses-same}
+
+module _ (l : Layout) (y numbers : List ℕ) (heavy : Heavy) (known : List ℕ) (shape : Shape) (j at base : ℕ) (entry :
+    List ℕ) where
+  abbrev size : ℕ → ℕ
+  size = each (shape .size)
+
+  -- the marks of the next column
+  abbrev next-marks : ℕ → ℕ
+  next-marks p = getD entry (base + p) 0
+
+  -- the states below q have their marks and levels; most is the greatest mark
+  pub record Completing (marks levels : List ℕ) (most q : ℕ) : Type 0 where
+    pub low : q ≤ shape .states
+    pub long : length levels ≡ mostStates
+    pub column : Remade (shape .states) at entry marks
+    pub levelled : Levels (shape .n) size next-marks (each levels) q
+    pub most-of : (p : ℕ) → p < q → getD marks (at + p) 0 ≤ most
+    pub goes : (left : ℕ → ℕ) → Within shape left → numberOf shape left < q
+        → Goes l y numbers heavy known shape j entry base left (getD marks (at + numberOf shape left) 0)
+
+  pub completing-starts : (levels : List ℕ) → length levels ≡ mostStates → Completing entry levels 0 0
+  completing-starts levels h =
+      record {
+        low = omega arith;
+        long = h;
+        column = remade-none (shape .states) at entry;
+        levelled = record { own = λ p k. absurd (omega arith); down = λ left w k. absurd (omega arith) };
+        most-of = λ p k. absurd (omega arith);
+        goes = λ left w k. absurd (omega arith);
+      }
+
+  -- what is known of the losses left found, the level v and the mark m of state q
+  pub record Told (marks levels : List ℕ) (most q : ℕ) (found : ℕ → ℕ) (v m more : ℕ) : Type 0 where
+    pub digits : (own : ℕ → ℕ) → Within shape own → numberOf shape own ≡ q → (s : ℕ) → s < heavy .n → own s ≡ found s
+    pub own : 0 < getD marks (base + q) 0 → 0 < v
+    pub down : (s u : ℕ) → s < shape .n → 0 < found s → 0 < getD (shape .stride) s 0 → getD (shape .stride) s 0 ≤ q
+        → 0 < u → u < 3 → u ≤ getD levels (q - getD (shape .stride) s 0) 0 → u + 1 ≤ v
+    pub first : FirstMark l y numbers heavy known shape j marks base found q v m
+    pub most-more : most ≤ more
+    pub mark-more : m ≤ more
+
+  module _ (kept : Kept heavy shape) (apart : at + shape .states ≤ base) (room : base + shape .states ≤ length entry)
+      (marks levels : List ℕ) (most q : ℕ) (found : ℕ → ℕ) (v m more : ℕ) (c : Completing marks levels most q)
+      (h : q < shape .states) (told : Told marks levels most q found v m more) where
+    -- the marks of the next column are as at entry
+    same-next : (p : ℕ) → getD marks (base + p) 0 ≡ next-marks p
+    same-next p = c .column .others (base + p) (inr (omega arith))
+
+    -- the level is above those one loss below
+    above : (left : ℕ → ℕ) → Within shape left → numberOf shape left ≡ q → (s : ℕ) → s < shape .n → 0 < left s
+        → Above (each levels (q - stride size s)) v
+    above left w e s k p u h₁ h₂ h₃ =
+        let t : getD (shape .stride) s 0 ≡ stride size s = kept .shaped .counts s k in
+        let d = state-lowered size left (shape .n) s k p in
+        let f = told .digits left w e s (omega (arith, kept .blocks)) in
+        told .down s u k (omega arith) (omega (arith, stride-pos size s)) (omega arith) h₁ h₂ (rw t h₃)
+
+    -- so state q is marked if a row can cross the column from it to a marked state
+    here : (left : ℕ → ℕ) → Within shape left → numberOf shape left ≡ q → Goes l y numbers heavy known shape j entry
+        base left m
+    here left w e row vs next light crosses marked =
+        let same = told .digits left w e in
+        let crosses' = crosses-same l y numbers heavy row j vs left found next next same (λ s k. refl) crosses in
+        let falls : (s : ℕ) → s < shape .n → next s ≤ left s = λ s k. crosses .falls s (omega (arith, kept .blocks)) in
+        ⊎-elim (λ u. told .first .high u)
+        (⊎-elim
+        (λ a. let n : numberOf shape next ≡ q = state-same' next left a ∙ e in
+        told .first .same row vs next light crosses' (λ s k. a s (omega (arith, kept .blocks)) ∙ same s k)
+        (told .own (rw (same-next q) (rw n at marked))) (rw (same-next q) (rw n at marked)))
+        (λ a. let s = a .0 in
+        let t : getD (shape .stride) s 0 ≡ stride size s = kept .shaped .counts s (a .1 .0) in
+        let b : s < heavy .n = omega (arith, kept .blocks, a .1 .0) in
+        told .first .one row vs next s b light crosses'
+        (a .1 .1 .0 .0 ∙ same s b, λ i k o. a .1 .1 .0 .1 i (omega (arith, kept .blocks)) o ∙ same i k)
+        (omega (arith, t, a .1 .1 .1 .0))
+        (omega (
+          arith,
+          above left w e s (a .1 .0) (omega (arith, a .1 .1 .0 .0)) 1 (omega arith) (omega arith)
+              (c .levelled .own (q - stride size s) (omega (arith, a .1 .1 .1 .0, stride-pos size s)) (rw (a .1 .1 .1
+              .1) at marked)),
+        ))
+        (rw t (rw (same-next (q - stride size s)) (rw (a .1 .1 .1 .1) at marked)))))
+        (level-or (shape .n) size next-marks (each levels) q (c .levelled) v left next e w falls marked (above left w
+        e))
+      where
+        state-same' : (a b : ℕ → ℕ) → ((s : ℕ) → s < shape .n → a s ≡ b s) → numberOf shape a ≡ numberOf shape b
+        state-same' a b k = state-same size a b (shape .n) k
+
+    pub completing-next : Completing (set marks (at + q) m) (set levels q v) more (q + 1)
+    completing-next =
+        let k : at + q < length marks = omega (arith, c .column .long) in
+        let few : q < length levels = omega (arith, c .long, kept .few) in
+        let there : getD (set levels q v) q 0 ≡ v = getD-set-same levels q v 0 few in
+        record {
+          low = omega arith;
+          long = length-set levels q v ∙ c .long;
+          column = remade-set (shape .states) at entry marks (c .column) q m h;
+          levelled = levels-next (shape .n) size next-marks (each levels) (each (set levels q v)) q
+              (λ p i. getD-set-other levels q p v 0 (λ e. omega arith)) (c .levelled)
+              (λ i. rw there (told .own (rw (same-next q) i)))
+              (λ left w e s i p. rw there (above left w e s i p));
+          most-of = λ p i. most-at p i (ℕ-discrete p q);
+          goes = λ left w i. goes-at left w i (ℕ-discrete (numberOf shape left) q);
+        }
+      where
+        most-at : (p : ℕ) → p < q + 1 → Dec (p ≡ q) → getD (set marks (at + q) m) (at + p) 0 ≤ more
+        most-at p i (yes e) = rw (e, getD-set-same marks (at + q) m 0 (omega (arith, c .column .long))) (told
+            .mark-more)
+        most-at p i (no e) =
+            rw (getD-set-other marks (at + q) (at + p) m 0 (λ d. e (omega arith)))
+            (omega (arith, c .most-of p (omega arith), told .most-more))
+
+        goes-at : (left : ℕ → ℕ) → Within shape left → numberOf shape left < q + 1 → Dec (numberOf shape left ≡ q)
+            → Goes l y numbers heavy known shape j entry base left (getD (set marks (at + q) m) (at + numberOf shape
+            left) 0)
+        goes-at left w i (yes e) =
+            rw (e, getD-set-same marks (at + q) m 0 (omega (arith, c .column .long))) (here left w e)
+        goes-at left w i (no e) =
+            rw (getD-set-other marks (at + q) (at + numberOf shape left) m 0 (λ d. e (omega arith))) (c .goes left w
+            (omega arith))

@@ -1,0 +1,51 @@
+-- `live::no_more` meets its contract. The measure is what is left of the blocks. Assumes nothing.
+use Prim.Native.Nat.{_-_, _≤_}
+use native.Mathlib.Omega.{arith}
+use borrow.Author.Needs.{needs}
+use Rattle.live.proofs.no_more.Statement.{statement}
+use Rattle.live.proofs.no_more.Tie as tie
+
+abbrev Inv-loop : tie.InvT-loop
+Inv-loop n next left s₀ s = s ≤ n
+
+abbrev μ-loop : tie.MeasureT-loop
+μ-loop n next left s₀ s = n - s
+
+loop-holds : tie.Need-loop-holds Inv-loop μ-loop
+loop-holds c = search needs
+
+array-read-if1 : tie.Need-array-read-if1 Inv-loop μ-loop
+array-read-if1 c = search needs
+
+array-read-if1-2 : tie.Need-array-read-if1-2 Inv-loop μ-loop
+array-read-if1-2 c = search needs
+
+returns : tie.Need-returns Inv-loop μ-loop
+returns c h = absurd (omega (arith, h (c .before .before .loop .s) (omega arith), c .if1 .taken))
+
+add-s : tie.Need-add-s Inv-loop μ-loop
+add-s c = search needs
+
+loop-less : tie.Need-loop-less Inv-loop μ-loop
+loop-less c = search needs
+
+loop-again : tie.Need-loop-again Inv-loop μ-loop
+loop-again c = search needs
+
+returns-2 : tie.Need-returns-2 Inv-loop μ-loop
+returns-2 c = search needs
+
+pub no-more-spec : {M : Type 1} → statement M
+no-more-spec =
+    tie.close
+    (tie.spec
+    Inv-loop
+    μ-loop
+    loop-holds
+    array-read-if1
+    array-read-if1-2
+    returns
+    add-s
+    loop-less
+    loop-again
+    returns-2)

@@ -1,0 +1,68 @@
+// Loss states: how many losses each of a few blocks has left, as one number of mixed radix. Contracts cite specs/States.antt.
+ghost use mathlib.Core.Path.{_≡_};
+ghost use Prim.Native.Nat.{ℕ, _<_, _≤_};
+ghost use lib.ListN.{getD};
+ghost use Rattle.states.specs.States.{state, each, Shaped};
+
+// The most blocks with two losses or more.
+pub const MOST_HEAVY: usize = 6;
+
+// The loss states: how many losses each block has at most, what one counts in the number of a state, and how many states there are.
+pub struct Shape {
+    pub n: usize,
+    pub size: [u8; MOST_HEAVY],
+    pub stride: [usize; MOST_HEAVY],
+    pub states: usize,
+}
+
+// The shape of the loss states of n blocks with these losses.
+pub fn shape_of(n: usize, size: [u8; MOST_HEAVY]) -> Shape
+    requires { ⌜ n ≤ 6 ⌝ }
+    ensures { λ r. ⌜ ((r .n ≡ n) × (r .size ≡ size)) × Shaped (r .n) (r .size) (r .stride) (r .states) ⌝ }
+{
+    let mut stride: [usize; MOST_HEAVY] = [0; MOST_HEAVY];
+    let mut states: usize = 1;
+    let mut s: usize = 0;
+    while s < n {
+        stride[s] = states;
+        states *= bits::wide(size[s]) + 1;
+        s += 1;
+    }
+    Shape {
+        n,
+        size,
+        stride,
+        states,
+    }
+}
+
+// The losses that each block has left in a state.
+pub fn losses_left(shape: Shape, q: usize) -> [u8; MOST_HEAVY]
+    requires { ⌜ (shape .n ≤ 6) × Shaped (shape .n) (shape .size) (shape .stride) (shape .states) ⌝ }
+    ensures { λ r. ⌜ ((left : ℕ → ℕ) → ((s : ℕ) → s < shape .n → left s ≤ each (shape .size) s)
+        → q ≡ state (each (shape .size)) left (shape .n) → (s : ℕ) → s < shape .n → getD r s 0 ≡ left s) ⌝ }
+{
+    let n = shape.n;
+    let mut left: [u8; MOST_HEAVY] = [0; MOST_HEAVY];
+    let mut s: usize = 0;
+    while s < n {
+        left[s] = (q / shape.stride[s] % (bits::wide(shape.size[s]) + 1)) as u8;
+        s += 1;
+    }
+    left
+}
+
+// The number of a state.
+pub fn number_of(shape: Shape, left: [u8; MOST_HEAVY]) -> usize
+    requires { ⌜ (shape .n ≤ 6) × Shaped (shape .n) (shape .size) (shape .stride) (shape .states) ⌝ }
+    ensures { λ r. ⌜ r ≡ state (each (shape .size)) (each left) (shape .n) ⌝ }
+{
+    let n = shape.n;
+    let mut q: usize = 0;
+    let mut s: usize = 0;
+    while s < n {
+        q += bits::wide(left[s]) * shape.stride[s];
+        s += 1;
+    }
+    q
+}

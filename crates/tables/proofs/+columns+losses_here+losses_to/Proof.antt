@@ -1,0 +1,672 @@
+-- `tables::columns`, `losses_here` and `losses_to`, which call each other, meet their contracts. The measure is three
+-- times the number of the table's loss state, with two, one and none more: only a step to a lower state leads back. The
+-- loop over the columns: what finds the rows under the table in hand finds, with what was found before, those under the
+-- first. The loop over the lower states: every consistent row that comes to a state below `to` is known. Rests on the
+-- laws of Going.antt and Coming.antt. Assumes nothing.
+use Prim.Native.Nat.{ℕ, _+_, _*_, _-_, _<_, _≤_}
+use mathlib.Core.Path.{_≡_, refl, sym, subst, _∙_}
+use mathlib.Core.Bool.{false≢true}
+use mathlib.Core.Logic.{⊎-elim}
+use mathlib.Core.List.{List}
+use native.Mathlib.Omega.{arith}
+use borrow.Author.Needs.{needs}
+use borrow.Author.Tests.{not-true, not-false}
+use borrow.Fn.Kinds.{In}
+use borrow.Fn.PlainCycle.{Measures, is, falls, and}
+use Rattle.message.proofs.Legal.{legal-bounds, sizes}
+use Rattle.found.specs.Found.{Grown}
+use Rattle.found.proofs.Found.{grown-length, grown-holding, grown-none, grown-nothing, grown-weaken, grown-turn}
+use Rattle.states.specs.States.{each}
+use Rattle.tables.specs.Tables.{ownLeft, stateOf, IsMark, UnderMarks}
+use Rattle.tables.proofs.Making.{no-single}
+use Rattle.tables.proofs.Coming.{fits, near-stays, left-state, comes-marked, comes-near, own-left, crossed}
+use Rattle.tables.proofs.Coming.{comes-next, under-next, shape-next, state-next, looked-next}
+use Rattle.tables.proofs.Going.{Going, going-near, going-end, going-uncrossed, going-unread, going-next}
+use Rattle.tables.proofs.columns.Reads as columns
+use Rattle.tables.proofs.columns.Kinds as columns-kinds
+use Rattle.tables.proofs.+columns+losses_here+losses_to.Lts-columns as columns-lts
+use Rattle.tables.proofs.losses_here.Reads as losses-here
+use Rattle.tables.proofs.losses_here.Kinds as losses-here-kinds
+use Rattle.tables.proofs.+columns+losses_here+losses_to.Lts-losses_here as losses-here-lts
+use Rattle.tables.proofs.losses_to.Reads as losses-to
+use Rattle.tables.proofs.losses_to.Kinds as losses-to-kinds
+use Rattle.tables.proofs.+columns+losses_here+losses_to.Lts-losses_to as losses-to-lts
+use Rattle.bits.proofs.wide.Reads as wide-reads
+use Rattle.column.proofs.crossing.Reads as crossing-reads
+use Rattle.live.proofs.mark_at.Reads as mark-at-reads
+use Rattle.states.proofs.losses_left.Reads as losses-left-reads
+use Rattle.states.proofs.number_of.Reads as number-of-reads
+use Rattle.tables.proofs.hopeful.Reads as hopeful-reads
+use Rattle.tables.proofs.mend_table.Reads as mend-table-reads
+use Rattle.tables.proofs.step.Reads as step-reads
+use Rattle.tables.proofs.+columns+losses_here+losses_to.{statement}
+use Rattle.tables.proofs.+columns+losses_here+losses_to.Tie.{close}
+
+abbrev μ-columns : Measures 8 columns-kinds.ps ℕ
+μ-columns κs a = 3 * stateOf (a .1 .1 .1 .1 .1 .1 .0) (each (a .1 .1 .1 .1 .1 .1 .1 .1 .1 .1 .1 .1 .0 .left)) + 2
+
+abbrev μ-losses-here : Measures 8 losses-here-kinds.ps ℕ
+μ-losses-here κs a = 3 * stateOf (a .1 .1 .1 .1 .1 .1 .0) (each (a .1 .1 .1 .1 .1 .1 .1 .1 .1 .1 .1 .1 .0 .left)) + 1
+
+abbrev μ-losses-to : Measures 8 losses-to-kinds.ps ℕ
+μ-losses-to κs a = 3 * stateOf (a .1 .1 .1 .1 .1 .1 .0) (each (a .1 .1 .1 .1 .1 .1 .1 .1 .1 .1 .1 .1 .0 .left))
+
+abbrev columns-at : ℕ → In 8 columns-kinds.ps
+columns-at t = and 8 columns-kinds.ps (is 8 columns-kinds.ps μ-columns t) columns.Pre
+
+abbrev columns-below : ℕ → In 8 columns-kinds.ps
+columns-below t = and 8 columns-kinds.ps (falls 8 columns-kinds.ps _<_ μ-columns t) columns.Pre
+
+abbrev losses-here-at : ℕ → In 8 losses-here-kinds.ps
+losses-here-at t =
+    and 8 losses-here-kinds.ps (is 8 losses-here-kinds.ps μ-losses-here t) losses-here.Pre
+
+abbrev losses-here-below : ℕ → In 8 losses-here-kinds.ps
+losses-here-below t =
+    and 8 losses-here-kinds.ps (falls 8 losses-here-kinds.ps _<_ μ-losses-here t) losses-here.Pre
+
+abbrev losses-to-at : ℕ → In 8 losses-to-kinds.ps
+losses-to-at t = and 8 losses-to-kinds.ps (is 8 losses-to-kinds.ps μ-losses-to t) losses-to.Pre
+
+abbrev losses-to-below : ℕ → In 8 losses-to-kinds.ps
+losses-to-below t =
+    and 8 losses-to-kinds.ps (falls 8 losses-to-kinds.ps _<_ μ-losses-to t) losses-to.Pre
+
+-- what the three functions know of those that they call
+abbrev columns-claims : ℕ → columns-lts.Claims
+columns-claims t = (
+  number-of-reads.Asked,
+  number-of-reads.Learnt,
+  mark-at-reads.Asked,
+  mark-at-reads.Learnt,
+  hopeful-reads.Asked,
+  hopeful-reads.Learnt,
+  losses-here-below t,
+  losses-here.Post,
+  crossing-reads.Asked,
+  crossing-reads.Learnt,
+  step-reads.Asked,
+  step-reads.Learnt,
+  wide-reads.Asked,
+  wide-reads.Learnt,
+  mend-table-reads.Asked,
+  mend-table-reads.Learnt,
+)
+
+abbrev losses-here-claims : ℕ → losses-here-lts.Claims
+losses-here-claims t = (
+  number-of-reads.Asked,
+  number-of-reads.Learnt,
+  mark-at-reads.Asked,
+  mark-at-reads.Learnt,
+  losses-to-below t,
+  losses-to.Post,
+)
+
+abbrev losses-to-claims : ℕ → losses-to-lts.Claims
+losses-to-claims t = (
+  losses-left-reads.Asked,
+  losses-left-reads.Learnt,
+  crossing-reads.Asked,
+  crossing-reads.Learnt,
+  wide-reads.Asked,
+  wide-reads.Learnt,
+  hopeful-reads.Asked,
+  hopeful-reads.Learnt,
+  step-reads.Asked,
+  step-reads.Learnt,
+  columns-below t,
+  columns.Post,
+)
+
+abbrev columns-Inv-loop : columns-lts.InvT-loop
+columns-Inv-loop l y totals counts numbers heavy shape known marks z room j differ cap list₀ now₀ apart₀ k₀ c₀ list now
+    apart k c =
+    Going l y totals counts numbers heavy shape known marks z room cap
+    (UnderMarks l y numbers heavy shape known marks z apart₀ c₀ now₀) list₀ (k₀ .count) (k₀ .more)
+    (stateOf shape (each (now₀ .left))) list now apart (k .count) (k .more) c
+
+abbrev columns-μ-loop : columns-lts.MeasureT-loop
+columns-μ-loop l y totals counts numbers heavy shape known marks z room j differ cap list₀ now₀ apart₀ k₀ c₀ list now
+    apart k c =
+    l .l2 - c
+
+-- the function's entry seen from the loop
+abbrev start : (t : ℕ) → columns-lts.After-slice-known (columns-claims t) (columns-at t) columns.Post columns-Inv-loop
+    columns-μ-loop
+    → columns-lts.Start (columns-claims t) (columns-at t) columns.Post columns-Inv-loop
+    columns-μ-loop
+start t c = c .before .before .before .before .before .before .before .before
+
+-- the numbers of the loop stay low
+high : (t : ℕ) (c : columns-lts.At-loop (columns-claims t) (columns-at t) columns.Post columns-Inv-loop
+    columns-μ-loop)
+    → (c .loop .c ≤ 255) × (c .loop .apart ≤ 4000)
+high t c =
+    let s = start t (c .before) in
+    let g = c .loop .inv in
+    let size = sizes (s .args .l) (legal-bounds (s .args .l) (s .pre .1 .0 .is-legal)) in
+    (omega (arith, size .l2-high, g .inside), omega (arith, size .l2-high, g .inside, g .looked .small))
+
+-- the place where those that lose a bit in the column are found, and the turn of the loop seen from there
+abbrev Found : ℕ → Type 0
+Found t = columns-lts.After-slice-known2 (columns-claims t) (columns-at t) columns.Post columns-Inv-loop
+    columns-μ-loop
+
+abbrev turn : (t : ℕ) → Found t → columns-lts.Then1 (columns-claims t) (columns-at t) columns.Post columns-Inv-loop
+    columns-μ-loop
+turn t c = c .before .before .before .before .before .before .before .before .before
+
+columns-loop-holds : (t : ℕ)
+    → columns-lts.Need-loop-holds (columns-claims t) (columns-at t) columns.Post columns-Inv-loop
+    columns-μ-loop
+columns-loop-holds t c =
+    let p = start t c .pre .1 in
+    record {
+      inside = p .1 .1 .1 .0;
+      holding = p .1 .0;
+      long = refl;
+      sound = p .1 .1 .0;
+      shaped = p .1 .1 .1 .1 .0;
+      at-top = refl;
+      looked = p .1 .1 .1 .1 .1 .0;
+      near = p .1 .1 .1 .1 .1 .1;
+      joins = λ exit f q g. g;
+    }
+
+columns-number-of-requires : (t : ℕ)
+    → columns-lts.Need-number-of-requires (columns-claims t) (columns-at t) columns.Post columns-Inv-loop
+    columns-μ-loop
+columns-number-of-requires t c κs =
+    let g = c .before .before .before .loop .inv in
+    (omega (arith, g .shaped .blocks, g .sound .few), g .shaped .shaped)
+
+columns-mark-at-requires : (t : ℕ)
+    → columns-lts.Need-mark-at-requires (columns-claims t) (columns-at t) columns.Post columns-Inv-loop
+    columns-μ-loop
+columns-mark-at-requires t c κs =
+    let i = c .before .before .before .before in
+    omega (arith, high t i .0)
+
+columns-hopeful-requires : (t : ℕ)
+    → columns-lts.Need-hopeful-requires (columns-claims t) (columns-at t) columns.Post columns-Inv-loop
+    columns-μ-loop
+columns-hopeful-requires t c κs = high t (c .before .before .before .before .before) .1
+
+columns-same-length : (t : ℕ)
+    → columns-lts.Need-same-length (columns-claims t) (columns-at t) columns.Post columns-Inv-loop
+    columns-μ-loop
+columns-same-length t c = c .before .before .before .before .before .before .before .loop .inv .long
+
+columns-returns : (t : ℕ)
+    → columns-lts.Need-returns (columns-claims t) (columns-at t) columns.Post columns-Inv-loop
+    columns-μ-loop
+columns-returns t c =
+    let m = c .before .before in
+    let i = m .before .before .before .before .before in
+    let a = start t (i .before) .args in
+    going-near (i .loop .inv) (m .mark-at .result)
+    (subst (λ (v : ℕ). IsMark (a .shape) (a .marks .now) (i .loop .c) v (m .mark-at .result))
+    (m .before .number-of .ensures) (m .mark-at .ensures))
+    (λ n k. c .before .hopeful .ensures n (not-true _ (c .if2 .taken)) k)
+
+columns-losses-here-requires : (t : ℕ)
+    → columns-lts.Need-losses-here-requires (columns-claims t) (columns-at t) columns.Post columns-Inv-loop
+    columns-μ-loop
+columns-losses-here-requires t c κs =
+    let h = c .before .before in
+    let w = h .before .before .before .before in
+    let i = w .before .before in
+    let s = start t (i .before) in
+    let g = i .loop .inv in (
+      omega (arith, s .pre .0, g .at-top),
+      (s .pre .1 .0, (g .holding, (g .sound, (w .if1 .taken, (g .shaped, (g .looked, g .near)))))),
+    )
+
+columns-crossing-requires : (t : ℕ)
+    → columns-lts.Need-crossing-requires (columns-claims t) (columns-at t) columns.Post columns-Inv-loop
+    columns-μ-loop
+columns-crossing-requires t c κs =
+    let w = turn t c in
+    let i = w .before .before in
+    let g = i .loop .inv in
+    let k = g .looked in
+    (fits (start t (i .before) .pre .1 .0) (g .sound), (k .tables, (w .if1 .taken, (k .sums, k .others))))
+
+columns-same-length-2 : (t : ℕ)
+    → columns-lts.Need-same-length-2 (columns-claims t) (columns-at t) columns.Post columns-Inv-loop
+    columns-μ-loop
+columns-same-length-2 t c =
+    let k = c .before .before in
+    let g = turn t k .before .before .loop .inv in
+    grown-length (g .holding) (k .before .before .losses-here .ensures) ∙ g .long
+
+columns-returns-2 : (t : ℕ)
+    → columns-lts.Need-returns-2 (columns-claims t) (columns-at t) columns.Post columns-Inv-loop
+    columns-μ-loop
+columns-returns-2 t c =
+    let k = c .before .before in
+    let w = turn t k in
+    going-uncrossed (w .before .before .loop .inv) (w .if1 .taken) (k .before .before .losses-here .ensures)
+    (c .before .crossing .ensures .0) (c .if3 .taken)
+
+columns-step-requires : (t : ℕ)
+    → columns-lts.Need-step-requires (columns-claims t) (columns-at t) columns.Post columns-Inv-loop
+    columns-μ-loop
+columns-step-requires t c κs =
+    let w = turn t (c .before .before) in
+    let i = w .before .before in
+    let p = start t (i .before) .pre .1 .0 in
+    (p .is-legal, (p .bits, (p .short, (i .loop .inv .sound, w .if1 .taken))))
+
+columns-same-length-3 : (t : ℕ)
+    → columns-lts.Need-same-length-3 (columns-claims t) (columns-at t) columns.Post columns-Inv-loop
+    columns-μ-loop
+columns-same-length-3 t c =
+    let k = c .before .before .before .before .before in
+    let g = turn t k .before .before .loop .inv in
+    grown-length (g .holding) (k .before .before .losses-here .ensures) ∙ g .long
+
+columns-returns-3 : (t : ℕ)
+    → columns-lts.Need-returns-3 (columns-claims t) (columns-at t) columns.Post columns-Inv-loop
+    columns-μ-loop
+columns-returns-3 t c =
+    let q = c .before .before in
+    let k = q .before .before .before in
+    let w = turn t k in
+    going-unread (w .before .before .loop .inv) (w .if1 .taken) (k .before .before .losses-here .ensures)
+    (q .before .before .crossing .ensures .0) (q .step .ensures) (not-true _ (c .if4 .taken))
+
+columns-wide-requires : (t : ℕ)
+    → columns-lts.Need-wide-requires (columns-claims t) (columns-at t) columns.Post columns-Inv-loop
+    columns-μ-loop
+columns-wide-requires t c κs = search needs
+
+columns-sub-apart : (t : ℕ)
+    → columns-lts.Need-sub-apart (columns-claims t) (columns-at t) columns.Post columns-Inv-loop
+    columns-μ-loop
+columns-sub-apart t c = omega (arith, c .wide .ensures, c .before .before .before .before .before .if3 .left)
+
+columns-add-apart : (t : ℕ)
+    → columns-lts.Need-add-apart (columns-claims t) (columns-at t) columns.Post columns-Inv-loop
+    columns-μ-loop
+columns-add-apart t c =
+    let e = c .before .before .before .before .before in
+    let i = turn t (e .before .before) .before .before in
+    omega (arith, high t i .1, c .wide .ensures, e .before .crossing .ensures .1)
+
+columns-add-c : (t : ℕ)
+    → columns-lts.Need-add-c (columns-claims t) (columns-at t) columns.Post columns-Inv-loop
+    columns-μ-loop
+columns-add-c t c =
+    let i = turn t (c .before .before .before .before .before .before .before) .before .before in
+    omega (arith, high t i .0)
+
+columns-loop-less : (t : ℕ)
+    → columns-lts.Need-loop-less (columns-claims t) (columns-at t) columns.Post columns-Inv-loop
+    columns-μ-loop
+columns-loop-less t c =
+    let w = turn t (c .before .before .before .before .before .before .before) in
+    omega (arith, w .if1 .taken)
+
+columns-loop-again : (t : ℕ)
+    → columns-lts.Need-loop-again (columns-claims t) (columns-at t) columns.Post columns-Inv-loop
+    columns-μ-loop
+columns-loop-again t c =
+    let f = c .before .before in
+    let q = f .before .before in
+    let k = q .before .before .before in
+    let w = turn t k in
+    let crossing = q .before .before .crossing .ensures in
+    going-next (w .before .before .loop .inv) (w .if1 .taken) (k .before .before .losses-here .ensures) (crossing .0)
+    (q .step .ensures) (not-false _ (f .if4 .left)) (c .wide .result - 1)
+    (omega (arith, c .wide .ensures, q .before .if3 .left)) (omega (arith, c .wide .ensures, crossing .1))
+
+columns-mend-table-requires : (t : ℕ)
+    → columns-lts.Need-mend-table-requires (columns-claims t) (columns-at t) columns.Post columns-Inv-loop
+    columns-μ-loop
+columns-mend-table-requires t c κs =
+    let i = c .before .before .before in
+    let g = i .loop .inv in
+    (start t (i .before) .pre .1 .0, (g .holding, (g .sound .placed, no-single (g .sound))))
+
+columns-same-length-4 : (t : ℕ)
+    → columns-lts.Need-same-length-4 (columns-claims t) (columns-at t) columns.Post columns-Inv-loop
+    columns-μ-loop
+columns-same-length-4 t c =
+    let f = c .before .before in
+    let g = f .before .before .before .before .loop .inv in
+    grown-length (g .holding) (f .mend-table .ensures) ∙ g .long
+
+columns-returns-4 : (t : ℕ)
+    → columns-lts.Need-returns-4 (columns-claims t) (columns-at t) columns.Post columns-Inv-loop
+    columns-μ-loop
+columns-returns-4 t c =
+    let f = c .before .before in
+    let e = f .before .before in
+    going-end (e .before .before .loop .inv) (e .if1 .left) (f .mend-table .ensures)
+
+abbrev losses-here-Inv-loop : losses-here-lts.InvT-loop
+losses-here-Inv-loop l y totals counts numbers heavy shape known marks z room j t differ cap list₀ q k₀ to₀ list k to =
+    Grown l numbers y cap
+    (λ x. UnderMarks l y numbers heavy shape known marks z differ j t x
+    × (stateOf shape (ownLeft l y heavy x (j + 1)) < to)) list₀ (k₀ .count) (k₀ .more) list (k .count) (k .more)
+
+abbrev losses-here-μ-loop : losses-here-lts.MeasureT-loop
+losses-here-μ-loop l y totals counts numbers heavy shape known marks z room j t differ cap list₀ q k₀ to₀ list k to =
+    q - to
+
+-- the function's entry seen from the loop
+abbrev enter : (t : ℕ)
+    → losses-here-lts.After-number-of (losses-here-claims t) (losses-here-at t) losses-here.Post
+    losses-here-Inv-loop losses-here-μ-loop
+    → losses-here-lts.Start (losses-here-claims t) (losses-here-at t) losses-here.Post
+    losses-here-Inv-loop losses-here-μ-loop
+enter t c = c .before .before .before .before .before .before .before .before .before .before
+
+-- the next column is one, or the end of the last
+next-low : (t : ℕ)
+    (c : losses-here-lts.After-number-of (losses-here-claims t) (losses-here-at t) losses-here.Post
+    losses-here-Inv-loop losses-here-μ-loop)
+    → enter t c .args .j + 1 ≤ 255
+next-low t c =
+    let s = enter t c in
+    let size = sizes (s .args .l) (legal-bounds (s .args .l) (s .pre .1 .0 .is-legal)) in
+    omega (arith, size .l2-high, s .pre .1 .1 .1 .1 .0)
+
+losses-here-number-of-requires : (t : ℕ)
+    → losses-here-lts.Need-number-of-requires (losses-here-claims t) (losses-here-at t) losses-here.Post
+    losses-here-Inv-loop losses-here-μ-loop
+losses-here-number-of-requires t c κs =
+    let p = c .before .before .before .before .before .before .before .before .before .pre .1 in
+    let of = p .1 .1 .1 .1 .0 in
+    (omega (arith, of .blocks, p .1 .1 .0 .few), of .shaped)
+
+losses-here-loop-holds : (t : ℕ)
+    → losses-here-lts.Need-loop-holds (losses-here-claims t) (losses-here-at t) losses-here.Post
+    losses-here-Inv-loop losses-here-μ-loop
+losses-here-loop-holds t c = grown-nothing (enter t c .pre .1 .1 .0) (λ x sent u. omega (arith, u .1))
+
+losses-here-add-mark-at : (t : ℕ)
+    → losses-here-lts.Need-add-mark-at (losses-here-claims t) (losses-here-at t) losses-here.Post
+    losses-here-Inv-loop losses-here-μ-loop
+losses-here-add-mark-at t c = omega (arith, next-low t (c .before .before))
+
+losses-here-mark-at-requires : (t : ℕ)
+    → losses-here-lts.Need-mark-at-requires (losses-here-claims t) (losses-here-at t) losses-here.Post
+    losses-here-Inv-loop losses-here-μ-loop
+losses-here-mark-at-requires t c κs = next-low t (c .before .before)
+
+losses-here-losses-to-requires : (t : ℕ)
+    → losses-here-lts.Need-losses-to-requires (losses-here-claims t) (losses-here-at t) losses-here.Post
+    losses-here-Inv-loop losses-here-μ-loop
+losses-here-losses-to-requires t c κs =
+    let m = c .before .before in
+    let i = m .before in
+    let n = i .before .before in
+    let s = enter t n in
+    let p = s .pre .1 in
+    let v = i .before .loop .inv in
+    let a = s .args in
+    let below : i .before .loop .to < stateOf (a .shape) (each (a .t .left)) =
+    omega (arith, i .loop-test .taken, n .number-of .ensures)
+    in
+    let holding = grown-holding (p .1 .0) v in
+    let near = near-stays (a .z .now) (a .room) (p .1 .0) v (p .1 .1 .1 .1 .1 .1) in
+    let of = p .1 .1 .1 .1 .0 in
+    let looked = p .1 .1 .1 .1 .1 .0 in (
+      omega (arith, s .pre .0),
+      ((p .0, (holding, (p .1 .1 .0, (p .1 .1 .1 .0, (of, (looked, near)))))), (below, m .mark-at .ensures)),
+    )
+
+losses-here-add-to : (t : ℕ)
+    → losses-here-lts.Need-add-to (losses-here-claims t) (losses-here-at t) losses-here.Post
+    losses-here-Inv-loop losses-here-μ-loop
+losses-here-add-to t c = search needs
+
+losses-here-loop-less : (t : ℕ)
+    → losses-here-lts.Need-loop-less (losses-here-claims t) (losses-here-at t) losses-here.Post
+    losses-here-Inv-loop losses-here-μ-loop
+losses-here-loop-less t c = omega (arith, c .before .before .loop-test .taken)
+
+losses-here-loop-again : (t : ℕ)
+    → losses-here-lts.Need-loop-again (losses-here-claims t) (losses-here-at t) losses-here.Post
+    losses-here-Inv-loop losses-here-μ-loop
+losses-here-loop-again t c =
+    let m = c .before in
+    let l = m .before .before in
+    let s = enter t (l .before) in
+    let a = s .args in
+    let p = s .pre .1 in
+    let f : List ℕ → ℕ = λ (x : List ℕ). stateOf (a .shape) (ownLeft (a .l) (a .y .now) (a .heavy) x (a .j + 1)) in
+    let v = l .loop .inv in
+    ⊎-elim
+    (λ w. rw (w .5, w .6) (grown-turn (p .1 .0) f (l .loop .to) (λ x sent u e. (u, e)) v (w .2 .ensures)))
+    (λ w. rw (w .1, w .2)
+    (grown-turn (p .1 .0) f (l .loop .to)
+    (λ x sent u e. comes-marked (u .1) (a .j + 1) (l .loop .to) (m .mark-at .result) (omega (arith, p .1 .1 .1 .0))
+    (m .mark-at .ensures) (w .0 .left) e)
+    v (grown-nothing (grown-holding (p .1 .0) v) {P = λ x. ⊥} (λ x sent n. n))))
+    (c .if1 .came)
+
+losses-here-same-length : (t : ℕ)
+    → losses-here-lts.Need-same-length (losses-here-claims t) (losses-here-at t) losses-here.Post
+    losses-here-Inv-loop losses-here-μ-loop
+losses-here-same-length t c = grown-length (enter t (c .before .before) .pre .1 .1 .0) (c .before .loop .inv)
+
+losses-here-returns : (t : ℕ)
+    → losses-here-lts.Need-returns (losses-here-claims t) (losses-here-at t) losses-here.Post
+    losses-here-Inv-loop losses-here-μ-loop
+losses-here-returns t c =
+    let n = c .before .before .number-of .ensures in
+    grown-weaken (λ x sent u. (u .0, omega (arith, u .1, n, c .loop-test .left))) (c .before .loop .inv)
+
+-- the place where what is left in the lower state is known, and the function's entry seen from there
+abbrev Lower : ℕ → Type 0
+Lower t = losses-to-lts.After-losses-left (losses-to-claims t) (losses-to-at t) losses-to.Post
+
+abbrev begin : (t : ℕ) → Lower t → losses-to-lts.Start (losses-to-claims t) (losses-to-at t) losses-to.Post
+begin t c = c .before .before .before .before .before .before .before .before .before .before
+
+-- a row at that state after the column has so much left
+own-next : (t : ℕ) (c : Lower t) → let a = begin t c .args in (x : List ℕ)
+    → UnderMarks (a .l) (a .y .now) (a .numbers .now) (a .heavy) (a .shape) (a .known .now) (a .marks .now) (a .z .now)
+    (a .differ) (a .j) (a .t) x × (stateOf (a .shape) (ownLeft (a .l) (a .y .now) (a .heavy) x (a .j + 1)) ≡ a .to)
+    → (s : ℕ) → s < a .heavy .n → ownLeft (a .l) (a .y .now) (a .heavy) x (a .j + 1) s ≡ each (c .losses-left .result) s
+own-next t c x u =
+    let a = begin t c .args in
+    let p = begin t c .pre .1 .0 in
+    own-left (u .0 .1) (p .1 .1 .1 .1 .0) (a .j + 1) (a .to) (c .losses-left .result) (omega (arith, p .1 .1 .1 .0))
+    (c .losses-left .ensures) (u .1)
+
+-- the number of chunks that a row can differ in so far stays low
+apart-low : (t : ℕ) (c : losses-to-lts.After-wide (losses-to-claims t) (losses-to-at t) losses-to.Post)
+    → begin t (c .before .before .before) .args .differ + (c .wide .result - 1) ≤ 4000
+apart-low t c =
+    let s = begin t (c .before .before .before) in
+    let p = s .pre .1 .0 in
+    let size = sizes (s .args .l) (legal-bounds (s .args .l) (p .0 .is-legal)) in
+    let crossing = c .before .before .crossing .ensures .1 in
+    omega (arith, size .l2-high, p .1 .1 .1 .0, p .1 .1 .1 .1 .1 .0 .small, c .wide .ensures, crossing)
+
+losses-to-losses-left-requires : (t : ℕ)
+    → losses-to-lts.Need-losses-left-requires (losses-to-claims t) (losses-to-at t) losses-to.Post
+losses-to-losses-left-requires t c κs =
+    let p = c .before .before .before .before .before .before .before .before .before .pre .1 .0 in
+    let of = p .1 .1 .1 .1 .0 in
+    (omega (arith, of .blocks, p .1 .1 .0 .few), of .shaped)
+
+losses-to-crossing-requires : (t : ℕ)
+    → losses-to-lts.Need-crossing-requires (losses-to-claims t) (losses-to-at t) losses-to.Post
+losses-to-crossing-requires t c κs =
+    let p = begin t c .pre .1 .0 in
+    let k = p .1 .1 .1 .1 .1 .0 in
+    (fits (p .0) (p .1 .1 .0), (k .tables, (p .1 .1 .1 .0, (k .sums, k .others))))
+
+losses-to-returns : (t : ℕ)
+    → losses-to-lts.Need-returns (losses-to-claims t) (losses-to-at t) losses-to.Post
+losses-to-returns t c =
+    let n = c .before .before in
+    let p = begin t n .pre .1 .0 in
+    grown-nothing (p .1 .0)
+    (λ x sent u.
+    omega (arith, crossed (p .1 .1 .1 .0) (u .0) (own-next t n x u) (c .before .crossing .ensures .0), c .if1 .taken))
+
+losses-to-wide-requires : (t : ℕ)
+    → losses-to-lts.Need-wide-requires (losses-to-claims t) (losses-to-at t) losses-to.Post
+losses-to-wide-requires t c κs = search needs
+
+losses-to-sub-apart : (t : ℕ)
+    → losses-to-lts.Need-sub-apart (losses-to-claims t) (losses-to-at t) losses-to.Post
+losses-to-sub-apart t c = omega (arith, c .wide .ensures, c .before .if1 .left)
+
+losses-to-add-apart : (t : ℕ)
+    → losses-to-lts.Need-add-apart (losses-to-claims t) (losses-to-at t) losses-to.Post
+losses-to-add-apart t c = omega (arith, apart-low t c)
+
+losses-to-hopeful-requires : (t : ℕ)
+    → losses-to-lts.Need-hopeful-requires (losses-to-claims t) (losses-to-at t) losses-to.Post
+losses-to-hopeful-requires t c κs = apart-low t c
+
+losses-to-returns-2 : (t : ℕ)
+    → losses-to-lts.Need-returns-2 (losses-to-claims t) (losses-to-at t) losses-to.Post
+losses-to-returns-2 t c =
+    let w = c .before .before in
+    let f = w .before .before in
+    let n = f .before in
+    let s = begin t n in
+    let a = s .args in
+    let p = s .pre .1 .0 in
+    let add : f .crossing .result ≤ w .wide .result - 1 + 1 = omega (arith, w .wide .ensures, w .before .if1 .left) in
+    grown-none (p .1 .0)
+    (λ x sent u.
+    let own = own-next t n x u in
+    let next = comes-next (p .1 .1 .1 .0) (u .0) own (f .crossing .ensures .0) (w .wide .result - 1) add in
+    p .1 .1 .1 .1 .1 .1 x sent
+    (comes-near next (a .mark) (a .room) (omega (arith, p .1 .1 .1 .0))
+    (subst (λ (v : ℕ). IsMark (a .shape) (a .marks .now) (a .j + 1) v (a .mark)) (sym (u .1)) (s .pre .1 .1 .1))
+    (λ m k. c .before .hopeful .ensures m (not-true _ (c .if2 .taken)) k)))
+
+losses-to-step-requires : (t : ℕ)
+    → losses-to-lts.Need-step-requires (losses-to-claims t) (losses-to-at t) losses-to.Post
+losses-to-step-requires t c κs =
+    let p = begin t (c .before .before .before .before .before) .pre .1 .0 in
+    (p .0 .is-legal, (p .0 .bits, (p .0 .short, (p .1 .1 .0, p .1 .1 .1 .0))))
+
+losses-to-returns-3 : (t : ℕ)
+    → losses-to-lts.Need-returns-3 (losses-to-claims t) (losses-to-at t) losses-to.Post
+losses-to-returns-3 t c =
+    let q = c .before .before in
+    let n = q .before .before .before .before .before .before in
+    let p = begin t n .pre .1 .0 in
+    grown-nothing (p .1 .0)
+    (λ x sent u.
+    false≢true (sym (not-true _ (c .if3 .taken)) ∙ q .step .ensures .under x (sent .0) (u .0 .0) (own-next t n x u) .0))
+
+losses-to-add-columns : (t : ℕ)
+    → losses-to-lts.Need-add-columns (losses-to-claims t) (losses-to-at t) losses-to.Post
+losses-to-add-columns t c =
+    let s = begin t (c .before .before .before .before .before .before .before .before) in
+    let size = sizes (s .args .l) (legal-bounds (s .args .l) (s .pre .1 .0 .0 .is-legal)) in
+    omega (arith, size .l2-high, s .pre .1 .0 .1 .1 .1 .0)
+
+losses-to-columns-requires : (t : ℕ)
+    → losses-to-lts.Need-columns-requires (losses-to-claims t) (losses-to-at t) losses-to.Post
+losses-to-columns-requires t c κs =
+    let e = c .before in
+    let q = e .before .before in
+    let w = q .before .before .before in
+    let f = w .before .before in
+    let n = f .before in
+    let s = begin t n in
+    let p = s .pre .1 .0 in
+    let of = p .1 .1 .1 .1 .0 in
+    let went = not-false _ (e .if3 .left) in
+    let stepped = q .step .ensures in
+    let lower = left-state (n .losses-left .result) (s .args .to) of (s .pre .1 .1 .0) (n .losses-left .ensures) in
+    let few : w .wide .result - 1 ≤ 6 = omega (arith, w .wide .ensures, f .crossing .ensures .1) in
+    let inside : s .args .j + 1 ≤ s .args .l .l2 = omega (arith, p .1 .1 .1 .0) in
+    let shaped = shape-next stepped went of (lower .1) in
+    let looked = looked-next few (p .1 .1 .1 .1 .1 .0) in (
+      omega (arith, s .pre .0, state-next stepped went of, lower .0, s .pre .1 .1 .0),
+      (p .0, (p .1 .0, (stepped .sound, (inside, (shaped, (looked, p .1 .1 .1 .1 .1 .1)))))),
+    )
+
+losses-to-same-length : (t : ℕ)
+    → losses-to-lts.Need-same-length (losses-to-claims t) (losses-to-at t) losses-to.Post
+losses-to-same-length t c = search needs
+
+losses-to-returns-4 : (t : ℕ)
+    → losses-to-lts.Need-returns-4 (losses-to-claims t) (losses-to-at t) losses-to.Post
+losses-to-returns-4 t c =
+    let d = c .before .before in
+    let q = d .before .before .before .before in
+    let w = q .before .before .before in
+    let f = w .before .before in
+    let n = f .before in
+    let p = begin t n .pre .1 .0 in
+    let add : f .crossing .result ≤ w .wide .result - 1 + 1 = omega (arith, w .wide .ensures, w .before .if1 .left) in
+    grown-weaken
+    (λ x sent u.
+    under-next (p .1 .1 .1 .0) (u .0) (own-next t n x u) (f .crossing .ensures .0) (w .wide .result - 1) add (sent .0)
+    (q .step .ensures) .1)
+    (d .columns .ensures)
+
+pub +columns+losses-here+losses-to-spec : {M : Type 1} → statement M
++columns+losses-here+losses-to-spec =
+    close μ-columns μ-losses-here μ-losses-to (λ t. columns-lts.spec (columns-claims t) (columns-at t)
+    columns.Post
+    columns-Inv-loop
+    columns-μ-loop
+    (columns-loop-holds t)
+    (columns-number-of-requires t)
+    (columns-mark-at-requires t)
+    (columns-hopeful-requires t)
+    (columns-same-length t)
+    (columns-returns t)
+    (columns-losses-here-requires t)
+    (columns-crossing-requires t)
+    (columns-same-length-2 t)
+    (columns-returns-2 t)
+    (columns-step-requires t)
+    (columns-same-length-3 t)
+    (columns-returns-3 t)
+    (columns-wide-requires t)
+    (columns-sub-apart t)
+    (columns-add-apart t)
+    (columns-add-c t)
+    (columns-loop-less t)
+    (columns-loop-again t)
+    (columns-mend-table-requires t)
+    (columns-same-length-4 t)
+    (columns-returns-4 t))
+    (λ t. losses-here-lts.spec (losses-here-claims t) (losses-here-at t)
+    losses-here.Post
+    losses-here-Inv-loop
+    losses-here-μ-loop
+    (losses-here-number-of-requires t)
+    (losses-here-loop-holds t)
+    (losses-here-add-mark-at t)
+    (losses-here-mark-at-requires t)
+    (losses-here-losses-to-requires t)
+    (losses-here-add-to t)
+    (losses-here-loop-less t)
+    (losses-here-loop-again t)
+    (losses-here-same-length t)
+    (losses-here-returns t))
+    λ t. losses-to-lts.spec (losses-to-claims t) (losses-to-at t)
+    losses-to.Post
+    (losses-to-losses-left-requires t)
+    (losses-to-crossing-requires t)
+    (losses-to-returns t)
+    (losses-to-wide-requires t)
+    (losses-to-sub-apart t)
+    (losses-to-add-apart t)
+    (losses-to-hopeful-requires t)
+    (losses-to-returns-2 t)
+    (losses-to-step-requires t)
+    (losses-to-returns-3 t)
+    (losses-to-add-columns t)
+    (losses-to-columns-requires t)
+    (losses-to-same-length t)
+    (losses-to-returns-4 t)

@@ -1,0 +1,278 @@
+-- Rows that come through marked loss states, from one column to the next: what a row has left is what its table has
+-- left, a mark of its state covers what it can still differ in, and a column that it crosses takes it on. Rests on the
+-- laws of states. Assumes nothing.
+use Prim.Native.Nat.{ℕ, zero, suc, _+_, _-_, _*_, _/_, _%_, _<_, _≤_}
+use mathlib.Core.Path.{_≡_, refl, sym, ap, subst, _∙_}
+use mathlib.Core.Bool.{Bool, true}
+use mathlib.Core.Logic.{_⊎_, inl, inr, ⊎-elim}
+use mathlib.Core.List.{List}
+use native.Mathlib.Nat.{div-add-mod', div-div-eq-div-mul, div-eq-of-lt, mod-lt, div-one, mul-comm}
+use native.Mathlib.Omega.{arith}
+use lib.ListN.{length, getD}
+use Rattle.bits.proofs.Laws.{lt-or-ge}
+use Rattle.rows.specs.Held.{Held, Known}
+use Rattle.rows.specs.Order.{Row}
+use Rattle.rows.specs.Slice.{rowsIn}
+use Rattle.rows.proofs.Held.{known-stays}
+use Rattle.message.specs.Layout.{rowBits}
+use Rattle.message.specs.declared.Layout.{Layout}
+use Rattle.message.proofs.Legal.{legal-bounds, sizes}
+use Rattle.lines.specs.Lines.{values}
+use Rattle.found.specs.Found.{Given, Holding, Grown}
+use Rattle.found.proofs.Found.{grown-rows}
+use Rattle.states.specs.States.{stride, state, each}
+use Rattle.states.specs.declared.Shape.{Shape}
+use Rattle.states.proofs.States.{state-low, state-same, state-up, state-only}
+use Rattle.column.specs.Column.{Fit, Light, Crosses, apartIn}
+use Rattle.column.specs.declared.Heavy.{Heavy}
+use Rattle.live.specs.Live.{Covers, Path, apartBefore, apartFrom}
+use Rattle.tables.specs.Tables.{Sound, Under, ownLeft, ShapeOf, stateOf, IsMark, Looked, apart, NearKnown, Comes}
+use Rattle.tables.specs.Tables.{UnderMarks, Stepped}
+use Rattle.tables.specs.declared.Table.{Table}
+use Rattle.tables.proofs.Making.{reached-not}
+
+-- what a column is looked at with
+pub fits : {l : Layout} {numbers y : List ℕ} {heavy : Heavy} {t : Table} → Given l numbers y
+    → Sound l (length y) heavy t → Fit l y numbers heavy
+fits {l} given sound =
+    record {
+      allowed = given .is-legal;
+      bits = given .bits;
+      short = omega (arith, given .short, sizes l (legal-bounds l (given .is-legal)) .row);
+      sums = omega (arith, given .count);
+      low = λ j h. omega (arith, given .strings j h, mul-comm (l .nc) (l .l1));
+      few = sound .few;
+      inside = sound .inside;
+      ascending = sound .ascending;
+    }
+
+-- a table at the start of a column has as much left as the rows under it
+pub left-own : {l : Layout} {y : List ℕ} {heavy : Heavy} {j : ℕ} {t : Table} {x : List ℕ} → Under l y heavy j 0 t x
+    → (s : ℕ) → s < heavy .n → ownLeft l y heavy x j s ≡ getD (t .left) s 0
+left-own {j = j} u s h = omega (arith, rw (reached-not j 0 s (omega arith)) at (u .shifts s h))
+
+-- rows that are known stay so while the rows held grow
+pub near-stays : {l : Layout} {numbers y : List ℕ} {cap : ℕ} {P : List ℕ → Type 0} {entry exit : List ℕ} {c d : ℕ}
+    {m o : Bool} (z : List ℕ) (room : ℕ) → Holding l numbers y cap entry c m
+    → Grown l numbers y cap P entry c m exit d o → NearKnown l numbers y (rowsIn (rowBits l) entry c m) z room
+    → NearKnown l numbers y (rowsIn (rowBits l) exit d o) z room
+near-stays z room h g near x sent few =
+    subst (λ (s : Held). Known s x) (sym (grown-rows h g)) (known-stays (h .well) (g .found) x (near x sent few))
+
+-- ---- numbers and their states
+-- the number of the state whose digits are those of q, and what is above them
+state-digits : (size : ℕ → ℕ) (q n : ℕ)
+    → state size (λ s. q / stride size s % (size s + 1)) n + q / stride size n * stride size n ≡ q
+unfolding state stride
+state-digits size q zero = omega (arith, div-one q)
+state-digits size q (suc n) =
+    let a = stride size n in
+    let b = size n + 1 in
+    let m = q / a in
+    let up : q / (a * b) ≡ m / b = sym (div-div-eq-div-mul q a b) in
+    let own : m / b * b * a + m % b * a ≡ m * a = split (m / b * b) (m % b) m a (div-add-mod' m b) in
+    let high : m / b * (a * b) ≡ m / b * b * a = regroup (m / b) a b in
+    rw up (omega (arith, state-digits size q n, own, high))
+  where
+    split : (u v m a : ℕ) → u + v ≡ m → u * a + v * a ≡ m * a
+    split u v m a e = rw (← e) (omega arith)
+
+    regroup : (m a b : ℕ) → m * (a * b) ≡ m * b * a
+    regroup m a b = omega arith
+
+-- so much is left in the state with this number
+abbrev pub IsLeft : Shape → (to : ℕ) (next : List ℕ) → Type 0
+IsLeft shape to next =
+    (own : ℕ → ℕ) → ((s : ℕ) → s < shape .n → own s ≤ each (shape .size) s) → to ≡ stateOf shape own
+    → (s : ℕ) → s < shape .n → getD next s 0 ≡ own s
+
+-- what is left in a state below one of the shape is a state of the shape, with this number
+pub left-state : {heavy : Heavy} {shape : Shape} {left : List ℕ} (next : List ℕ) (to : ℕ) → ShapeOf heavy shape left
+    → to < stateOf shape (each left) → IsLeft shape to next
+    → (stateOf shape (each next) ≡ to) × ((s : ℕ) → s < shape .n → getD next s 0 ≤ each (shape .size) s)
+left-state {shape = shape} {left} next to of low is =
+    (state-same size (each next) own (shape .n) same ∙ number, λ s h. rw (same s h) (most s h))
+  where
+    size : ℕ → ℕ
+    size = each (shape .size)
+
+    own : ℕ → ℕ
+    own s = to / stride size s % (size s + 1)
+
+    below : to < stride size (shape .n)
+    below = omega (arith, low, state-low size (each left) (shape .n) (of .within))
+
+    number : state size own (shape .n) ≡ to
+    number =
+        let z : to / stride size (shape .n) ≡ 0 = div-eq-of-lt below in
+        omega (arith, rw z at (state-digits size to (shape .n)))
+
+    most : (s : ℕ) → s < shape .n → own s ≤ size s
+    most s h = omega (arith, mod-lt (to / stride size s) {m = size s + 1} (omega arith))
+
+    same : (s : ℕ) → s < shape .n → getD next s 0 ≡ own s
+    same = is own most (sym number)
+
+-- ---- chunks of the heavy blocks from a column on
+before-up : (l : Layout) (heavy : Heavy) (z vs : List ℕ) (j k : ℕ)
+    → apartBefore l heavy z vs j ≤ apartBefore l heavy z vs (j + k)
+unfolding apartBefore
+before-up l heavy z vs j zero = let e : j + 0 ≡ j = omega arith in rw e (omega arith)
+before-up l heavy z vs j (suc k) =
+    let e : j + suc k ≡ suc (j + k) = omega arith in
+    rw e (omega (arith, before-up l heavy z vs j k))
+
+-- those of the column itself, and those after it
+apart-next : (l : Layout) (heavy : Heavy) (z vs : List ℕ) (j : ℕ) → j < l .l2
+    → apartFrom l heavy z vs j ≡ apartIn l heavy z vs j (heavy .n) + apartFrom l heavy z vs (j + 1)
+apart-next l heavy z vs j h =
+    let e : j + 1 + (l .l2 - (j + 1)) ≡ l .l2 = omega arith in
+    omega (arith, next, rw e at (before-up l heavy z vs (j + 1) (l .l2 - (j + 1))))
+  where
+    next : apartBefore l heavy z vs (j + 1) ≡ apartBefore l heavy z vs j + apartIn l heavy z vs j (heavy .n)
+    next =
+        let e : j + 1 ≡ suc j = omega arith in
+        ap (apartBefore l heavy z vs) e ∙ (unfold apartBefore in refl)
+
+-- ---- a row crosses a column: this depends on what the heavy blocks have left alone
+crosses-same : {l : Layout} {y numbers : List ℕ} {heavy : Heavy} {row : List ℕ} {j : ℕ} {a b left next : ℕ → ℕ}
+    {vs : List ℕ} → ((s : ℕ) → s < heavy .n → a s ≡ left s) → ((s : ℕ) → s < heavy .n → b s ≡ next s)
+    → Crosses l y numbers heavy row j a b vs → Crosses l y numbers heavy row j left next vs
+crosses-same ha hb c =
+    record {
+      falls = λ s h. omega (arith, ha s h, hb s h, c .falls s h);
+      few = λ s h. omega (arith, ha s h, hb s h, c .few s h);
+      starts = λ s h. omega (arith, ha s h, c .starts s h);
+      there = λ s h. omega (arith, ha s h, hb s h, c .there s h);
+      small = c .small;
+      loses = λ s h. rw (← ha s h, ← hb s h) (c .loses s h);
+      others = c .others;
+      has-sum = c .has-sum;
+    }
+
+-- ---- what a row that comes through loss states has left
+module _ {l : Layout} {y numbers : List ℕ} {heavy : Heavy} {row : List ℕ} {size : ℕ → ℕ} {vs : List ℕ} {own : ℕ → ℕ → ℕ}
+    (path : Path l y numbers heavy row size vs own) where
+  path-most : (j s : ℕ) → j ≤ l .l2 → s < heavy .n → own j s ≤ size s
+  path-most zero s h k = omega (arith, path .starts s k)
+  path-most (suc j) s h k =
+      let e : j + 1 ≡ suc j = omega arith in
+      omega (arith, path-most j s (omega arith) k, rw e at (path .crosses j (omega arith) .falls s k))
+
+-- ---- a row under a table at the start of a column
+module _ {l : Layout} {y numbers : List ℕ} {heavy : Heavy} {shape : Shape} {known marks z : List ℕ} {differ j : ℕ}
+    {x : List ℕ} (comes : Comes l y numbers heavy shape known marks z differ j x) where
+  -- a mark of its state in a column covers what it can still differ in
+  pub comes-covered : (k mark : ℕ) → k ≤ l .l2 → IsMark shape marks k (stateOf shape (ownLeft l y heavy x k)) mark
+      → Covers mark (apartFrom l heavy z (values l x) k)
+  comes-covered k mark h (inl e) = (omega arith, inr (omega arith))
+  comes-covered k mark h (inr e) = rw (e .1) (comes .through k h (e .0))
+
+  -- so it is not zero
+  pub comes-marked : (k to mark : ℕ) → k ≤ l .l2 → IsMark shape marks k to mark → mark ≡ 0
+      → stateOf shape (ownLeft l y heavy x k) ≡ to → ⊥
+  comes-marked k to mark h is none e =
+      omega (arith, none, comes-covered k mark h (subst (λ (v : ℕ). IsMark shape marks k v mark) (sym e) is) .0)
+
+  -- where that is too little, the row is near
+  pub comes-near : (mark room : ℕ) → j ≤ l .l2 → IsMark shape marks j (stateOf shape (ownLeft l y heavy x j)) mark
+      → ((n : ℕ) → Covers mark n → differ + n < room) → apart l z x < room
+  comes-near mark room h is low =
+      omega (arith, comes .within, low (apartFrom l heavy z (values l x) j) (comes-covered j mark h is))
+
+  -- it never has more left than at first
+  pub comes-most : (k s : ℕ) → k ≤ l .l2 → s < heavy .n → ownLeft l y heavy x k s ≤ each (shape .size) s
+  comes-most k s h i = path-most (comes .path) k s h i
+
+  -- what it has left in a column is what is left in its state
+  pub own-left : {left : List ℕ} → ShapeOf heavy shape left → (k to : ℕ) (next : List ℕ) → k ≤ l .l2
+      → IsLeft shape to next → stateOf shape (ownLeft l y heavy x k) ≡ to → (s : ℕ) → s < heavy .n
+      → ownLeft l y heavy x k s ≡ each next s
+  own-left of k to next h is e s i =
+      sym
+      (is (ownLeft l y heavy x k) (λ r g. comes-most k r h (omega (arith, of .blocks))) (sym e) s
+      (omega (arith, of .blocks)))
+
+module _ {l : Layout} {y numbers : List ℕ} {heavy : Heavy} {shape : Shape} {known marks z : List ℕ} {differ j : ℕ}
+    {t : Table} {x : List ℕ} (column : j < l .l2)
+    (u : UnderMarks l y numbers heavy shape known marks z differ j t x) where
+  -- the row loses a bit in the column, or has as much left after it
+  pub loses-or-not : {left : List ℕ} → ShapeOf heavy shape left
+      → (stateOf shape (ownLeft l y heavy x (j + 1)) < stateOf shape (each (t .left)))
+      ⊎ ((s : ℕ) → s < heavy .n → ownLeft l y heavy x (j + 1) s ≡ each (t .left) s)
+  loses-or-not of =
+      ⊎-elim inl (λ h. inr (λ s k. same h s (omega (arith, of .blocks))))
+      (lt-or-ge (stateOf shape (own (j + 1))) (stateOf shape (each (t .left))))
+    where
+      own : ℕ → ℕ → ℕ
+      own = ownLeft l y heavy x
+
+      size : ℕ → ℕ
+      size = each (shape .size)
+
+      here : (s : ℕ) → s < shape .n → own j s ≡ each (t .left) s
+      here s k = left-own (u .0) s (omega (arith, of .blocks))
+
+      up : stateOf shape (own (j + 1)) ≤ stateOf shape (each (t .left))
+      up =
+          state-up size (own (j + 1)) (each (t .left)) (shape .n)
+          (λ s k. omega (arith, here s k, u .1 .path .crosses j column .falls s (omega (arith, of .blocks))))
+
+      same : stateOf shape (each (t .left)) ≤ stateOf shape (own (j + 1)) → (s : ℕ) → s < shape .n
+          → own (j + 1) s ≡ each (t .left) s
+      same h =
+          state-only size (own (j + 1)) (each (t .left)) (shape .n)
+          (λ s k. comes-most (u .1) (j + 1) s (omega arith) (omega (arith, of .blocks)))
+          (λ s k. rw (← here s k) (comes-most (u .1) j s (omega arith) (omega (arith, of .blocks))))
+          (omega (arith, up, h))
+
+  -- it crosses the column to what it has left after it
+  module _ {next : ℕ → ℕ} (own : (s : ℕ) → s < heavy .n → ownLeft l y heavy x (j + 1) s ≡ next s) {r : ℕ}
+      (crossing : (row vs : List ℕ) → Light l heavy row known → Crosses l y numbers heavy row j (each (t .left)) next vs
+      → apartIn l heavy z vs j (heavy .n) < r) where
+    pub crossed : apartIn l heavy z (values l x) j (heavy .n) < r
+    crossed =
+        crossing (u .1 .row) (values l x) (u .1 .light)
+        (crosses-same (left-own (u .0)) own (u .1 .path .crosses j column))
+
+    -- and comes on
+    module _ (more : ℕ) (add : r ≤ more + 1) where
+      pub comes-next : Comes l y numbers heavy shape known marks z (differ + more) (j + 1) x
+      comes-next =
+          record {
+            row = u .1 .row;
+            light = u .1 .light;
+            path = u .1 .path;
+            through = u .1 .through;
+            within = omega (arith, u .1 .within, apart-next l heavy z (values l x) j column, crossed);
+          }
+
+      pub under-next : {ok : Bool} {new : Table} → Row (rowBits l) x → Stepped l y heavy j next t ok new
+          → (ok ≡ true) × UnderMarks l y numbers heavy shape known marks z (differ + more) (j + 1) new x
+      under-next row stepped = let n = stepped .under x row (u .0) own in (n .0, (n .1, comes-next))
+
+-- ---- the table after a column
+module _ {l : Layout} {y : List ℕ} {heavy : Heavy} {j : ℕ} {next : ℕ → ℕ} {t : Table} {ok : Bool} {new : Table}
+    {shape : Shape} (stepped : Stepped l y heavy j next t ok new) (went : ok ≡ true) {left : List ℕ}
+    (of : ShapeOf heavy shape left) where
+  has-left : (s : ℕ) → s < shape .n → each (new .left) s ≡ next s
+  has-left s h = stepped .has-left went s (omega (arith, of .blocks))
+
+  -- it has a state of the shape again, the one that was asked for
+  pub shape-next : ((s : ℕ) → s < shape .n → next s ≤ each (shape .size) s) → ShapeOf heavy shape (new .left)
+  shape-next most =
+      record { blocks = of .blocks; shaped = of .shaped; within = λ s h. rw (has-left s h) (most s h) }
+
+  pub state-next : stateOf shape (each (new .left)) ≡ stateOf shape next
+  state-next = state-same (each (shape .size)) (each (new .left)) next (shape .n) has-left
+
+-- and the next column can be looked at
+pub looked-next : {l : Layout} {y totals counts known z : List ℕ} {differ j more : ℕ} → more ≤ 6
+    → Looked l y totals counts known z differ j → Looked l y totals counts known z (differ + more) (j + 1)
+looked-next few looked =
+    record {
+      tables = looked .tables;
+      sums = looked .sums;
+      others = looked .others;
+      small = omega (arith, looked .small);
+    }

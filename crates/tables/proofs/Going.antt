@@ -1,0 +1,126 @@
+-- Going from column to column: the rows that lose a bit in a column are looked for there, and the others are those
+-- under the table after it. So what finds the rows under the table in hand finds, with what was found before, those
+-- under the first. Rests on the laws of steps (found). Assumes nothing.
+use Prim.Native.Nat.{ℕ, _+_, _<_, _≤_}
+use mathlib.Core.Path.{_≡_, sym, subst, _∙_}
+use mathlib.Core.Bool.{Bool, true, false, false≢true}
+use mathlib.Core.Logic.{inl, inr, ⊎-elim}
+use mathlib.Core.List.{List}
+use native.Mathlib.Omega.{arith}
+use lib.ListN.{length}
+use Rattle.rows.specs.Slice.{rowsIn}
+use Rattle.message.specs.Layout.{rowBits}
+use Rattle.message.specs.declared.Layout.{Layout}
+use Rattle.found.specs.Found.{Sent, Holding, Grown}
+use Rattle.found.proofs.Found.{grown-length, grown-holding, grown-none, grown-nothing, grown-then, grown-weaken}
+use Rattle.states.specs.States.{each}
+use Rattle.states.specs.declared.Shape.{Shape}
+use Rattle.states.proofs.States.{state-same}
+use Rattle.column.specs.Column.{Light, Crosses, apartIn}
+use Rattle.column.specs.declared.Heavy.{Heavy}
+use Rattle.live.specs.Live.{Covers}
+use Rattle.tables.specs.Tables.{Sound, Whole, ownLeft, ShapeOf, stateOf, IsMark, Looked, NearKnown, UnderMarks}
+use Rattle.tables.specs.Tables.{Stepped}
+use Rattle.tables.specs.declared.Table.{Table}
+use Rattle.tables.proofs.Making.{whole}
+use Rattle.tables.proofs.Coming.{left-own, near-stays, comes-near, loses-or-not, crossed, under-next}
+use Rattle.tables.proofs.Coming.{shape-next, state-next, looked-next}
+
+-- in column c with the table now: what finds the rows under it, from the list slice as it is, finds those of P from the
+-- start
+pub record Going (l : Layout) (y totals counts numbers : List ℕ) (heavy : Heavy) (shape : Shape)
+    (known marks z : List ℕ) (room cap : ℕ) (P : List ℕ → Type 0) (entry : List ℕ) (d : ℕ) (m : Bool) (top : ℕ)
+    (list : List ℕ) (now : Table) (apart e : ℕ) (o : Bool) (c : ℕ) : Type 0 where
+  pub inside : c ≤ l .l2
+  pub holding : Holding l numbers y cap list e o
+  pub long : length list ≡ length entry
+  pub sound : Sound l (length y) heavy now
+  pub shaped : ShapeOf heavy shape (now .left)
+  pub at-top : stateOf shape (each (now .left)) ≡ top
+  pub looked : Looked l y totals counts known z apart c
+  pub near : NearKnown l numbers y (rowsIn (rowBits l) list e o) z room
+  pub joins : (exit : List ℕ) (f : ℕ) (q : Bool)
+      → Grown l numbers y cap (UnderMarks l y numbers heavy shape known marks z apart c now) list e o exit f q
+      → Grown l numbers y cap P entry d m exit f q
+
+module _ {l : Layout} {y totals counts numbers : List ℕ} {heavy : Heavy} {shape : Shape} {known marks z : List ℕ}
+    {room cap : ℕ} {P : List ℕ → Type 0} {entry : List ℕ} {d : ℕ} {m : Bool} {top : ℕ} {list : List ℕ} {now : Table}
+    {apart e : ℕ} {o : Bool} {c : ℕ}
+    (going : Going l y totals counts numbers heavy shape known marks z room cap P entry d m top list now apart e o c) where
+  -- the state's mark leaves no room for a row that is not known
+  pub going-near : (mark : ℕ) → IsMark shape marks c (stateOf shape (each (now .left))) mark
+      → ((n : ℕ) → Covers mark n → apart + n < room) → Grown l numbers y cap P entry d m list e o
+  going-near mark is low =
+      going .joins list e o
+      (grown-none (going .holding)
+      (λ x sent u. going .near x sent (comes-near (u .1) mark room (going .inside) (own-mark x u) low)))
+    where
+      own-mark : (x : List ℕ) → UnderMarks l y numbers heavy shape known marks z apart c now x
+          → IsMark shape marks c (stateOf shape (ownLeft l y heavy x c)) mark
+      own-mark x u =
+          let of = going .shaped in
+          subst (λ (v : ℕ). IsMark shape marks c v mark)
+          (sym (state-same (each (shape .size)) (ownLeft l y heavy x c) (each (now .left)) (shape .n)
+          (λ s h. left-own (u .0) s (omega (arith, of .blocks)))))
+          is
+
+  -- after the last column
+  pub going-end : l .l2 ≤ c → {exit : List ℕ} {f : ℕ} {q : Bool}
+      → Grown l numbers y cap (Whole l y now) list e o exit f q → Grown l numbers y cap P entry d m exit f q
+  going-end past {exit} {f} {q} g =
+      let end : c ≡ l .l2 = omega (arith, going .inside) in
+      going .joins exit f q (grown-weaken (λ x sent u. whole (going .sound) (rw end at (u .0))) g)
+
+  -- the rows that lose a bit in the column are found
+  module _ (column : c < l .l2) {mid : List ℕ} {f : ℕ} {q : Bool}
+      (g : Grown l numbers y cap (λ x. UnderMarks l y numbers heavy shape known marks z apart c now x
+      × (stateOf shape (ownLeft l y heavy x (c + 1)) < stateOf shape (each (now .left)))) list e o mid f q) {r : ℕ}
+      (crossing : (row vs : List ℕ) → Light l heavy row known
+      → Crosses l y numbers heavy row c (each (now .left)) (each (now .left)) vs
+      → apartIn l heavy z vs c (heavy .n) < r) where
+    -- the others, those that have as much left after it
+    abbrev Stays : List ℕ → Type 0
+    Stays x =
+        UnderMarks l y numbers heavy shape known marks z apart c now x
+        × ((s : ℕ) → s < heavy .n → ownLeft l y heavy x (c + 1) s ≡ each (now .left) s)
+
+    joined : {exit : List ℕ} {h : ℕ} {p : Bool} → Grown l numbers y cap Stays mid f q exit h p
+        → Grown l numbers y cap P entry d m exit h p
+    joined {exit} {h} {p} k =
+        going .joins exit h p
+        (grown-weaken
+        (λ x sent u. ⊎-elim (λ lower. inl (u, lower)) (λ same. inr (u, same)) (loses-or-not column u (going .shaped)))
+        (grown-then (going .holding) g k))
+
+    -- there are none
+    pub going-lost : ((x : List ℕ) → Sent l numbers y x → Stays x → ⊥) → Grown l numbers y cap P entry d m mid f q
+    going-lost none = joined (grown-nothing (grown-holding (going .holding) g) none)
+
+    -- none crosses the column
+    pub going-uncrossed : r ≡ 0 → Grown l numbers y cap P entry d m mid f q
+    going-uncrossed z = going-lost (λ x sent u. omega (arith, crossed column (u .0) (u .1) crossing))
+
+    module _ {ok : Bool} {new : Table} (stepped : Stepped l y heavy c (each (now .left)) now ok new) where
+      -- none is read so
+      pub going-unread : ok ≡ false → Grown l numbers y cap P entry d m mid f q
+      going-unread fails =
+          going-lost (λ x sent u. false≢true (sym fails ∙ stepped .under x (sent .0) (u .0 .0) (u .1) .0))
+
+      -- or they are under the next table
+      pub going-next : ok ≡ true → (more : ℕ) → r ≤ more + 1 → more ≤ 6
+          → Going l y totals counts numbers heavy shape known marks z room cap P entry d m top mid new (apart + more)
+          f q (c + 1)
+      going-next went more add few =
+          record {
+            inside = omega arith;
+            holding = grown-holding (going .holding) g;
+            long = grown-length (going .holding) g ∙ going .long;
+            sound = stepped .sound;
+            shaped = shape-next stepped went (going .shaped) (going .shaped .within);
+            at-top = state-next stepped went (going .shaped) ∙ going .at-top;
+            looked = looked-next few (going .looked);
+            near = near-stays z room (going .holding) g (going .near);
+            joins = λ exit h p k.
+                joined
+                (grown-weaken (λ x sent u. under-next column (u .0) (u .1) crossing more add (sent .0) stepped .1) k);
+          }
