@@ -36,13 +36,6 @@ module _ {nc : ℕ} {y : List ℕ} {chunks : Chunks} {vs : ℕ → ℕ} (can : C
   chunk-weighs : Weighs (digits nc (vs s)) (getD (chunks .lost) s 0) (received nc y chunks s)
   chunk-weighs = weighs (strikes (digits nc (vs s)) _ _ (takes .comes)) (bits-digits nc (vs s))
 
-  -- it has at least the ones that it takes, and at most its losses more
-  pub ones-between : (seen : Seen) → SeenIn (received nc y chunks s) (nc - getD (chunks .lost) s 0) seen
-      → (seen .ones ≤ ones (digits nc (vs s))) × (ones (digits nc (vs s)) ≤ seen .ones + getD (chunks .lost) s 0)
-  ones-between seen i =
-      let q = chunk-weighs in
-      (omega (arith, q .count, i .count), omega (arith, q .count, q .all, i .count))
-
   -- with g ones more than it takes, it brings what the wider span allows
   pub wider-holds : (seen : Seen) (g : ℕ) (span wider : Span)
       → SeenIn (received nc y chunks s) (nc - getD (chunks .lost) s 0) seen

@@ -3,7 +3,7 @@
 use Prim.Native.Nat.{ℕ, zero, suc, _+_, _-_, _*_, _^_, _<_, _≤_}
 use mathlib.Core.Path.{_≡_}
 use mathlib.Core.List.{List}
-use lib.ListN.{length, getD, drop}
+use lib.ListN.{length, getD, take, drop}
 use Rattle.bits.specs.Bits.{AllBits, longest, digits}
 use Rattle.vt.specs.Ones.{ones}
 use Rattle.vt.specs.Sum.{total}
@@ -48,6 +48,15 @@ pub record SeenIn (x : List ℕ) (w : ℕ) (seen : Seen) : Type 0 where
   pub positions : seen .total ≡ total 1 x
   pub count-small : seen .ones ≤ w
   pub positions-small : seen .total ≤ w * w
+
+-- a string that takes the next w bits from a place on and loses so many has at least first and at most last ones more than these
+pub record MoreOnes (y : List ℕ) (place w lost first last : ℕ) : Type 0 where
+  pub least : (v : List ℕ) → AllBits v → length v ≡ w + lost → losses v (drop place y) ≡ lost
+      → ones (take w (drop place y)) + first ≤ ones v
+  pub most : (v : List ℕ) → AllBits v → length v ≡ w + lost → losses v (drop place y) ≡ lost
+      → ones v ≤ ones (take w (drop place y)) + last
+  pub few : last ≤ lost
+  pub low : first ≤ lost
 
 -- what the first s of them bring lies, doubled, in a span
 pub record Within (nc : ℕ) (chunks : Chunks) (vs : ℕ → ℕ) (s : ℕ) (span : Span) : Type 0 where

@@ -5,7 +5,7 @@ ghost use Prim.Native.Nat.{ℕ, _+_, _*_, _-_, _%_, _<_, _≤_};
 ghost use lib.ListN.{length, take, drop};
 ghost use Rattle.bits.specs.Bits.{AllBits, longest};
 ghost use Rattle.windows.specs.Windows.{Tables};
-ghost use Rattle.weigh.specs.Weigh.{Can, brought, SeenIn, There, Wider, Within, Weighable};
+ghost use Rattle.weigh.specs.Weigh.{Can, brought, SeenIn, MoreOnes, There, Wider, Within, Weighable};
 
 // The most chunks of a chunk-string that are weighed.
 pub const MOST: usize = 6;
@@ -57,6 +57,39 @@ fn look(y: &[u8], totals: &[u32], counts: &[u16], p: usize, w: usize) -> Seen
         ones: ones,
         total: high - p * ones,
     }
+}
+
+// How many ones more than were received a chunk can have, at least and at most.
+struct Extra {
+    first: usize,
+    last: usize,
+}
+
+// A lost bit is another than the next one received: where the bits received and the next one are all zeros, each lost bit is a one, and
+// where they are all ones, a zero.
+fn more_ones(y: &[u8], totals: &[u32], counts: &[u16], place: usize, w: usize, lost: usize) -> Extra
+    requires { ⌜ AllBits (now y) × ((length (now y) ≤ longest) × (Tables (now y) 0 (now totals) (now counts)
+        × (place + w ≤ length (now y)))) ⌝ }
+    ensures { λ r. ⌜ MoreOnes (now (y .entry)) place w lost (r .first) (r .last) ⌝ }
+{
+    let any = Extra {
+        first: 0,
+        last: lost,
+    };
+    if y.len() <= place + w {
+        return any;
+    }
+    let next = look(y, totals, counts, place, w + 1);
+    if next.ones == 0 {
+        return Extra {
+            first: lost,
+            last: lost,
+        };
+    }
+    if next.ones == w + 1 {
+        return Extra { first: 0, last: 0 };
+    }
+    any
 }
 
 // A span with one chunk more, which has so many positions before it and g ones more than were received: least, the lost
@@ -113,8 +146,10 @@ fn brings(
     }
     let seen = look(y, totals, counts, place, nc - lost);
     let before = chunks.block[s] as usize * nc;
-    let mut g: usize = 0;
-    while g <= lost {
+    let more = more_ones(y, totals, counts, place, nc - lost, lost);
+    let last = more.last;
+    let mut g = more.first;
+    while g <= last {
         let wider = widen(nc, before, lost, seen, g, span);
         if s + 1 == chunks.n {
             if reaches(modulus, need, wider) {

@@ -14,14 +14,16 @@ use lib.ListN.{length, getD}
 use mir.Syntax.{w8}
 use mir.Val.{Fits}
 use Rattle.bits.specs.Bits.{digits}
+use Rattle.bits.proofs.Laws.{bits-digits, length-digits}
 use Rattle.vt.specs.Ones.{ones}
 use Rattle.weigh.specs.Weigh.{Can, brought, There, Within}
-use Rattle.weigh.proofs.Spans.{received, ones-between, wider-holds}
+use Rattle.weigh.proofs.Spans.{received, wider-holds}
 use Rattle.weigh.proofs.brings.Reads as brings
 use Rattle.weigh.proofs.brings.Kinds as brings-kinds
 use Rattle.weigh.proofs.+brings.Lts-brings as brings-lts
 use Rattle.weigh.proofs.is_there.Reads as is-there-reads
 use Rattle.weigh.proofs.look.Reads as look-reads
+use Rattle.weigh.proofs.more_ones.Reads as more-ones-reads
 use Rattle.weigh.proofs.reaches.Reads as reaches-reads
 use Rattle.weigh.proofs.widen.Reads as widen-reads
 use Rattle.weigh.proofs.+brings.{statement}
@@ -37,12 +39,12 @@ abbrev brings-below : ℕ → In 3 brings-kinds.ps
 brings-below t = and 3 brings-kinds.ps (falls 3 brings-kinds.ps _<_ μ-brings t) brings.Pre
 
 abbrev brings-Inv-loop : brings-lts.InvT-loop
-brings-Inv-loop nc modulus y totals counts s need span chunks place lost seen before g₀ g =
+brings-Inv-loop nc modulus y totals counts s need span chunks place lost seen before last g₀ g =
     (g ≤ lost + 1) × ((vs : ℕ → ℕ) → Can nc y chunks vs → Within nc chunks vs s span
     → brought nc chunks vs (chunks .n) % modulus ≡ need → seen .ones + g ≤ ones (digits nc (vs s)))
 
 abbrev brings-μ-loop : brings-lts.MeasureT-loop
-brings-μ-loop nc modulus y totals counts s need span chunks place lost seen before g₀ g = lost + 1 - g
+brings-μ-loop nc modulus y totals counts s need span chunks place lost seen before last g₀ g = lost + 1 - g
 
 -- what the functions that are called promise, this one below its measure
 abbrev called : ℕ → brings-lts.Claims
@@ -51,6 +53,8 @@ called t = (
   is-there-reads.Learnt,
   look-reads.Asked,
   look-reads.Learnt,
+  more-ones-reads.Asked,
+  more-ones-reads.Learnt,
   widen-reads.Asked,
   widen-reads.Learnt,
   reaches-reads.Asked,
@@ -59,7 +63,8 @@ called t = (
   brings.Post,
 )
 
--- places of the code: the entry, where the bits of chunk s are there, where they were looked at, a turn, and its end
+-- places of the code: the entry, where the bits of chunk s are there, where they were looked at, where it is known how many ones more it
+-- can have, a turn, and its end
 abbrev Start : ℕ → Type 0
 Start t = brings-lts.Start (called t) (brings-at t) brings.Post brings-Inv-loop brings-μ-loop
 
@@ -68,6 +73,9 @@ Found t = brings-lts.Else1 (called t) (brings-at t) brings.Post brings-Inv-loop 
 
 abbrev Ready : ℕ → Type 0
 Ready t = brings-lts.After-before2 (called t) (brings-at t) brings.Post brings-Inv-loop brings-μ-loop
+
+abbrev Told : ℕ → Type 0
+Told t = brings-lts.After-more-ones (called t) (brings-at t) brings.Post brings-Inv-loop brings-μ-loop
 
 abbrev Turn : ℕ → Type 0
 Turn t = brings-lts.After-widen (called t) (brings-at t) brings.Post brings-Inv-loop brings-μ-loop
@@ -147,19 +155,42 @@ brings-mul-before : (t : ℕ)
     → brings-lts.Need-mul-before (called t) (brings-at t) brings.Post brings-Inv-loop brings-μ-loop
 brings-mul-before t c = omega (arith, before-small t c)
 
+brings-sub-more-ones : (t : ℕ)
+    → brings-lts.Need-sub-more-ones (called t) (brings-at t) brings.Post brings-Inv-loop brings-μ-loop
+brings-sub-more-ones t c = is-there t (found t c) .0
+
+brings-more-ones-requires : (t : ℕ)
+    → brings-lts.Need-more-ones-requires (called t) (brings-at t) brings.Post brings-Inv-loop brings-μ-loop
+brings-more-ones-requires t c κs =
+    let w = start t (found t c) .pre .1 .0 in
+    let h = is-there t (found t c) in
+    (w .bits, (w .received, (w .tables, omega arith)))
+
+-- the ones of a content of chunk s: between the fewest and the most more than were received
+between : (t : ℕ) (c : Told t) → let a = start t (found t (c .before)) .args in
+    (vs : ℕ → ℕ) → Can (a .nc) (a .y .now) (a .t6) vs → let v = digits (a .nc) (vs (a .s)) in
+    (c .before .before .look .result .ones + c .more-ones .result .first ≤ ones v)
+    × (ones v ≤ c .before .before .look .result .ones + c .more-ones .result .last)
+between t c vs can =
+    let s = start t (found t (c .before)) in
+    let a = s .args in
+    let v = digits (a .nc) (vs (a .s)) in
+    let g = c .more-ones .ensures in
+    let few = is-there t (found t (c .before)) .0 in
+    let n : length v ≡ a .nc - getD (a .t6 .lost) (a .s) 0 + getD (a .t6 .lost) (a .s) 0 = length-digits (a .nc) (vs (a .s)) ∙ omega arith in
+    let b = bits-digits (a .nc) (vs (a .s)) in
+    let e = can .loses (a .s) (s .pre .1 .1 .0) in
+    let i = c .before .before .look .ensures .count in
+    (omega (arith, i, g .least v b n e), omega (arith, i, g .most v b n e))
+
 brings-loop-holds : (t : ℕ)
     → brings-lts.Need-loop-holds (called t) (brings-at t) brings.Post brings-Inv-loop brings-μ-loop
-brings-loop-holds t c =
-    let s = start t (found t c) in
-    let l = c .before .look in (
-      omega arith,
-      λ vs can inside e. omega (arith, ones-between can (s .args .s) (s .pre .1 .1 .0) (l .result) (l .ensures) .0),
-    )
+brings-loop-holds t c = (omega (arith, c .more-ones .ensures .low), λ vs can inside e. between t c vs can .0)
 
 brings-widen-requires : (t : ℕ)
     → brings-lts.Need-widen-requires (called t) (brings-at t) brings.Post brings-Inv-loop brings-μ-loop
 brings-widen-requires t c κs =
-    let r = c .before .before in
+    let r = c .before .before .before in
     let s = start t (found t r) in
     let w = s .pre .1 .0 in
     let p = s .pre .1 .1 in
@@ -169,20 +200,22 @@ brings-widen-requires t c κs =
     let low : r .before .look .result .total ≤ 64 = omega (arith, i .positions-small, mul-le-mul keeps keeps) in (
       (w .short, before-small t r),
       (
-        (omega (arith, i .count-small), (low, c .loop-test .taken)),
+        (omega (arith, i .count-small), (low, omega (arith, c .loop-test .taken, c .before .before .more-ones .ensures .few))),
         (omega (arith, w .most, p), omega (arith, w .most, p)),
       ),
     )
 
 brings-add-if2 : (t : ℕ)
     → brings-lts.Need-add-if2 (called t) (brings-at t) brings.Post brings-Inv-loop brings-μ-loop
-brings-add-if2 t c = search needs
+brings-add-if2 t c =
+    let p = start t (found t (c .before .before .before .before)) .pre .1 in
+    record { fits = omega (arith, p .1 .0, p .0 .most) }
 
 -- the wider span is small
-wider-small : (t : ℕ) (c : Turn t) → let s = start t (found t (c .before .before .before)) in
+wider-small : (t : ℕ) (c : Turn t) → let s = start t (found t (c .before .before .before .before)) in
     (c .widen .result .low ≤ (s .args .s + 1) * 40000) × (c .widen .result .high ≤ (s .args .s + 1) * 40000)
 wider-small t c =
-    let p = start t (found t (c .before .before .before)) .pre .1 .1 in
+    let p = start t (found t (c .before .before .before .before)) .pre .1 .1 in
     let w = c .widen .ensures in
     (omega (arith, w .low-small, p), omega (arith, w .high-small, p))
 
@@ -190,7 +223,7 @@ brings-reaches-requires : (t : ℕ)
     → brings-lts.Need-reaches-requires (called t) (brings-at t) brings.Post brings-Inv-loop brings-μ-loop
 brings-reaches-requires t c κs =
     let q = c .before in
-    let p = start t (found t (q .before .before .before)) .pre .1 in
+    let p = start t (found t (q .before .before .before .before)) .pre .1 in
     (p .0 .below, (p .0 .modulus-high, omega (arith, wider-small t q .0, p .0 .most, p .1 .0)))
 
 brings-returns-2 : (t : ℕ)
@@ -199,13 +232,15 @@ brings-returns-2 t c = λ vs can inside e. refl
 
 brings-add-brings : (t : ℕ)
     → brings-lts.Need-add-brings (called t) (brings-at t) brings.Post brings-Inv-loop brings-μ-loop
-brings-add-brings t c = search needs
+brings-add-brings t c =
+    let p = start t (found t (c .before .before .before .before .before)) .pre .1 in
+    record { fits = omega (arith, p .1 .0, p .0 .most) }
 
 brings-brings-requires : (t : ℕ)
     → brings-lts.Need-brings-requires (called t) (brings-at t) brings.Post brings-Inv-loop brings-μ-loop
 brings-brings-requires t c κs =
     let q = c .before in
-    let s = start t (found t (q .before .before .before)) in
+    let s = start t (found t (q .before .before .before .before)) in
     let p = s .pre .1 in
     let more = c .if2 .left in
     let some = p .1 .0 in
@@ -221,10 +256,11 @@ brings-add-g t c = search needs
 
 brings-loop-less : (t : ℕ)
     → brings-lts.Need-loop-less (called t) (brings-at t) brings.Post brings-Inv-loop brings-μ-loop
-brings-loop-less t c = search needs
+brings-loop-less t c =
+    omega (arith, c .before .before .loop-test .taken, c .before .before .before .before .more-ones .ensures .few)
 
 -- after a turn that found nothing, contents that bring what is needed have not just g ones more
-not-just : (t : ℕ) (c : Turned t) → let q = c .before in let p = q .before .before in let r = p .before in
+not-just : (t : ℕ) (c : Turned t) → let q = c .before in let p = q .before .before in let r = p .before .before in
     let a = start t (found t r) .args in
     (vs : ℕ → ℕ) → Can (a .nc) (a .y .now) (a .t6) vs → Within (a .nc) (a .t6) vs (a .s) (a .span)
     → brought (a .nc) (a .t6) vs (a .t6 .n) % a .modulus ≡ a .need
@@ -232,9 +268,9 @@ not-just : (t : ℕ) (c : Turned t) → let q = c .before in let p = q .before .
 not-just t c vs can inside e just =
     let q = c .before in
     let p = q .before .before in
-    let s = start t (found t (p .before)) in
+    let s = start t (found t (p .before .before)) in
     let a = s .args in
-    let l = p .before .before .look in
+    let l = p .before .before .before .look in
     let far = brought (a .nc) (a .t6) vs (a .s + 1) in
     let b = wider-holds can (a .s) (s .pre .1 .1 .0) (l .result) (p .loop .g) (a .span) (q .widen .result) (l .ensures)
     just (q .widen .ensures) inside in
@@ -247,7 +283,7 @@ brings-loop-again : (t : ℕ)
     → brings-lts.Need-loop-again (called t) (brings-at t) brings.Post brings-Inv-loop brings-μ-loop
 brings-loop-again t c =
     let p = c .before .before .before in (
-      omega (arith, c .before .before .loop-test .taken),
+      omega (arith, c .before .before .loop-test .taken, p .before .more-ones .ensures .few),
       λ vs can inside e. omega (arith, p .loop .inv .1 vs can inside e, not-just t c vs can inside e),
     )
 
@@ -255,15 +291,8 @@ brings-returns-4 : (t : ℕ)
     → brings-lts.Need-returns-4 (called t) (brings-at t) brings.Post brings-Inv-loop brings-μ-loop
 brings-returns-4 t c =
     let p = c .before in
-    let s = start t (found t (p .before)) in
-    let l = p .before .before .look in
     λ vs can inside e.
-    absurd (omega (
-      arith,
-      p .loop .inv .1 vs can inside e,
-      c .loop-test .left,
-      ones-between can (s .args .s) (s .pre .1 .1 .0) (l .result) (l .ensures) .1,
-    ))
+    absurd (omega (arith, p .loop .inv .1 vs can inside e, c .loop-test .left, between t (p .before) vs can .1))
 
 pub +brings-spec : {M : Type 1} → statement M
 +brings-spec =
@@ -279,6 +308,8 @@ pub +brings-spec : {M : Type 1} → statement M
     (brings-element-copy-out-before t)
     (brings-cast-before t)
     (brings-mul-before t)
+    (brings-sub-more-ones t)
+    (brings-more-ones-requires t)
     (brings-loop-holds t)
     (brings-widen-requires t)
     (brings-add-if2 t)
