@@ -76,6 +76,9 @@ fn more_ones(y: &[u8], totals: &[u32], counts: &[u16], place: usize, w: usize, l
         first: 0,
         last: lost,
     };
+    if lost == 0 {
+        return any;
+    }
     if y.len() <= place + w {
         return any;
     }

@@ -9,7 +9,7 @@ use reference::samples::{row, Kind};
 use reference::Layout;
 use tester::Received;
 
-const STACK_BYTES: usize = 1400 * 1000;
+const STACK_BYTES: usize = 512 * 1024;
 
 /// Lists on a thread with a small stack, what is left of a row beside its message, and answers the rows that were
 /// listed.
