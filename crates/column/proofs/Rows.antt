@@ -35,7 +35,7 @@ pub string-high : (l : Layout) → legal l ≡ true → l .l1 * l .nc ≤ longes
 string-high l e = omega (arith, sizes l (legal-bounds l e) .string, mul-comm (l .l1) (l .nc))
 
 -- a chunk that loses no bit is what is read
-no-loss : (nc v : ℕ) (y : List ℕ) → v < 2 ^ nc → losses (digits nc v) y ≡ 0 → v ≡ number nc y
+pub no-loss : (nc v : ℕ) (y : List ℕ) → v < 2 ^ nc → losses (digits nc v) y ≡ 0 → v ≡ number nc y
 no-loss nc v y h z =
     let e : digits nc v ≡ take nc y = whole (digits nc v) y z ∙ ap (λ (n : ℕ). take n y) (length-digits nc v) in
     let s : digits nc v ++ drop nc y ≡ y = ap (λ (d : List ℕ). d ++ drop nc y) e ∙ take-append-drop nc y in

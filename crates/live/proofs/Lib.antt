@@ -4,3 +4,4 @@ mod Columns
 mod Levels
 mod First
 mod Paths
+mod Near

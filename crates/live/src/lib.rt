@@ -15,6 +15,8 @@ ghost use Rattle.states.specs.States.{each, Shaped};
 ghost use Rattle.column.specs.Column.{Fit, Light, Crosses, apartIn};
 ghost use Rattle.live.specs.Live.{Path, apartBefore, apartFrom, Covers, Through};
 ghost use Rattle.live.specs.Passes.{Ready, Within, numberOf, PutAt, entryOf, Digits, Kept, Remade, Joined};
+ghost use Rattle.far.specs.Far.{lefts, blockAt};
+ghost use Rattle.live.specs.Near.{Counted, Sized, mostIn, most, Leaves};
 ghost use Rattle.live.specs.Passes.{Gains, Spread, SpreadBy, Gained, Goes, OneLess, FirstMark, Pass};
 
 // The most loss states whose marks are kept.
@@ -23,8 +25,8 @@ const MOST_STATES: usize = 729;
 // From here on a mark says nothing of a number.
 pub const MANY: u8 = 40;
 
-// What is prepared: the shape of the loss states; whether their marks are kept; whether no row comes through them at
-// all; and whether each that does is near another row.
+// What is prepared: the shape of the loss states; whether their marks are kept; whether no row comes through them but those near
+// another row; and whether each that does is near it.
 pub struct Prepared {
     pub shape: Shape,
     pub kept: bool,
@@ -1028,6 +1030,196 @@ fn complete(
     0 < marks[states - 1]
 }
 
+// What the tables say of heavy block s, which has so many losses, where at column j so many are left: in how many of its chunks a row can
+// differ from z at most. Where the block cannot have so many left they say nothing.
+fn most_in(
+    columns: usize,
+    before: &[u8],
+    after: &[u8],
+    s: usize,
+    size: u8,
+    left: u8,
+    j: usize,
+) -> usize
+    requires { ⌜ ((columns ≤ 255) × ((s < 6) × ((j ≤ columns) × (size < lefts))))
+        × ((blockAt columns (s + 1) ≤ length (now before)) × (blockAt columns (s + 1) ≤ length (now after))) ⌝ }
+    ensures { λ r. ⌜ (left ≤ size → r ≡ mostIn columns (now (before .entry)) (now (after .entry)) s size left j) × (r ≤ 510) ⌝ }
+{
+    if size < left {
+        return 510;
+    }
+    let at = s * ((columns + 1) * far::LEFTS);
+    let used = at + j * far::LEFTS + bits::wide(size - left);
+    let rest = at + (columns - j) * far::LEFTS + bits::wide(left);
+    bits::wide(before[used]) + bits::wide(after[rest])
+}
+
+// What they say of all heavy blocks together.
+fn most_apart(
+    columns: usize,
+    shape: Shape,
+    before: &[u8],
+    after: &[u8],
+    j: usize,
+    left: [u8; states::MOST_HEAVY],
+) -> usize
+    requires { ⌜ Sized columns shape (now before) (now after) × (j ≤ columns) ⌝ }
+    ensures { λ r. ⌜ (((s : ℕ) → s < shape .n → getD left s 0 ≤ getD (shape .size) s 0)
+        → r ≡ most columns (now (before .entry)) (now (after .entry)) (each (shape .size)) (each left) j (shape .n)) ⌝ }
+{
+    let n = shape.n;
+    let size = shape.size;
+    let mut total: usize = 0;
+    let mut s: usize = 0;
+    while s < n {
+        total += most_in(columns, before, after, s, size[s], left[s], j);
+        s += 1;
+    }
+    total
+}
+
+// The mark of state q in column j, unless each row that comes through the state differs from z in fewer than room chunks.
+fn far_mark(
+    columns: usize,
+    shape: Shape,
+    digits: &[u8],
+    before: &[u8],
+    after: &[u8],
+    room: usize,
+    j: usize,
+    q: usize,
+    mark: u8,
+) -> u8
+    requires { ⌜ Sized columns shape (now before) (now after) × ((j ≤ columns) × (Digits shape (now digits) × (q < shape .states))) ⌝ }
+    ensures { λ r. ⌜ ((left : ℕ → ℕ) → Within shape left → numberOf shape left ≡ q
+        → room ≤ most columns (now (before .entry)) (now (after .entry)) (each (shape .size)) left j (shape .n) → r ≡ mark) ⌝ }
+{
+    if mark == 0 {
+        return mark;
+    }
+    let left = digits_of(digits, q);
+    if most_apart(columns, shape, before, after, j, left) < room {
+        return 0;
+    }
+    mark
+}
+
+// Takes the marks of column j from the states all of whose rows are near.
+fn leave_column(
+    columns: usize,
+    shape: Shape,
+    digits: &[u8],
+    before: &[u8],
+    after: &[u8],
+    room: usize,
+    j: usize,
+    marks: &mut [u8],
+)
+    requires { ⌜ Sized columns shape (now before) (now after) × ((j ≤ columns) × (Digits shape (now digits)
+        × ((Shaped (shape .n) (shape .size) (shape .stride) (shape .states))
+        × (j * shape .states + shape .states ≤ length (now marks))))) ⌝ }
+    ensures { λ _. ⌜ Remade (shape .states) (j * shape .states) (now (marks .entry)) (now (marks .exit))
+        × Leaves columns shape (now (before .entry)) (now (after .entry)) room j (now (marks .entry)) (now (marks .exit)) ⌝ }
+{
+    let states = shape.states;
+    let at = j * states;
+    let mut q: usize = 0;
+    while q < states {
+        marks[at + q] = far_mark(
+            columns,
+            shape,
+            digits,
+            before,
+            after,
+            room,
+            j,
+            q,
+            marks[at + q],
+        );
+        q += 1;
+    }
+}
+
+// Takes the marks of all columns from the states all of whose rows are near.
+fn leave_near(
+    columns: usize,
+    shape: Shape,
+    digits: &[u8],
+    before: &[u8],
+    after: &[u8],
+    room: usize,
+    marks: &mut [u8],
+)
+    requires { ⌜ Sized columns shape (now before) (now after) × (Digits shape (now digits)
+        × ((Shaped (shape .n) (shape .size) (shape .stride) (shape .states))
+        × ((columns + 1) * shape .states ≤ length (now marks)))) ⌝ }
+    ensures { λ _. ⌜ (length (now (marks .exit)) ≡ length (now (marks .entry)))
+        × ((j : ℕ) → j ≤ columns
+        → Leaves columns shape (now (before .entry)) (now (after .entry)) room j (now (marks .entry)) (now (marks .exit))) ⌝ }
+{
+    let mut j: usize = 0;
+    while j <= columns {
+        leave_column(columns, shape, digits, before, after, room, j, marks);
+        j += 1;
+    }
+}
+
+// Whether each heavy block has so few losses that tables of counts can be made.
+fn few_losses(shape: Shape) -> bool
+    requires { ⌜ shape .n ≤ 6 ⌝ }
+    ensures { λ r. ⌜ (r ≡ true → (s : ℕ) → s < shape .n → getD (shape .size) s 0 < lefts) ⌝ }
+{
+    let n = shape.n;
+    let size = shape.size;
+    let mut s: usize = 0;
+    while s < n {
+        if far::LEFTS <= bits::wide(size[s]) {
+            return false;
+        }
+        s += 1;
+    }
+    true
+}
+
+// The bytes of a table of counts: enough for every layout.
+const COUNTS: usize = 3393;
+
+// Takes the marks from the states through which no row comes that differs from z in room chunks of the heavy blocks.
+fn leave_out(
+    l: Layout,
+    y: &[u8],
+    numbers: &[u16],
+    heavy: Heavy,
+    z: &[u8],
+    shape: Shape,
+    digits: &[u8],
+    room: usize,
+    marks: &mut [u8],
+)
+    requires { ⌜ (Fit l (now y) (now numbers) heavy × (l .l1 * l .l2 ≤ length (now z)))
+        × (Kept heavy shape × (Digits shape (now digits) × ((l .l2 + 1) * shape .states ≤ length (now marks)))) ⌝ }
+    ensures { λ _. ⌜ (length (now (marks .exit)) ≡ length (now (marks .entry)))
+        × ((row vs : List ℕ) (own : ℕ → ℕ → ℕ) → Path l (now (y .entry)) (now (numbers .entry)) heavy row (each (shape .size)) vs own
+        → room ≤ apartFrom l heavy (now (z .entry)) vs 0 → Through l shape (now (marks .entry)) own (λ j. 0)
+        → Through l shape (now (marks .exit)) own (λ j. 0)) ⌝ }
+{
+    if room == 0 {
+        return;
+    }
+    if !few_losses(shape) {
+        return;
+    }
+    if COUNTS < shape.n * ((l.l2 + 1) * far::LEFTS) {
+        return;
+    }
+    let size = shape.size;
+    let mut before: [u8; COUNTS] = [0; COUNTS];
+    far::fill(l, y, numbers, heavy, z, size, true, &mut before);
+    let mut after: [u8; COUNTS] = [0; COUNTS];
+    far::fill(l, y, numbers, heavy, z, size, false, &mut after);
+    leave_near(l.l2, shape, digits, &before, &after, room, marks);
+}
+
 // Whether each number that a mark covers is below room.
 fn is_near(mark: u8, room: usize) -> bool
     ensures { λ r. ⌜ (r ≡ true → (n : ℕ) → Covers mark n → n < room) ⌝ }
@@ -1113,7 +1305,7 @@ fn count_marks(
     }
 }
 
-// The marks of the loss states, in three passes.
+// The marks of the loss states, in three passes; after the first, those of states through which only near rows come are taken away.
 fn fill_marks(
     l: Layout,
     y: &[u8],
@@ -1131,7 +1323,7 @@ fn fill_marks(
         × (Kept heavy shape × ((l .l2 + 1) * shape .states ≤ length (now marks))) ⌝ }
     ensures { λ r. ⌜ (r .shape ≡ shape) × ((row vs : List ℕ) (own : ℕ → ℕ → ℕ) → Light l heavy row (now (known .entry))
         → Path l (now (y .entry)) (now (numbers .entry)) heavy row (each (shape .size)) vs own
-        → (r .none ≡ true → ⊥) × ((r .near ≡ true → apartFrom l heavy (now (z .entry)) vs 0 < room)
+        → room ≤ apartFrom l heavy (now (z .entry)) vs 0 → (r .none ≡ true → ⊥) × ((r .near ≡ true → apartFrom l heavy (now (z .entry)) vs 0 < room)
         × (r .kept ≡ true → Through l shape (now (marks .exit)) own (apartFrom l heavy (now (z .entry)) vs)))) ⌝ }
 {
     let mut digits: [u8; 4374] = [0; 4374];
@@ -1156,6 +1348,7 @@ fn fill_marks(
             near: false,
         };
     }
+    leave_out(l, y, numbers, heavy, z, shape, &digits, room, marks);
     count_marks(
         l,
         y,
@@ -1173,7 +1366,7 @@ fn fill_marks(
 }
 
 // The marks of the loss states of the heavy blocks with these losses. A row that differs from z in fewer than room
-// chunks of the heavy blocks is near.
+// chunks of the heavy blocks is near, and nothing is said of it.
 pub fn prepare(
     l: Layout,
     y: &[u8],
@@ -1193,7 +1386,7 @@ pub fn prepare(
         × (Shaped (r .shape .n) (r .shape .size) (r .shape .stride) (r .shape .states)
         × ((row vs : List ℕ) (own : ℕ → ℕ → ℕ) → Light l heavy row (now (known .entry))
         → Path l (now (y .entry)) (now (numbers .entry)) heavy row (each size) vs own
-        → (r .none ≡ true → ⊥) × ((r .near ≡ true → apartFrom l heavy (now (z .entry)) vs 0 < room)
+        → room ≤ apartFrom l heavy (now (z .entry)) vs 0 → (r .none ≡ true → ⊥) × ((r .near ≡ true → apartFrom l heavy (now (z .entry)) vs 0 < room)
         × (r .kept ≡ true → Through l (r .shape) (now (marks .exit)) own (apartFrom l heavy (now (z .entry)) vs))))) ⌝ }
 {
     let shape = states::shape_of(heavy.n, size);

@@ -23,7 +23,7 @@ returns c =
       g .ensures .0,
       (
         g .ensures .1,
-        λ row vs own light path. (
+        λ row vs own light path far. (
           λ e. false≢true e,
           (
             λ e. absurd (false≢true e),
@@ -56,7 +56,7 @@ returns-2 c =
       g .ensures .0,
       (
         g .ensures .1,
-        λ row vs own light path. (
+        λ row vs own light path far. (
           λ e. false≢true e,
           (
             λ e. absurd (false≢true e),
@@ -94,8 +94,8 @@ returns-3 c =
       (ap (λ (v : Shape). v .n) e ∙ g .ensures .0 .0, ap (λ (v : Shape). v .size) e ∙ g .ensures .0 .1),
       (
         rw e (g .ensures .1),
-        λ row vs own light path.
-            rw e (f .ensures .1 row vs own light (rw (g .ensures .0 .1) path)),
+        λ row vs own light path far.
+            rw e (f .ensures .1 row vs own light (rw (g .ensures .0 .1) path) far),
       ),
     )
 

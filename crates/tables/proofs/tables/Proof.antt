@@ -2,15 +2,19 @@
 -- nothing.
 use Prim.Native.Nat.{ℕ, _+_, _*_, _<_, _≤_}
 use mathlib.Core.Path.{_≡_, sym, ap, subst}
-use mathlib.Core.Logic.{⊎-elim}
+use mathlib.Core.Logic.{_⊎_, inl, inr, ⊎-elim}
 use mathlib.Core.List.{List}
 use native.Mathlib.Omega.{arith}
 use borrow.Author.Needs.{needs}
 use lib.ListN.{length, getD}
+use Rattle.bits.proofs.Laws.{lt-or-ge}
 use Rattle.message.proofs.Legal.{Sizes, legal-bounds, sizes}
 use Rattle.lines.specs.Lines.{values}
 use Rattle.found.specs.Found.{Sent}
-use Rattle.found.proofs.Found.{grown-weaken, grown-none, grown-nothing}
+use Rattle.rows.specs.Held.{Known}
+use Rattle.rows.specs.Slice.{rowsIn}
+use Rattle.message.specs.Layout.{rowBits}
+use Rattle.found.proofs.Found.{grown-weaken, grown-none, grown-then}
 use Rattle.states.specs.States.{each}
 use Rattle.live.specs.Live.{Path, Through, apartFrom}
 use Rattle.tables.specs.Tables.{Under, ownLeft, ShapeOf, Looked, Comes, apart}
@@ -68,26 +72,49 @@ within c x sent u =
     let p = start c .pre in
     c .before .before .before .before .apart-light .ensures .0 (values (start c .args .l) x) (in-hand (p .0 .0) sent (p .1 .0 .0) u (p .1 .0 .1))
 
+-- one that differs from z in fewer chunks of the heavy blocks than are asked for is known
+near-known : (c : tie.After-prepare) → let s = start c in let a = s .args in
+    (x : List ℕ) → Sent (a .l) (a .numbers .now) (a .y .now) x → Under (a .l) (a .y .now) (a .heavy) 0 0 (a .t) x
+    → apartFrom (a .l) (a .heavy) (a .z .now) (values (a .l) x) 0 < c .before .before .before .if1 .rest
+    → Known (rowsIn (rowBits (a .l)) (a .list .now) (a .kept .count) (a .kept .more)) x
+near-known c x sent u near =
+    start c .pre .1 .1 .1 .1 x sent
+    (⊎-elim
+    (λ w. omega (arith, near, within c x sent u, w .1, w .0 .taken))
+    (λ w. absurd (omega (arith, near, w .1)))
+    (c .before .before .before .if1 .came))
+
+abbrev Near : tie.After-prepare → List ℕ → Type 0
+Near c x =
+    let a = start c .args in
+    Under (a .l) (a .y .now) (a .heavy) 0 0 (a .t) x
+    × (apartFrom (a .l) (a .heavy) (a .z .now) (values (a .l) x) 0 < c .before .before .before .if1 .rest)
+
 returns : tie.Need-returns
 returns c =
     let q = c .before .before in
+    let a = start q .args in
     let g = q .prepare .ensures .1 .1 in
-    grown-nothing (start q .pre .0 .1)
-    (λ x sent u. g _ _ _ (q .before .before .before .before .before .before .light-sums .ensures) (path q x sent u) .0 (c .if2 .taken))
+    grown-none (start q .pre .0 .1)
+    (λ x sent u.
+    ⊎-elim
+    (near-known q x sent u)
+    (λ far. absurd (g _ _ _ (q .before .before .before .before .before .before .light-sums .ensures) (path q x sent u) far .0 (c .if2 .taken)))
+    (lt-or-ge (apartFrom (a .l) (a .heavy) (a .z .now) (values (a .l) x) 0) _))
 
 returns-2 : tie.Need-returns-2
 returns-2 c =
     let q = c .before .before .before in
+    let a = start q .args in
     let g = q .prepare .ensures .1 .1 in
-    let s = start q in
-    grown-none (s .pre .0 .1)
+    grown-none (start q .pre .0 .1)
     (λ x sent u.
-    let near = g _ _ _ (q .before .before .before .before .before .before .light-sums .ensures) (path q x sent u) .1 .0 (c .if3 .taken) in
-    s .pre .1 .1 .1 .1 x sent
-    (⊎-elim
-    (λ w. omega (arith, near, within q x sent u, w .1, w .0 .taken))
-    (λ w. absurd (omega (arith, near, w .1)))
-    (q .before .before .before .if1 .came)))
+    ⊎-elim
+    (near-known q x sent u)
+    (λ far.
+    near-known q x sent u
+    (g _ _ _ (q .before .before .before .before .before .before .light-sums .ensures) (path q x sent u) far .1 .0 (c .if3 .taken)))
+    (lt-or-ge (apartFrom (a .l) (a .heavy) (a .z .now) (values (a .l) x) 0) _))
 
 -- what the columns ask: tables, sums, chunks to compare with
 looked : (c : tie.After-prepare) → let a = start c .args in
@@ -148,10 +175,26 @@ returns-3 : tie.Need-returns-3
 returns-3 c =
     let q = c .before .before .before .before .before .before .before .before .before .before in
     let kept = c .before .before .before .before .before .before .if4 .taken in
+    let a = start q .args in
+    let h = start q .pre .0 .1 in
     let g = q .prepare .ensures .1 .1 in
     grown-weaken
-    (λ x sent u. (u, comes q _ x sent u (g _ _ _ (q .before .before .before .before .before .before .light-sums .ensures) (path q x sent u) .1 .1 kept)))
-    (c .before .before .columns .ensures)
+    (λ x sent u.
+    ⊎-elim
+    {C = Near q x
+    ⊎ (Under (a .l) (a .y .now) (a .heavy) 0 0 (a .t) x
+    × Comes (a .l) (a .y .now) (a .numbers .now) (a .heavy) (q .prepare .result .shape)
+    (q .before .before .before .before .before .before .light-sums .last .1 .1 .1 .1 .1 .0)
+    (q .prepare .last .1 .1 .1 .1 .1 .1 .1 .1 .1 .1 .0) (a .z .now) (q .before .before .before .before .apart-light .result) 0 x)}
+    (λ near. inl (u, near))
+    (λ far.
+    inr (
+      u,
+      comes q _ x sent u
+          (g _ _ _ (q .before .before .before .before .before .before .light-sums .ensures) (path q x sent u) far .1 .1 kept),
+    ))
+    (lt-or-ge (apartFrom (a .l) (a .heavy) (a .z .now) (values (a .l) x) 0) _))
+    (grown-then h (grown-none h {P = Near q} (λ x sent p. near-known q x sent (p .0) (p .1))) (c .before .before .columns .ensures))
 
 slice-aggregate-columns-3 : tie.Need-slice-aggregate-columns-3
 slice-aggregate-columns-3 c = search needs

@@ -1,0 +1,250 @@
+-- A row walks the columns of each heavy block through its loss states; so what the tables say of a state it comes through is at least the
+-- number of chunks in which it differs. Rests on greedy matching, by the crate column. Assumes nothing.
+use Prim.Native.Nat.{ℕ, zero, suc, _+_, _-_, _*_, _<_, _≤_}
+use mathlib.Core.Path.{_≡_, refl, sym, ap, _∙_}
+use mathlib.Core.Bool.{Bool, true, false, cond}
+use mathlib.Core.List.{List}
+use native.Mathlib.Decide.{ℕ-discrete}
+use native.Mathlib.Numerals.{add-one}
+use native.Mathlib.Omega.{arith}
+use borrow.Author.Count.{below-more}
+use lib.Dec.{eqb}
+use lib.ListN.{length, getD, set}
+use lib.Seq.{getD-set-same, getD-set-other}
+use Rattle.message.specs.declared.Layout.{Layout}
+use Rattle.lines.specs.Lines.{unlike}
+use Rattle.states.specs.States.{each, Shaped}
+use Rattle.states.specs.declared.Shape.{Shape}
+use Rattle.states.proofs.States.{state-low}
+use Rattle.column.specs.Column.{chunkAt, Crosses, apartIn}
+use Rattle.column.specs.declared.Heavy.{Heavy}
+use Rattle.column.proofs.Rows.{no-loss}
+use Rattle.far.specs.Far.{Reads, readApart, Walk, stepAt, blockAt}
+use Rattle.live.specs.Live.{markAt, Path, apartBefore, apartFrom}
+use Rattle.live.specs.Passes.{Within, numberOf, Kept, Remade}
+use Rattle.live.specs.Near.{Counted, mostIn, most, Leaves}
+use Rattle.live.proofs.Columns.{remade-none, remade-set, other-column}
+use Rattle.live.proofs.Paths.{own-within}
+
+-- one at most
+one-most : (b : Bool) → cond b 0 1 ≤ 1
+one-most true = omega arith
+one-most false = omega arith
+
+module _ (l : Layout) (heavy : Heavy) (z vs : List ℕ) where
+  -- in how many of the first columns the chunk of block s is another than in z
+  inBlock : (s k : ℕ) → ℕ
+  inBlock s zero = 0
+  inBlock s (suc j) = inBlock s j + unlike vs z (chunkAt l heavy j s)
+
+  in-next : (s j : ℕ) → inBlock s (j + 1) ≡ inBlock s j + unlike vs z (chunkAt l heavy j s)
+  unfolding inBlock
+  in-next s j = rw (add-one j) refl
+
+  -- the first n blocks together
+  inBlocks : (k n : ℕ) → ℕ
+  inBlocks k zero = 0
+  inBlocks k (suc s) = inBlocks k s + inBlock s k
+
+  in-none : (n : ℕ) → inBlocks 0 n ≡ 0
+  unfolding inBlocks inBlock
+  in-none zero = refl
+  in-none (suc n) = omega (arith, in-none n)
+
+  in-column : (j n : ℕ) → inBlocks (suc j) n ≡ inBlocks j n + apartIn l heavy z vs j n
+  unfolding inBlocks inBlock apartIn
+  in-column j zero = refl
+  in-column j (suc n) = omega (arith, in-column j n)
+
+  -- counted by blocks or by columns, it is the same
+  by-blocks : (k : ℕ) → apartBefore l heavy z vs k ≡ inBlocks k (heavy .n)
+  unfolding apartBefore
+  by-blocks zero = sym (in-none (heavy .n))
+  by-blocks (suc k) = omega (arith, by-blocks k, in-column k (heavy .n))
+
+  in-more : (s j : ℕ) → inBlock s (j + 1) ≤ inBlock s j + 1
+  in-more s j =
+      omega (arith, in-next s j, one-most (eqb (getD vs (chunkAt l heavy j s) 0) (getD z (chunkAt l heavy j s) 0)))
+
+module _ {l : Layout} {y numbers : List ℕ} {heavy : Heavy} {row : List ℕ} {j : ℕ} {left next : ℕ → ℕ} {vs : List ℕ}
+    (c : Crosses l y numbers heavy row j left next vs) (s : ℕ) (h : s < heavy .n) (e : next s ≡ left s) where
+  -- a chunk that loses no bit is read where the losses left say
+  reads-there : Reads l y heavy s j (left s)
+  reads-there = (c .starts s h, omega (arith, c .there s h, e))
+
+  reads-same : (z : List ℕ) → unlike vs z (chunkAt l heavy j s) ≡ readApart l y heavy z s j (left s)
+  reads-same z =
+      let is = no-loss (l .nc) _ _ (c .small s h) (c .loses s h ∙ omega (arith, e)) in
+      ap (λ (v : ℕ). cond (eqb v (getD z (chunkAt l heavy j s) 0)) 0 1) is
+
+module _ (l : Layout) (y numbers : List ℕ) (heavy : Heavy) (row : List ℕ) (shape : Shape) (vs : List ℕ) (own : ℕ → ℕ → ℕ)
+    (kept : Kept heavy shape) (path : Path l y numbers heavy row (each (shape .size)) vs own) (z : List ℕ) where
+  abbrev size : ℕ → ℕ
+  size = each (shape .size)
+
+  within : (s : ℕ) → s < heavy .n → (t : ℕ) → t ≤ l .l2 → own t s ≤ size s
+  within s h t k = own-within l y numbers heavy row shape vs own kept path t k s (omega (arith, kept .blocks))
+
+  -- ahead, counting the losses used
+  walks-ahead : (s : ℕ) → s < heavy .n → Walk l y heavy z s (size s) true (λ t. size s - own t s) (inBlock l heavy z vs s)
+  unfolding inBlock
+  walks-ahead s h =
+      record {
+        starts = refl;
+        within = λ t k. omega arith;
+        rises = λ t k. omega (arith, path .crosses t k .falls s h);
+        more = λ t k. in-more l heavy z vs s t;
+        reads = λ t k e. rw (back t k) (reads-there (path .crosses t k) s h (same t k e));
+        same = λ t k e.
+            rw (back t k)
+            (omega (arith, in-next l heavy z vs s t, reads-same (path .crosses t k) s h (same t k e) z));
+      }
+    where
+      same : (t : ℕ) → t < l .l2 → size s - own (t + 1) s ≡ size s - own t s → own (t + 1) s ≡ own t s
+      same t k e = omega (arith, within s h t (omega arith), within s h (t + 1) (omega arith))
+
+      back : (t : ℕ) → t < l .l2 → size s - (size s - own t s) ≡ own t s
+      back t k = omega (arith, within s h t (omega arith))
+
+  -- back, counting the losses left
+  walks-back : (s : ℕ) → s < heavy .n
+      → Walk l y heavy z s (size s) false (λ t. own (l .l2 - t) s)
+      (λ t. inBlock l heavy z vs s (l .l2) - inBlock l heavy z vs s (l .l2 - t))
+  walks-back s h =
+      record {
+        starts = let e : l .l2 - 0 ≡ l .l2 = omega arith in rw e (omega arith);
+        within = λ t k. within s h (l .l2 - t) (omega arith);
+        rises = λ t k. rw (from t k, to t k) (path .crosses (l .l2 - 1 - t) (omega arith) .falls s h);
+        more = λ t k. rw (from t k, to t k) (omega (arith, in-more l heavy z vs s (l .l2 - 1 - t)));
+        reads = λ t k e. rw (left-is t k e) (reads-there (path .crosses (l .l2 - 1 - t) (omega arith)) s h (stays t k e));
+        same = λ t k e.
+            rw (left-is t k e, from t k, to t k)
+            (omega (
+              arith,
+              in-next l heavy z vs s (l .l2 - 1 - t),
+              reads-same (path .crosses (l .l2 - 1 - t) (omega arith)) s h (stays t k e) z,
+            ));
+      }
+    where
+      from : (t : ℕ) → t < l .l2 → l .l2 - (t + 1) ≡ l .l2 - 1 - t
+      from t k = omega arith
+
+      to : (t : ℕ) → t < l .l2 → l .l2 - t ≡ l .l2 - 1 - t + 1
+      to t k = omega arith
+
+      left-is : (t : ℕ) → t < l .l2 → own (l .l2 - (t + 1)) s ≡ own (l .l2 - t) s → own (l .l2 - t) s ≡ own (l .l2 - 1 - t) s
+      left-is t k e = sym e ∙ ap (λ (v : ℕ). own v s) (from t k)
+
+      stays : (t : ℕ) → t < l .l2 → own (l .l2 - (t + 1)) s ≡ own (l .l2 - t) s
+          → own (l .l2 - 1 - t + 1) s ≡ own (l .l2 - 1 - t) s
+      stays t k e = ap (λ (v : ℕ). own v s) (sym (to t k)) ∙ left-is t k e
+
+  -- what the tables say of a state that the row comes through is at least the number of chunks in which it differs
+  module _ (before after : List ℕ) (counted : Counted l y heavy z shape before after) (j : ℕ) (inside : j ≤ l .l2) where
+    most-block : (s : ℕ) → s < heavy .n
+        → inBlock l heavy z vs s (l .l2) ≤ mostIn (l .l2) before after s (size s) (own j s) j
+    most-block s h =
+        let e : l .l2 - (l .l2 - j) ≡ j = omega arith in
+        let a = counted .ahead s h _ _ (walks-ahead s h) j inside in
+        let b = rw e at (counted .back s h _ _ (walks-back s h) (l .l2 - j) (omega arith)) in
+        omega (arith, a, b)
+
+    most-blocks : (n : ℕ) → n ≤ heavy .n → inBlocks l heavy z vs (l .l2) n ≤ most (l .l2) before after size (own j) j n
+    unfolding inBlocks most
+    most-blocks zero h = omega arith
+    most-blocks (suc n) h = omega (arith, most-blocks n (omega arith), most-block n (omega arith))
+
+    pub most-covers : apartFrom l heavy z vs 0 ≤ most (l .l2) before after size (own j) j (shape .n)
+    most-covers =
+        let e : shape .n ≡ heavy .n = kept .blocks in
+        rw e (omega (arith, most-blocks (heavy .n) (omega arith), by-blocks l heavy z vs (l .l2)))
+
+-- ---- marks taken away
+module _ (columns : ℕ) (before after : List ℕ) (size : ℕ → ℕ) where
+  -- only the losses left in the blocks count
+  pub most-same : (a b : ℕ → ℕ) (j n : ℕ) → ((s : ℕ) → s < n → a s ≡ b s)
+      → most columns before after size a j n ≡ most columns before after size b j n
+  unfolding most
+  most-same a b j zero h = refl
+  most-same a b j (suc n) h =
+      let e = ap (λ (v : ℕ). mostIn columns before after n (size n) v j) (h n (omega arith)) in
+      omega (arith, most-same a b j n (λ s k. h s (omega arith)), e)
+
+module _ (columns : ℕ) (shape : Shape) (before after : List ℕ) (room j : ℕ) (entry : List ℕ) where
+  -- the states below q are done, the others are as at entry
+  pub record Leaving (marks : List ℕ) (q : ℕ) : Type 0 where
+    pub low : q ≤ shape .states
+    pub column : Remade (shape .states) (j * shape .states) entry marks
+    pub rest : (p : ℕ) → q ≤ p → getD marks (j * shape .states + p) 0 ≡ getD entry (j * shape .states + p) 0
+    pub leaves : (left : ℕ → ℕ) → Within shape left → numberOf shape left < q
+        → room ≤ most columns before after (each (shape .size)) left j (shape .n)
+        → getD marks (markAt shape j left) 0 ≡ getD entry (markAt shape j left) 0
+
+  pub leaving-first : Leaving entry 0
+  leaving-first =
+      record {
+        low = omega arith;
+        column = remade-none (shape .states) (j * shape .states) entry;
+        rest = λ p h. refl;
+        leaves = λ left w h. absurd (omega arith);
+      }
+
+  -- one state more: its mark becomes v
+  pub leaving-next : (marks : List ℕ) (q v : ℕ) → j * shape .states + shape .states ≤ length entry → q < shape .states → Leaving marks q
+      → ((left : ℕ → ℕ) → Within shape left → numberOf shape left ≡ q
+      → room ≤ most columns before after (each (shape .size)) left j (shape .n) → v ≡ getD marks (j * shape .states + q) 0)
+      → Leaving (set marks (j * shape .states + q) v) (q + 1)
+  leaving-next marks q v long h c here =
+      record {
+        low = omega arith;
+        column = remade-set (shape .states) (j * shape .states) entry marks (c .column) q v h;
+        rest = λ p k. getD-set-other marks (at + q) (at + p) v 0 (λ e. omega arith) ∙ c .rest p (omega arith);
+        leaves = λ left w k r. go left w k r (ℕ-discrete (numberOf shape left) q);
+      }
+    where
+      at : ℕ
+      at = j * shape .states
+
+      go : (left : ℕ → ℕ) → Within shape left → numberOf shape left < q + 1
+          → room ≤ most columns before after (each (shape .size)) left j (shape .n) → Dec (numberOf shape left ≡ q)
+          → getD (set marks (at + q) v) (markAt shape j left) 0 ≡ getD entry (markAt shape j left) 0
+      go left w k r (yes e) =
+          rw e
+          (getD-set-same marks (at + q) v 0 (omega (arith, c .column .long)) ∙ here left w e r ∙ c .rest q (omega arith))
+      go left w k r (no e) =
+          getD-set-other marks (at + q) (markAt shape j left) v 0 (λ d. e (omega arith)) ∙ c .leaves left w (omega arith) r
+
+-- the number of a state is below the number of states
+pub within-low : (shape : Shape) → Shaped (shape .n) (shape .size) (shape .stride) (shape .states)
+    → (left : ℕ → ℕ) → Within shape left → numberOf shape left < shape .states
+within-low shape shaped left w = omega (arith, state-low (each (shape .size)) left (shape .n) w, shaped .all)
+
+module _ (columns : ℕ) (shape : Shape) (before after : List ℕ) (room : ℕ) (entry : List ℕ) where
+  -- the columns before j are done, the others are as at entry
+  pub record LeavingAll (marks : List ℕ) (j : ℕ) : Type 0 where
+    pub low : j ≤ columns + 1
+    pub long : length marks ≡ length entry
+    pub rest : (i p : ℕ) → j ≤ i → p < shape .states → getD marks (i * shape .states + p) 0 ≡ getD entry (i * shape .states + p) 0
+    pub leaves : (i : ℕ) → i < j → Leaves columns shape before after room i entry marks
+
+  pub leaving-all-first : LeavingAll entry 0
+  leaving-all-first =
+      record { low = omega arith; long = refl; rest = λ i p h k. refl; leaves = λ i h. absurd (omega arith) }
+
+  pub leaving-all-next : Shaped (shape .n) (shape .size) (shape .stride) (shape .states)
+      → (marks exit : List ℕ) (j : ℕ) → j ≤ columns → LeavingAll marks j
+      → Remade (shape .states) (j * shape .states) marks exit → Leaves columns shape before after room j marks exit
+      → LeavingAll exit (j + 1)
+  leaving-all-next shaped marks exit j h c r here =
+      record {
+        low = omega arith;
+        long = r .long ∙ c .long;
+        rest = λ i p k m. unchanged i p (λ e. omega arith) m ∙ c .rest i p (omega arith) m;
+        leaves = below-more _ _
+            (λ i k left w m. unchanged i (numberOf shape left) (λ e. omega arith) (within-low shape shaped left w) ∙ c .leaves i k left w m)
+            (λ left w m. here left w m ∙ c .rest j (numberOf shape left) (omega arith) (within-low shape shaped left w));
+      }
+    where
+      unchanged : (i p : ℕ) → (i ≡ j → ⊥) → p < shape .states
+          → getD exit (i * shape .states + p) 0 ≡ getD marks (i * shape .states + p) 0
+      unchanged i p n k = other-column (shape .states) j (j * shape .states) marks exit refl r i p n k

@@ -1,0 +1,45 @@
+-- In how many chunks of the heavy blocks a row that comes through a loss state can differ from another one at most, block by block.
+use Prim.Native.Nat.{ℕ, zero, suc, _+_, _-_, _*_, _<_, _≤_}
+use mathlib.Core.Path.{_≡_}
+use mathlib.Core.Bool.{true, false}
+use mathlib.Core.List.{List}
+use lib.ListN.{length, getD}
+use Rattle.message.specs.declared.Layout.{Layout}
+use Rattle.states.specs.States.{each}
+use Rattle.states.specs.declared.Shape.{Shape}
+use Rattle.column.specs.declared.Heavy.{Heavy}
+use Rattle.far.specs.Far.{lefts, Covered, stepAt, blockAt}
+use Rattle.live.specs.Live.{markAt}
+use Rattle.live.specs.Passes.{Within}
+
+-- the tables of what rows count in the columns before each, by the losses used, and from each on, by the losses left
+pub record Counted (l : Layout) (y : List ℕ) (heavy : Heavy) (z : List ℕ) (shape : Shape) (before after : List ℕ) : Type 0 where
+  pub ahead : (s : ℕ) → s < heavy .n
+      → Covered l y heavy z s (each (shape .size) s) true (blockAt (l .l2) s) (l .l2) before
+  pub back : (s : ℕ) → s < heavy .n
+      → Covered l y heavy z s (each (shape .size) s) false (blockAt (l .l2) s) (l .l2) after
+
+-- tables that have room for the blocks of a shape, each of which has few losses
+pub record Sized (columns : ℕ) (shape : Shape) (before after : List ℕ) : Type 0 where
+  pub narrow : columns ≤ 255
+  pub few : shape .n ≤ 6
+  pub small : (s : ℕ) → s < shape .n → getD (shape .size) s 0 < lefts
+  pub long-before : blockAt columns (shape .n) ≤ length before
+  pub long-after : blockAt columns (shape .n) ≤ length after
+
+-- what the tables say of block s, which has so many losses, where at column j so many are left
+abbrev pub mostIn : (columns : ℕ) (before after : List ℕ) (s size left j : ℕ) → ℕ
+mostIn columns before after s size left j =
+    getD before (stepAt (blockAt columns s) j + (size - left)) 0 + getD after (stepAt (blockAt columns s) (columns - j) + left) 0
+
+-- and of the first n blocks together
+unfoldable pub most : (columns : ℕ) (before after : List ℕ) (size left : ℕ → ℕ) (j n : ℕ) → ℕ
+most columns before after size left j zero = 0
+most columns before after size left j (suc s) =
+    most columns before after size left j s + mostIn columns before after s (size s) (left s) j
+
+-- marks of a column are taken away only from states all of whose rows differ in fewer than room chunks
+abbrev pub Leaves : (columns : ℕ) → Shape → (before after : List ℕ) (room j : ℕ) (entry exit : List ℕ) → Type 0
+Leaves columns shape before after room j entry exit =
+    (left : ℕ → ℕ) → Within shape left → room ≤ most columns before after (each (shape .size)) left j (shape .n)
+    → getD exit (markAt shape j left) 0 ≡ getD entry (markAt shape j left) 0
