@@ -11,17 +11,18 @@ use Rattle.bits.specs.Bits.{digits}
 use Rattle.bits.proofs.Laws.{lt-or-ge}
 use Rattle.vt.specs.Sum.{sum}
 use Rattle.message.specs.declared.Layout.{Layout}
+use Rattle.message.proofs.Fields.{field-room}
 use Rattle.consistent.specs.Greedy.{losses, inAll}
 use Rattle.lines.specs.Lines.{values, line}
 use Rattle.lines.proofs.Lines.{block-line, string-line}
 use Rattle.found.specs.Found.{Given, Sent, InHand}
 use Rattle.found.proofs.Found.{sent-parts}
-use Rattle.cells.specs.Cells.{share, chunkOf, Open, Under, found}
+use Rattle.cells.specs.Cells.{share, chunkOf, Open, Placed, Under, found}
 use Rattle.cells.specs.declared.Cells.{Cells}
 use Rattle.cells.proofs.Shares.{all-found}
 use Rattle.cells.proofs.State.{decide, closed-column, closed-block}
 use Rattle.recover.proofs.Recovered.{chunk-in-hand}
-use Rattle.fill.specs.Fill.{With, Below}
+use Rattle.fill.specs.Fill.{AllLose, With, Below}
 
 -- ---- one consistent row under a state
 module _ {l : Layout} {numbers y x : List ℕ} (given : Given l numbers y) (s : Sent l numbers y x)
@@ -46,6 +47,14 @@ module _ {l : Layout} {numbers y x : List ℕ} (given : Given l numbers y) (s : 
   pub none-open : ((z : ℕ) → z < 12 → getD (cells .lost) z 0 ≡ 0) → InHand l row x
   none-open n c h =
       chunk-in-hand l (given .is-legal) y cells row x u c h (λ o. absurd (omega (arith, o .1 .0, n (o .0) (o .1 .0 .0))))
+
+-- where a row under the state is the one in hand, each open cell loses just its count there
+pub in-hand-loses : (l : Layout) (y : List ℕ) (cells : Cells) → Placed l (length y) cells → (hand : List ℕ) {row x : List ℕ}
+    → Under l y cells row x → InHand l hand x → AllLose l y cells hand
+in-hand-loses l y cells p hand u h z o =
+    let q = p z o in
+    let low : chunkOf l cells z < l .l1 * l .l2 = omega (arith, field-room (l .l1) (l .l2) (getD (cells .block) z 0) (q .0), q .1 .0) in
+    rw (h (chunkOf l cells z) low) at (u .loses z o)
 
 -- ---- the contents of a cell, one after another
 module _ (l : Layout) (y : List ℕ) (cells : Cells) (row : List ℕ) (z v : ℕ) {x : List ℕ} where

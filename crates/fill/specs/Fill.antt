@@ -3,12 +3,20 @@ use Prim.Native.Nat.{ℕ, _<_}
 use mathlib.Core.Path.{_≡_}
 use mathlib.Core.Bool.{Bool, true}
 use mathlib.Core.List.{List}
-use lib.ListN.{getD}
+use lib.ListN.{getD, drop}
+use Rattle.bits.specs.Bits.{digits}
 use Rattle.message.specs.declared.Layout.{Layout}
+use Rattle.consistent.specs.Greedy.{losses}
 use Rattle.lines.specs.Lines.{values}
 use Rattle.found.specs.Found.{Given, Sent}
-use Rattle.cells.specs.Cells.{chunkOf, Under}
+use Rattle.cells.specs.Cells.{Open, chunkOf, Under}
 use Rattle.cells.specs.declared.Cells.{Cells}
+
+-- each open cell loses just its count in the row in hand, against the received row from its place on
+abbrev pub AllLose : (l : Layout) (y : List ℕ) (cells : Cells) (row : List ℕ) → Type 0
+AllLose l y cells row =
+    (z : ℕ) → Open cells z
+    → losses (digits (l .nc) (getD row (chunkOf l cells z) 0)) (drop (getD (cells .place) z 0) y) ≡ getD (cells .lost) z 0
 
 -- a test with this answer lets every consistent row under the state pass
 abbrev pub Passes : (l : Layout) (numbers : List ℕ) (cells : Cells) (row : List ℕ) (answer : Bool) → Type 0

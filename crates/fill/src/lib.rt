@@ -4,6 +4,7 @@
 // cells.
 use cells::Cells;
 use message::Layout;
+use recover::Erased;
 use rows::Kept;
 ghost use mathlib.Core.Path.{_≡_};
 ghost use mathlib.Core.Bool.{true};
@@ -15,7 +16,8 @@ ghost use Rattle.message.specs.Layout.{legal};
 ghost use Rattle.lines.specs.Lines.{line, Inside};
 ghost use Rattle.found.specs.Found.{Given, Holding, Grown};
 ghost use Rattle.cells.specs.Cells.{NoSingle, Open, Placed, Under};
-ghost use Rattle.fill.specs.Fill.{Passes, With};
+ghost use Rattle.recover.specs.Recover.{Collected};
+ghost use Rattle.fill.specs.Fill.{AllLose, Passes, With};
 
 // The first cell that is still to be found, 12 if there is none.
 fn next_open(lost: [u8; 12]) -> usize
@@ -100,6 +102,49 @@ fn sums_met(l: Layout, numbers: &[u16], cells: Cells, row: [u8; 255], z: usize) 
     block_met(l, numbers, cells, row, i)
 }
 
+// Whether each open cell of the row in hand loses just its count: a row that fails is not under the state.
+fn all_lose(l: Layout, y: &[u8], cells: Cells, row: &[u8; 255]) -> bool
+    requires { ⌜ (legal l ≡ true) × Placed l (length (now y)) cells ⌝ }
+    ensures { λ r. ⌜ (AllLose l (now (y .entry)) cells (now (row .entry)) → r ≡ true) ⌝ }
+{
+    let mut z: usize = 0;
+    while z < 12 {
+        if 0 < cells.lost[z] {
+            let at = recover::chunk_of(l, cells, z);
+            if !cells::loses_just(l.nc, row[at], y, cells.place[z], cells.lost[z]) {
+                return false;
+            }
+        }
+        z += 1;
+    }
+    true
+}
+
+// The one row that the checks leave, where there are at most as many open cells as checks. The test of its open cells is much
+// quicker than that of the whole row, and most rows fail it.
+fn add_recovered(
+    l: Layout,
+    y: &[u8],
+    numbers: &[u16],
+    cells: Cells,
+    erased: Erased,
+    row: [u8; 255],
+    cap: usize,
+    list: &mut [u8],
+    kept: Kept,
+) -> Kept
+    requires { ⌜ Given l (now numbers) (now y) × (Holding l (now numbers) (now y) cap (now list) (kept .count) (kept .more)
+        × (Placed l (length (now y)) cells × (Collected l cells 12 (erased .n) (erased .places) × (erased .n ≤ l .r)))) ⌝ }
+    ensures { λ r. ⌜ Grown l (now (numbers .entry)) (now (y .entry)) cap (Under l (now (y .entry)) cells row)
+        (now (list .entry)) (kept .count) (kept .more) (now (list .exit)) (r .count) (r .more) ⌝ }
+{
+    let whole = recover::recover(l, numbers, erased, row);
+    if !all_lose(l, y, cells, &whole) {
+        return kept;
+    }
+    found::add_row(l, y, numbers, whole, cap, list, kept)
+}
+
 // The rows in which cell z, which is open, has the content v: it is tried if it loses just the cell's count and its sums allow it.
 fn try_content(
     l: Layout,
@@ -156,8 +201,7 @@ fn try_contents(
     }
     let erased = recover::collect(l, cells);
     if erased.n <= l.r {
-        let whole = recover::recover(l, numbers, erased, row);
-        return found::add_row(l, y, numbers, whole, cap, list, kept);
+        return add_recovered(l, y, numbers, cells, erased, row, cap, list, kept);
     }
     let size = contents(l.nc);
     let mut held = kept;

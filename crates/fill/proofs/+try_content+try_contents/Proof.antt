@@ -31,7 +31,7 @@ use Rattle.fill.proofs.+try_content+try_contents.Lts-try_contents as tr
 use Rattle.found.proofs.add_row.Reads as add-row-reads
 use Rattle.recover.proofs.chunk_of.Reads as chunk-of-reads
 use Rattle.recover.proofs.collect.Reads as collect-reads
-use Rattle.recover.proofs.recover.Reads as recover-reads
+use Rattle.fill.proofs.add_recovered.Reads as add-recovered-reads
 use Rattle.fill.proofs.contents.Reads as contents-reads
 use Rattle.cells.proofs.loses_just.Reads as loses-just-reads
 use Rattle.fill.proofs.next_open.Reads as next-open-reads
@@ -86,8 +86,8 @@ try-contents-claims t = (
   add-row-reads.Learnt,
   collect-reads.Asked,
   collect-reads.Learnt,
-  recover-reads.Asked,
-  recover-reads.Learnt,
+  add-recovered-reads.Asked,
+  add-recovered-reads.Learnt,
   contents-reads.Asked,
   contents-reads.Learnt,
   try-content-below t,
@@ -224,17 +224,12 @@ try-contents-collect-requires t c κs =
     let s = c .before .before .before .before .before .before in
     (s .pre .1 .0 .is-legal, λ z o. let q = s .pre .1 .1 .1 z o in (q .0, q .1 .0))
 
-try-contents-recover-requires : (t : ℕ)
-    → try-contents-lts.Need-recover-requires (try-contents-claims t) (try-contents-at t) try-contents.Post Inv-loop μ-loop
-try-contents-recover-requires t c κs =
-    let k = c .before .before .before in
+try-contents-add-recovered-requires : (t : ℕ)
+    → try-contents-lts.Need-add-recovered-requires (try-contents-claims t) (try-contents-at t) try-contents.Post Inv-loop μ-loop
+try-contents-add-recovered-requires t c κs =
+    let k = c .before .before .before .before in
     let s = k .before .before .before .before .before .before .before in
-    let e = k .collect .ensures in
-    (s .pre .1 .0 .is-legal, (s .pre .1 .0 .count, (e .few, (omega (arith, c .if2 .taken), e .spots))))
-
-try-contents-add-row-requires-2 : (t : ℕ)
-    → try-contents-lts.Need-add-row-requires-2 (try-contents-claims t) (try-contents-at t) try-contents.Post Inv-loop μ-loop
-try-contents-add-row-requires-2 t c κs = search needs
+    (s .pre .1 .0, (s .pre .1 .1 .0, (s .pre .1 .1 .1, (k .collect .ensures, c .before .if2 .taken))))
 
 try-contents-same-length-2 : (t : ℕ)
     → try-contents-lts.Need-same-length-2 (try-contents-claims t) (try-contents-at t) try-contents.Post Inv-loop μ-loop
@@ -242,13 +237,7 @@ try-contents-same-length-2 t c = search needs
 
 try-contents-returns-2 : (t : ℕ)
     → try-contents-lts.Need-returns-2 (try-contents-claims t) (try-contents-at t) try-contents.Post Inv-loop μ-loop
-try-contents-returns-2 t c =
-    let r = c .before .before .before .before in
-    let k = r .before .before .before .before in
-    let s = k .before .before .before .before .before .before .before in
-    let a = s .args in
-    grown-weaken (λ x sent u. r .recover .ensures (a .cells) (k .collect .ensures) (a .y .now) x (s .pre .1 .0) sent u)
-    (c .before .before .add-row2 .ensures)
+try-contents-returns-2 t c = c .before .before .add-recovered .ensures
 
 try-contents-contents-requires : (t : ℕ)
     → try-contents-lts.Need-contents-requires (try-contents-claims t) (try-contents-at t) try-contents.Post Inv-loop μ-loop
@@ -343,8 +332,7 @@ pub +try-content+try-contents-spec : {M : Type 1} → statement M
     (try-contents-same-length t)
     (try-contents-returns t)
     (try-contents-collect-requires t)
-    (try-contents-recover-requires t)
-    (try-contents-add-row-requires-2 t)
+    (try-contents-add-recovered-requires t)
     (try-contents-same-length-2 t)
     (try-contents-returns-2 t)
     (try-contents-contents-requires t)
