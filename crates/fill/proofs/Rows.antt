@@ -22,7 +22,7 @@ use Rattle.cells.specs.declared.Cells.{Cells}
 use Rattle.cells.proofs.Shares.{all-found}
 use Rattle.cells.proofs.State.{decide, closed-column, closed-block}
 use Rattle.recover.proofs.Recovered.{chunk-in-hand}
-use Rattle.fill.specs.Fill.{AllLose, With, Below}
+use Rattle.fill.specs.Fill.{AllLose, With, Tried}
 
 -- ---- one consistent row under a state
 module _ {l : Layout} {numbers y x : List ℕ} (given : Given l numbers y) (s : Sent l numbers y x)
@@ -58,21 +58,20 @@ in-hand-loses l y cells p hand u h z o =
 
 -- ---- the contents of a cell, one after another
 module _ (l : Layout) (y : List ℕ) (cells : Cells) (row : List ℕ) (z v : ℕ) {x : List ℕ} where
-  -- a content loses the cell's count
-  pub with-loses : Open cells z → With l y cells row z v x
-      → losses (digits (l .nc) v) (drop (getD (cells .place) z 0) y) ≡ getD (cells .lost) z 0
-  with-loses o w = rw (w .1) at (w .0 .loses z o)
-
   -- once it is put into the row in hand, the cell is found
   pub with-found : (at : ℕ) → at ≡ chunkOf l cells z → at < length row → With l y cells row z v x
       → Under l y (found cells z) (set row at v) x
   with-found at e h w = rw e (decide l y cells row x (w .0) z v (rw e at h) (w .1))
 
-  -- below the next content are those below this one, and this one
-  pub below-next : (w : ℕ) → v ≡ w → Below l y cells row z (v + 1) x → Below l y cells row z v x ⊎ With l y cells row z w x
-  below-next w e b =
-      ⊎-elim (λ h. inl (b .0, h)) (λ h. inr (b .0, omega (arith, b .1)))
-      (lt-or-ge (getD (values l x) (chunkOf l cells z) 0) v)
+-- among the first contents are those before the last of them, and that one
+pub tried-next : (l : Layout) (y : List ℕ) (cells : Cells) (row : List ℕ) (z : ℕ) (contents : List ℕ) (u : ℕ) {x : List ℕ}
+    → Tried l y cells row z contents (u + 1) x → Tried l y cells row z contents u x ⊎ With l y cells row z (getD contents u 0) x
+tried-next l y cells row z contents u t =
+    let k = t .1 in
+    ⊎-elim
+    (λ h. inl (t .0, (k .0, (k .1 .0, (h, k .1 .1 .1)))))
+    (λ h. let e : k .0 ≡ u = omega (arith, k .1 .1 .0) in inr (t .0, sym (rw e at (k .1 .1 .1))))
+    (lt-or-ge (k .0) u)
 
 -- the losses that are still open fall when a cell is found
 pub lost-less : (cells : Cells) (z : ℕ) → Open cells z → inAll (found cells z .lost) < inAll (cells .lost)

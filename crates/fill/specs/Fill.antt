@@ -1,5 +1,5 @@
 -- The rows under a state: what a test must not do to them, and how the content of one cell tells them apart.
-use Prim.Native.Nat.{ℕ, _<_}
+use Prim.Native.Nat.{ℕ}
 use mathlib.Core.Path.{_≡_}
 use mathlib.Core.Bool.{Bool, true}
 use mathlib.Core.List.{List}
@@ -11,6 +11,7 @@ use Rattle.lines.specs.Lines.{values}
 use Rattle.found.specs.Found.{Given, Sent}
 use Rattle.cells.specs.Cells.{Open, chunkOf, Under}
 use Rattle.cells.specs.declared.Cells.{Cells}
+use Rattle.contents.specs.Contents.{Among}
 
 -- each open cell loses just its count in the row in hand, against the received row from its place on
 abbrev pub AllLose : (l : Layout) (y : List ℕ) (cells : Cells) (row : List ℕ) → Type 0
@@ -27,6 +28,6 @@ Passes l numbers cells row answer =
 abbrev pub With : (l : Layout) (y : List ℕ) (cells : Cells) (row : List ℕ) (z v : ℕ) (x : List ℕ) → Type 0
 With l y cells row z v x = Under l y cells row x × (getD (values l x) (chunkOf l cells z) 0 ≡ v)
 
--- the row x is under the state, and its chunk at cell z has a number below v
-abbrev pub Below : (l : Layout) (y : List ℕ) (cells : Cells) (row : List ℕ) (z v : ℕ) (x : List ℕ) → Type 0
-Below l y cells row z v x = Under l y cells row x × (getD (values l x) (chunkOf l cells z) 0 < v)
+-- the row x is under the state, and the number of its chunk at cell z is among the first u contents
+abbrev pub Tried : (l : Layout) (y : List ℕ) (cells : Cells) (row : List ℕ) (z : ℕ) (contents : List ℕ) (u : ℕ) (x : List ℕ) → Type 0
+Tried l y cells row z contents u x = Under l y cells row x × Among contents 0 u (getD (values l x) (chunkOf l cells z) 0)

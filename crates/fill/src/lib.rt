@@ -8,7 +8,7 @@ use recover::Erased;
 use rows::Kept;
 ghost use mathlib.Core.Path.{_≡_};
 ghost use mathlib.Core.Bool.{true};
-ghost use Prim.Native.Nat.{ℕ, _+_, _*_, _^_, _<_, _≤_};
+ghost use Prim.Native.Nat.{ℕ, _+_, _*_, _<_, _≤_};
 ghost use lib.Dec.{eqb};
 ghost use lib.ListN.{length, getD};
 ghost use Rattle.vt.specs.Sum.{sum};
@@ -31,14 +31,6 @@ fn next_open(lost: [u8; 12]) -> usize
         z += 1;
     }
     z
-}
-
-// How many contents a chunk of nc bits can have.
-fn contents(nc: usize) -> usize
-    requires { ⌜ nc ≤ 8 ⌝ }
-    ensures { λ r. ⌜ (r ≡ 2 ^ nc) × (r ≤ 256) ⌝ }
-{
-    1 << nc
 }
 
 // A number of a message as a number of any size.
@@ -145,7 +137,7 @@ fn add_recovered(
     found::add_row(l, y, numbers, whole, cap, list, kept)
 }
 
-// The rows in which cell z, which is open, has the content v: it is tried if it loses just the cell's count and its sums allow it.
+// The rows in which cell z, which is open, has the content v: it is tried if its sums allow it.
 fn try_content(
     l: Layout,
     y: &[u8],
@@ -163,9 +155,6 @@ fn try_content(
     ensures { λ r. ⌜ Grown l (now (numbers .entry)) (now (y .entry)) cap (With l (now (y .entry)) cells row z v)
         (now (list .entry)) (kept .count) (kept .more) (now (list .exit)) (r .count) (r .more) ⌝ }
 {
-    if !cells::loses_just(l.nc, v, y, cells.place[z], cells.lost[z]) {
-        return kept;
-    }
     let at = recover::chunk_of(l, cells, z);
     let mut filled = row;
     filled[at] = v;
@@ -175,6 +164,34 @@ fn try_content(
         return kept;
     }
     try_contents(l, y, numbers, next, filled, cap, list, kept)
+}
+
+// Every content of cell z, which is open, that loses just its count.
+fn try_each(
+    l: Layout,
+    y: &[u8],
+    numbers: &[u16],
+    cells: Cells,
+    row: [u8; 255],
+    z: usize,
+    cap: usize,
+    list: &mut [u8],
+    kept: Kept,
+) -> Kept
+    requires { ⌜ Given l (now numbers) (now y) × (Holding l (now numbers) (now y) cap (now list) (kept .count) (kept .more)
+        × (Placed l (length (now y)) cells × Open cells z)) ⌝ }
+    ensures { λ r. ⌜ Grown l (now (numbers .entry)) (now (y .entry)) cap (Under l (now (y .entry)) cells row)
+        (now (list .entry)) (kept .count) (kept .more) (now (list .exit)) (r .count) (r .more) ⌝ }
+{
+    let mut tried: [u8; 256] = [0; 256];
+    let n = contents::contents(l.nc, y, cells.place[z], cells.lost[z], &mut tried);
+    let mut held = kept;
+    let mut u: usize = 0;
+    while u < n {
+        held = try_content(l, y, numbers, cells, row, z, tried[u], cap, list, held);
+        u += 1;
+    }
+    held
 }
 
 // Every content of the open cells, cell by cell while there are more of them than checks; the others have one content only. Where
@@ -203,25 +220,7 @@ fn try_contents(
     if erased.n <= l.r {
         return add_recovered(l, y, numbers, cells, erased, row, cap, list, kept);
     }
-    let size = contents(l.nc);
-    let mut held = kept;
-    let mut v: usize = 0;
-    while v < size {
-        held = try_content(
-            l,
-            y,
-            numbers,
-            cells,
-            row,
-            z,
-            (v % 256) as u8,
-            cap,
-            list,
-            held,
-        );
-        v += 1;
-    }
-    held
+    try_each(l, y, numbers, cells, row, z, cap, list, kept)
 }
 
 // Every fill of the open cells that meets all sums and checks is listed, where no block and no chunk-string has exactly one loss
