@@ -1,10 +1,14 @@
-// The contents of a chunk that lose just so many bits against the received row, listed bit by bit: most numbers are never looked at.
-// Contracts cite specs/Contents.antt; strings are unpacked, one byte a bit.
+// The contents of a chunk that lose just so many bits against the received row, listed bit by bit, so that most numbers are never
+// looked at; and those of them that the sum of a line allows, where the rest of the line is in hand. Contracts cite
+// specs/Contents.antt and specs/Asks.antt; strings are unpacked, one byte a bit.
 ghost use mathlib.Core.Path.{_≡_};
-ghost use Prim.Native.Nat.{ℕ, _^_, _<_, _≤_};
-ghost use lib.ListN.{length, drop};
+ghost use Prim.Native.Nat.{ℕ, _+_, _*_, _^_, _<_, _≤_};
+ghost use lib.ListN.{length, drop, set};
 ghost use Rattle.bits.specs.Bits.{digits};
+ghost use Rattle.vt.specs.Sum.{sum};
 ghost use Rattle.consistent.specs.Greedy.{losses};
+ghost use Rattle.lines.specs.Lines.{line, Inside};
+ghost use Rattle.contents.specs.Asks.{Allows, Small};
 ghost use Rattle.contents.specs.Contents.{Among, Ends, EndsAfter, Room, Gathered};
 
 // Lists from entry n on the contents whose bits before the last `left` are those of v, and whose last ones lose just a bits against y
@@ -58,4 +62,68 @@ pub fn contents(nc: usize, y: &[u8], place: usize, a: u8, out: &mut [u8]) -> usi
         → Among (now (out .exit)) 0 r w) ⌝ }
 {
     gather(nc, 0, y, place, bits::wide(a), out, 0)
+}
+
+// What the sum of a line asks of one of its chunks: the sum of the rest of the line and the total of the chunk's positions, the first
+// of which is given, are so much modulo a number.
+pub struct Ask {
+    pub rest: usize,
+    pub first: usize,
+    pub modulus: usize,
+    pub want: usize,
+}
+
+// What a line asks of which more than one chunk is not in hand: nothing.
+pub fn anything() -> Ask
+    ensures { λ r. ⌜ Small r × ((nc v : ℕ) → Allows nc r v) ⌝ }
+{
+    Ask {
+        rest: 0,
+        first: 1,
+        modulus: 1,
+        want: 0,
+    }
+}
+
+// What a line with this sum asks of its chunk t, the others being those of the row in hand.
+pub fn asked(
+    nc: usize,
+    start: usize,
+    stride: usize,
+    count: usize,
+    t: usize,
+    row: [u8; 255],
+    want: usize,
+) -> Ask
+    requires { ⌜ Inside nc start stride count 255 × ((0 < stride) × (t < count)) ⌝ }
+    ensures { λ r. ⌜ Small r
+        × ((v : ℕ) → sum (line nc start stride count (set row (start + t * stride) v)) ≡ want → Allows nc r v) ⌝ }
+{
+    let at = start + t * stride;
+    let mut bare = row;
+    bare[at] = 0;
+    Ask {
+        rest: lines::line_sum(nc, start, stride, count, &bare),
+        first: t * nc + 1,
+        modulus: count * nc + 1,
+        want: want,
+    }
+}
+
+// Keeps of the first n contents those that a line allows; the answer is how many they are.
+pub fn sift(nc: usize, a: Ask, out: &mut [u8], n: usize) -> usize
+    requires { ⌜ (nc ≤ 8) × (Small a × (n ≤ length (now out))) ⌝ }
+    ensures { λ r. ⌜ (r ≤ n) × ((w : ℕ) → Among (now (out .entry)) 0 n w → Allows nc a w → Among (now (out .exit)) 0 r w) ⌝ }
+{
+    let mut k: usize = 0;
+    let mut i: usize = 0;
+    while i < n {
+        let v = out[i];
+        if (a.rest + lines::chunk_total(nc, v, a.first)) % a.modulus == a.want {
+            out[k] = v;
+            k += 1;
+        }
+        i += 1;
+    }
+    k
 }

@@ -1,18 +1,18 @@
 -- What is known of a consistent row under a state: a line of chunks none of which is open has its sum, a row without open chunks
 -- is the one in hand, and its chunk at a cell is one of the contents tried. Rests on the laws of lines, found and cells.
 -- Assumes nothing.
-use Prim.Native.Nat.{ℕ, _+_, _*_, _<_, _≤_}
-use mathlib.Core.Path.{_≡_, sym, ap, _∙_}
+use Prim.Native.Nat.{ℕ, _+_, _*_, _<_}
+use mathlib.Core.Path.{_≡_, refl, sym, ap, _∙_}
 use mathlib.Core.Logic.{_⊎_, inl, inr, ⊎-elim}
 use mathlib.Core.List.{List}
+use native.Mathlib.Nat.{add-comm, mul-one}
 use native.Mathlib.Omega.{arith}
-use lib.ListN.{length, getD, drop, set}
-use Rattle.bits.specs.Bits.{digits}
+use lib.ListN.{length, getD, set}
 use Rattle.bits.proofs.Laws.{lt-or-ge}
 use Rattle.vt.specs.Sum.{sum}
 use Rattle.message.specs.declared.Layout.{Layout}
 use Rattle.message.proofs.Fields.{field-room}
-use Rattle.consistent.specs.Greedy.{losses, inAll}
+use Rattle.consistent.specs.Greedy.{inAll}
 use Rattle.lines.specs.Lines.{values, line}
 use Rattle.lines.proofs.Lines.{block-line, string-line}
 use Rattle.found.specs.Found.{Given, Sent, InHand}
@@ -47,6 +47,33 @@ module _ {l : Layout} {numbers y x : List ℕ} (given : Given l numbers y) (s : 
   pub none-open : ((z : ℕ) → z < 12 → getD (cells .lost) z 0 ≡ 0) → InHand l row x
   none-open n c h =
       chunk-in-hand l (given .is-legal) y cells row x u c h (λ o. absurd (omega (arith, o .1 .0, n (o .0) (o .1 .0 .0))))
+
+-- ---- a cell that is the only open one of its chunk-string, or of its block
+module _ {l : Layout} {numbers y x : List ℕ} (given : Given l numbers y) (s : Sent l numbers y x)
+    {cells : Cells} {row : List ℕ} (u : Under l y cells row x) (z : ℕ) (h : chunkOf l cells z < length row) where
+  -- the row's own content there
+  abbrev own : ℕ
+  own = getD (values l x) (chunkOf l cells z) 0
+
+  -- with it the chunk-string in hand has its sum
+  pub string-alone : length (cells .column) ≡ 12 → getD (cells .column) z 0 < l .l2
+      → share (cells .column) (set (cells .lost) z 0) (getD (cells .column) z 0) ≡ 0
+      → sum (line (l .nc) (getD (cells .column) z 0) (l .l2) (l .l1)
+      (set row (getD (cells .column) z 0 + getD (cells .block) z 0 * l .l2) own))
+      ≡ getD numbers (l .l1 + getD (cells .column) z 0) 0
+  string-alone n g e =
+      rw (add-comm (getD (cells .column) z 0) (getD (cells .block) z 0 * l .l2))
+      (string-has given s (decide l y cells row x u z own h refl) (getD (cells .column) z 0) n g e)
+
+  -- and the block
+  pub block-alone : length (cells .block) ≡ 12 → getD (cells .block) z 0 < l .l1
+      → share (cells .block) (set (cells .lost) z 0) (getD (cells .block) z 0) ≡ 0
+      → sum (line (l .nc) (getD (cells .block) z 0 * l .l2) 1 (l .l2)
+      (set row (getD (cells .block) z 0 * l .l2 + getD (cells .column) z 0 * 1) own))
+      ≡ getD numbers (getD (cells .block) z 0) 0
+  block-alone n g e =
+      rw (mul-one (getD (cells .column) z 0))
+      (block-has given s (decide l y cells row x u z own h refl) (getD (cells .block) z 0) n g e)
 
 -- where a row under the state is the one in hand, each open cell loses just its count there
 pub in-hand-loses : (l : Layout) (y : List ℕ) (cells : Cells) → Placed l (length y) cells → (hand : List ℕ) {row x : List ℕ}

@@ -3,21 +3,24 @@
 // erased, every fill that meets all sums and checks is listed. Contracts cite specs/Fill.antt, and the specs of found and of
 // cells.
 use cells::Cells;
+use contents::Ask;
 use message::Layout;
 use recover::Erased;
 use rows::Kept;
 ghost use mathlib.Core.Path.{_≡_};
 ghost use mathlib.Core.Bool.{true};
+ghost use mathlib.Core.List.{List};
 ghost use Prim.Native.Nat.{ℕ, _+_, _*_, _<_, _≤_};
 ghost use lib.Dec.{eqb};
-ghost use lib.ListN.{length, getD};
-ghost use Rattle.vt.specs.Sum.{sum};
+ghost use lib.ListN.{length, getD, set};
 ghost use Rattle.message.specs.Layout.{legal};
-ghost use Rattle.lines.specs.Lines.{line, Inside};
-ghost use Rattle.found.specs.Found.{Given, Holding, Grown};
-ghost use Rattle.cells.specs.Cells.{NoSingle, Open, Placed, Under};
+ghost use Rattle.lines.specs.Lines.{values};
+ghost use Rattle.found.specs.Found.{Given, Sent, Holding, Grown};
+ghost use Rattle.cells.specs.Cells.{share, NoSingle, chunkOf, Open, Placed, Under};
+ghost use Rattle.contents.specs.Asks.{Small};
+ghost use Rattle.contents.specs.Contents.{Among};
 ghost use Rattle.recover.specs.Recover.{Collected};
-ghost use Rattle.fill.specs.Fill.{AllLose, Passes, With};
+ghost use Rattle.fill.specs.Fill.{Asks, AllLose, With};
 
 // The first cell that is still to be found, 12 if there is none.
 fn next_open(lost: [u8; 12]) -> usize
@@ -40,58 +43,66 @@ fn wide(v: u16) -> usize
     v as usize
 }
 
-// Whether a line of the row in hand has this sum.
-fn has_sum(nc: usize, start: usize, stride: usize, count: usize, row: [u8; 255], want: u16) -> bool
-    requires { ⌜ Inside nc start stride count 255 ⌝ }
-    ensures { λ r. ⌜ r ≡ eqb (sum (line nc start stride count row)) want ⌝ }
+// Whether no other cell with the key of cell z, its block or its column, is open.
+fn alone(keys: [u8; 12], lost: [u8; 12], z: usize) -> bool
+    requires { ⌜ z < 12 ⌝ }
+    ensures { λ r. ⌜ r ≡ eqb (share keys (set lost z 0) (getD keys z 0)) 0 ⌝ }
 {
-    if lines::line_sum(nc, start, stride, count, &row) == wide(want) {
-        return true;
-    }
-    false
+    let mut others = lost;
+    others[z] = 0;
+    cells::share(keys, others, keys[z]) == 0
 }
 
-// Whether chunk-string j has its sum, or has a chunk that is still to be found: every consistent row under the state passes.
-fn string_met(l: Layout, numbers: &[u16], cells: Cells, row: [u8; 255], j: u8) -> bool
-    requires { ⌜ (legal l ≡ true) × ((length (now numbers) ≡ l .l1 + l .l2 + l .r) × (j < l .l2)) ⌝ }
-    ensures { λ r. ⌜ Passes l (now (numbers .entry)) cells row r ⌝ }
+// What the sum of its chunk-string asks of cell z: nothing where another cell is open there.
+fn ask_string(l: Layout, numbers: &[u16], cells: Cells, row: [u8; 255], z: usize) -> Ask
+    requires { ⌜ (legal l ≡ true) × ((length (now numbers) ≡ l .l1 + l .l2 + l .r)
+        × ((z < 12) × ((getD (cells .block) z 0 < l .l1) × (getD (cells .column) z 0 < l .l2)))) ⌝ }
+    ensures { λ r. ⌜ Small r × Asks l (now (numbers .entry)) cells row z r ⌝ }
 {
     let column = cells.column;
     let lost = cells.lost;
-    if cells::share(column, lost, j) != 0 {
-        return true;
+    if !alone(column, lost, z) {
+        return contents::anything();
     }
-    let at = bits::wide(j);
-    let k = l.l1 + at;
-    has_sum(l.nc, at, l.l2, l.l1, row, numbers[k])
+    let i = bits::wide(cells.block[z]);
+    let j = bits::wide(column[z]);
+    let k = l.l1 + j;
+    contents::asked(l.nc, j, l.l2, l.l1, i, row, wide(numbers[k]))
 }
 
-// The same of block i.
-fn block_met(l: Layout, numbers: &[u16], cells: Cells, row: [u8; 255], i: u8) -> bool
-    requires { ⌜ (legal l ≡ true) × ((length (now numbers) ≡ l .l1 + l .l2 + l .r) × (i < l .l1)) ⌝ }
-    ensures { λ r. ⌜ Passes l (now (numbers .entry)) cells row r ⌝ }
+// The same of its block.
+fn ask_block(l: Layout, numbers: &[u16], cells: Cells, row: [u8; 255], z: usize) -> Ask
+    requires { ⌜ (legal l ≡ true) × ((length (now numbers) ≡ l .l1 + l .l2 + l .r)
+        × ((z < 12) × ((getD (cells .block) z 0 < l .l1) × (getD (cells .column) z 0 < l .l2)))) ⌝ }
+    ensures { λ r. ⌜ Small r × Asks l (now (numbers .entry)) cells row z r ⌝ }
 {
     let block = cells.block;
     let lost = cells.lost;
-    if cells::share(block, lost, i) != 0 {
-        return true;
+    if !alone(block, lost, z) {
+        return contents::anything();
     }
-    let at = bits::wide(i);
-    has_sum(l.nc, at * l.l2, 1, l.l2, row, numbers[at])
+    let i = bits::wide(block[z]);
+    let j = bits::wide(cells.column[z]);
+    contents::asked(l.nc, i * l.l2, 1, l.l2, j, row, wide(numbers[i]))
 }
 
-// Whether the chunk-string and the block of cell z, which was decided last, pass.
-fn sums_met(l: Layout, numbers: &[u16], cells: Cells, row: [u8; 255], z: usize) -> bool
-    requires { ⌜ (legal l ≡ true) × ((length (now numbers) ≡ l .l1 + l .l2 + l .r)
-        × ((z < 12) × ((getD (cells .block) z 0 < l .l1) × (getD (cells .column) z 0 < l .l2)))) ⌝ }
-    ensures { λ r. ⌜ Passes l (now (numbers .entry)) cells row r ⌝ }
+// Lists the contents of cell z, which is open, that lose just its count and that its sums allow; the answer is how many they are.
+fn list_contents(
+    l: Layout,
+    y: &[u8],
+    numbers: &[u16],
+    cells: Cells,
+    row: [u8; 255],
+    z: usize,
+    out: &mut [u8],
+) -> usize
+    requires { ⌜ Given l (now numbers) (now y) × ((Placed l (length (now y)) cells × Open cells z) × (256 ≤ length (now out))) ⌝ }
+    ensures { λ r. ⌜ (r ≤ 256) × ((x : List ℕ) → Sent l (now (numbers .entry)) (now (y .entry)) x
+        → Under l (now (y .entry)) cells row x → Among (now (out .exit)) 0 r (getD (values l x) (chunkOf l cells z) 0)) ⌝ }
 {
-    let i = cells.block[z];
-    let j = cells.column[z];
-    if !string_met(l, numbers, cells, row, j) {
-        return false;
-    }
-    block_met(l, numbers, cells, row, i)
+    let all = contents::contents(l.nc, y, cells.place[z], cells.lost[z], out);
+    let some = contents::sift(l.nc, ask_string(l, numbers, cells, row, z), out, all);
+    contents::sift(l.nc, ask_block(l, numbers, cells, row, z), out, some)
 }
 
 // Whether each open cell of the row in hand loses just its count: a row that fails is not under the state.
@@ -137,7 +148,7 @@ fn add_recovered(
     found::add_row(l, y, numbers, whole, cap, list, kept)
 }
 
-// The rows in which cell z, which is open, has the content v: it is tried if its sums allow it.
+// The rows in which cell z, which is open, has the content v.
 fn try_content(
     l: Layout,
     y: &[u8],
@@ -160,13 +171,10 @@ fn try_content(
     filled[at] = v;
     let mut next = cells;
     next.lost[z] = 0;
-    if !sums_met(l, numbers, next, filled, z) {
-        return kept;
-    }
     try_contents(l, y, numbers, next, filled, cap, list, kept)
 }
 
-// Every content of cell z, which is open, that loses just its count.
+// Every content of cell z, which is open, that loses just its count and that its sums allow.
 fn try_each(
     l: Layout,
     y: &[u8],
@@ -184,7 +192,7 @@ fn try_each(
         (now (list .entry)) (kept .count) (kept .more) (now (list .exit)) (r .count) (r .more) ⌝ }
 {
     let mut tried: [u8; 256] = [0; 256];
-    let n = contents::contents(l.nc, y, cells.place[z], cells.lost[z], &mut tried);
+    let n = list_contents(l, y, numbers, cells, row, z, &mut tried);
     let mut held = kept;
     let mut u: usize = 0;
     while u < n {

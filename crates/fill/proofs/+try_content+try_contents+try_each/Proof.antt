@@ -4,18 +4,14 @@
 -- found (cells). Assumes nothing.
 use borrow.Author.Needs.{needs}
 use Prim.Native.Nat.{ℕ, _+_, _-_, _*_, _<_}
-use mathlib.Core.Path.{_≡_, sym, _∙_}
-use mathlib.Core.Bool.{false≢true}
+use mathlib.Core.Path.{_≡_}
 use mathlib.Core.List.{List}
 use native.Mathlib.Omega.{arith}
-use borrow.Author.Tests.{not-true}
 use lib.ListN.{length, set}
-use Rattle.message.proofs.Legal.{legal-bounds}
 use Rattle.consistent.specs.Greedy.{inAll}
-use Rattle.lines.proofs.Lines.{value-low}
 use Rattle.found.specs.Found.{Grown}
 use Rattle.found.proofs.Found.{grown-length, grown-holding, grown-nothing, grown-then, grown-weaken}
-use Rattle.cells.specs.Cells.{chunkOf, Under, found}
+use Rattle.cells.specs.Cells.{Under, found}
 use Rattle.cells.proofs.State.{placed-found}
 use Rattle.fill.specs.Fill.{With, Tried}
 use Rattle.fill.proofs.Rows.{with-found, tried-next, lost-less, none-open}
@@ -30,10 +26,9 @@ use Rattle.fill.proofs.+try_content+try_contents+try_each.Lts-try_conte
 use Rattle.fill.proofs.try_each.Reads as try-each
 use Rattle.fill.proofs.try_each.Kinds as try-each-kinds
 use Rattle.fill.proofs.+try_content+try_contents+try_each.Lts-try_each as try-each-lts
-use Rattle.contents.proofs.contents.Reads as contents-reads
 use Rattle.fill.proofs.add_recovered.Reads as add-recovered-reads
+use Rattle.fill.proofs.list_contents.Reads as list-contents-reads
 use Rattle.fill.proofs.next_open.Reads as next-open-reads
-use Rattle.fill.proofs.sums_met.Reads as sums-met-reads
 use Rattle.found.proofs.add_row.Reads as add-row-reads
 use Rattle.recover.proofs.chunk_of.Reads as chunk-of-reads
 use Rattle.recover.proofs.collect.Reads as collect-reads
@@ -81,8 +76,6 @@ abbrev try-content-claims : ℕ → try-content-lts.Claims
 try-content-claims t = (
   chunk-of-reads.Asked,
   chunk-of-reads.Learnt,
-  sums-met-reads.Asked,
-  sums-met-reads.Learnt,
   try-contents-below t,
   try-contents.Post,
 )
@@ -103,8 +96,8 @@ try-contents-claims t = (
 
 abbrev try-each-claims : ℕ → try-each-lts.Claims
 try-each-claims t = (
-  contents-reads.Asked,
-  contents-reads.Learnt,
+  list-contents-reads.Asked,
+  list-contents-reads.Learnt,
   try-content-below t,
   try-content.Post,
 )
@@ -142,26 +135,10 @@ try-content-element-write-next : (t : ℕ)
     → try-content-lts.Need-element-write-next (try-content-claims t) (try-content-at t) try-content.Post
 try-content-element-write-next t c = search needs
 
-try-content-sums-met-requires : (t : ℕ)
-    → try-content-lts.Need-sums-met-requires (try-content-claims t) (try-content-at t) try-content.Post
-try-content-sums-met-requires t c κs =
-    let s = c .before .before .before .before in
-    let o = s .pre .1 .1 .1 .1 in
-    let q = s .pre .1 .1 .1 .0 (s .args .z) o in
-    (s .pre .1 .0 .is-legal, (s .pre .1 .0 .count, (o .0, (q .0, q .1 .0))))
-
-try-content-returns : (t : ℕ)
-    → try-content-lts.Need-returns (try-content-claims t) (try-content-at t) try-content.Post
-try-content-returns t c =
-    let s = c .before .before .before .before .before .before in
-    grown-nothing (s .pre .1 .1 .0)
-    (λ x r w. false≢true (sym (not-true _ (c .if1 .taken))
-    ∙ c .before .sums-met .ensures (s .args .y .now) x (s .pre .1 .0) r (found-under t (c .before .before) x w)))
-
 try-content-try-contents-requires : (t : ℕ)
     → try-content-lts.Need-try-contents-requires (try-content-claims t) (try-content-at t) try-content.Post
 try-content-try-contents-requires t c κs =
-    let s = c .before .before .before .before .before .before .before in
+    let s = c .before .before .before .before .before in
     let a = s .args in (
       omega (arith, s .pre .0, lost-less (a .cells) (a .z) (s .pre .1 .1 .1 .1)),
       (s .pre .1 .0, (s .pre .1 .1 .0, placed-found (a .l) (length (a .y .now)) (a .cells) (a .z) (s .pre .1 .1 .1 .0))),
@@ -171,10 +148,10 @@ try-content-same-length : (t : ℕ)
     → try-content-lts.Need-same-length (try-content-claims t) (try-content-at t) try-content.Post
 try-content-same-length t c = search needs
 
-try-content-returns-2 : (t : ℕ)
-    → try-content-lts.Need-returns-2 (try-content-claims t) (try-content-at t) try-content.Post
-try-content-returns-2 t c =
-    grown-weaken (λ x r w. found-under t (c .before .before .before .before .before .before) x w) (c .before .before .try-contents .ensures)
+try-content-returns : (t : ℕ)
+    → try-content-lts.Need-returns (try-content-claims t) (try-content-at t) try-content.Post
+try-content-returns t c =
+    grown-weaken (λ x r w. found-under t (c .before .before .before .before) x w) (c .before .before .try-contents .ensures)
 
 try-contents-next-open-requires : (t : ℕ)
     → try-contents-lts.Need-next-open-requires (try-contents-claims t) (try-contents-at t) try-contents.Post
@@ -235,49 +212,36 @@ try-contents-returns-3 : (t : ℕ)
 try-contents-returns-3 t c = c .before .before .try-each .ensures
 
 abbrev try-each-Inv-loop : try-each-lts.InvT-loop
-try-each-Inv-loop l y numbers row z cap list₀ cells tried n held₀ u₀ list held u =
+try-each-Inv-loop l y numbers cells row z cap list₀ tried n held₀ u₀ list held u =
     Grown l numbers y cap (Tried l y cells row z tried u) list₀ (held₀ .count) (held₀ .more) list (held .count) (held .more)
 
 abbrev try-each-μ-loop : try-each-lts.MeasureT-loop
-try-each-μ-loop l y numbers row z cap list₀ cells tried n held₀ u₀ list held u = 256 - u
+try-each-μ-loop l y numbers cells row z cap list₀ tried n held₀ u₀ list held u = 256 - u
 
-try-each-mul-contents : (t : ℕ)
-    → try-each-lts.Need-mul-contents (try-each-claims t) (try-each-at t) try-each.Post try-each-Inv-loop try-each-μ-loop
-try-each-mul-contents t c = search needs
+try-each-slice-aggregate-list-contents : (t : ℕ)
+    → try-each-lts.Need-slice-aggregate-list-contents (try-each-claims t) (try-each-at t) try-each.Post try-each-Inv-loop try-each-μ-loop
+try-each-slice-aggregate-list-contents t c = search needs
 
-try-each-element-copy-out-contents : (t : ℕ)
-    → try-each-lts.Need-element-copy-out-contents (try-each-claims t) (try-each-at t) try-each.Post try-each-Inv-loop try-each-μ-loop
-try-each-element-copy-out-contents t c = search needs
-
-try-each-element-copy-out-contents-2 : (t : ℕ)
-    → try-each-lts.Need-element-copy-out-contents-2 (try-each-claims t) (try-each-at t) try-each.Post try-each-Inv-loop try-each-μ-loop
-try-each-element-copy-out-contents-2 t c = search needs
-
-try-each-slice-aggregate-contents : (t : ℕ)
-    → try-each-lts.Need-slice-aggregate-contents (try-each-claims t) (try-each-at t) try-each.Post try-each-Inv-loop try-each-μ-loop
-try-each-slice-aggregate-contents t c = search needs
-
-try-each-contents-requires : (t : ℕ)
-    → try-each-lts.Need-contents-requires (try-each-claims t) (try-each-at t) try-each.Post try-each-Inv-loop try-each-μ-loop
-try-each-contents-requires t c κs =
-    let s = c .before .before .before .before .before .before in
-    let q = s .pre .1 .1 .1 .0 (s .args .z) (s .pre .1 .1 .1 .1) in
-    (legal-bounds (s .args .l) (s .pre .1 .0 .is-legal) .nc-high, (q .1 .1, search needs))
+try-each-list-contents-requires : (t : ℕ)
+    → try-each-lts.Need-list-contents-requires (try-each-claims t) (try-each-at t) try-each.Post try-each-Inv-loop try-each-μ-loop
+try-each-list-contents-requires t c κs =
+    let s = c .before .before .before .before in
+    (s .pre .1 .0, (s .pre .1 .1 .1, search needs))
 
 try-each-loop-holds : (t : ℕ)
     → try-each-lts.Need-loop-holds (try-each-claims t) (try-each-at t) try-each.Post try-each-Inv-loop try-each-μ-loop
 try-each-loop-holds t c =
-    let s = c .before .before .before .before .before .before .before .before in
+    let s = c .before .before .before .before .before .before in
     grown-nothing (s .pre .1 .1 .0) (λ x r b. omega (arith, b .1 .1 .1 .0))
 
 try-each-array-read-try-content : (t : ℕ)
     → try-each-lts.Need-array-read-try-content (try-each-claims t) (try-each-at t) try-each.Post try-each-Inv-loop try-each-μ-loop
-try-each-array-read-try-content t c = omega (arith, c .loop-test .taken, c .before .before .before .contents .ensures .0)
+try-each-array-read-try-content t c = omega (arith, c .loop-test .taken, c .before .before .before .list-contents .ensures .0)
 
 try-each-try-content-requires : (t : ℕ)
     → try-each-lts.Need-try-content-requires (try-each-claims t) (try-each-at t) try-each.Post try-each-Inv-loop try-each-μ-loop
 try-each-try-content-requires t c κs =
-    let s = c .before .before .before .before .before .before .before .before .before .before .before in
+    let s = c .before .before .before .before .before .before .before .before .before in
     (omega (arith, s .pre .0), (s .pre .1 .0, (grown-holding (s .pre .1 .1 .0) (c .before .before .loop .inv), s .pre .1 .1 .1)))
 
 try-each-add-u : (t : ℕ)
@@ -286,31 +250,29 @@ try-each-add-u t c = search needs
 
 try-each-loop-less : (t : ℕ)
     → try-each-lts.Need-loop-less (try-each-claims t) (try-each-at t) try-each.Post try-each-Inv-loop try-each-μ-loop
-try-each-loop-less t c = omega (arith, c .before .before .before .before .loop-test .taken, c .before .before .before .before .before .before .before .contents .ensures .0)
+try-each-loop-less t c = omega (arith, c .before .before .before .before .loop-test .taken, c .before .before .before .before .before .before .before .list-contents .ensures .0)
 
 try-each-loop-again : (t : ℕ)
     → try-each-lts.Need-loop-again (try-each-claims t) (try-each-at t) try-each.Post try-each-Inv-loop try-each-μ-loop
 try-each-loop-again t c =
     let p = c .before .before .before .before .before in
-    let s = p .before .before .before .before .before .before .before .before .before in
+    let s = p .before .before .before .before .before .before .before in
     let a = s .args in
-    grown-weaken (λ x r b. tried-next (a .l) (a .y .now) (a .t4) (a .row) (a .z) (p .before .before .contents .last .1 .1 .1 .1 .0) (p .loop .u) b)
+    let tried = p .before .before .list-contents .last .1 .1 .1 .1 .1 .1 .0 in
+    grown-weaken (λ x r b. tried-next (a .l) (a .y .now) (a .cells) (a .row) (a .z) tried (p .loop .u) b)
     (grown-then (s .pre .1 .1 .0) (p .loop .inv) (c .before .before .try-content .ensures))
 
 try-each-same-length : (t : ℕ)
     → try-each-lts.Need-same-length (try-each-claims t) (try-each-at t) try-each.Post try-each-Inv-loop try-each-μ-loop
-try-each-same-length t c = grown-length (c .before .before .before .before .before .before .before .before .before .before .pre .1 .1 .0) (c .before .loop .inv)
+try-each-same-length t c = grown-length (c .before .before .before .before .before .before .before .before .pre .1 .1 .0) (c .before .loop .inv)
 
 try-each-returns : (t : ℕ)
     → try-each-lts.Need-returns (try-each-claims t) (try-each-at t) try-each.Post try-each-Inv-loop try-each-μ-loop
 try-each-returns t c =
-    let s = c .before .before .before .before .before .before .before .before .before .before in
-    let a = s .args in
-    let z = s .pre .1 .1 .1 .1 in
-    let own = c .before .before .before .contents .ensures .1 in
+    let own = c .before .before .before .list-contents .ensures .1 in
     grown-weaken
     (λ x r u.
-    let i = own _ (value-low (a .l) x (r .0) (chunkOf (a .l) (a .t4) (a .z))) (u .loses (a .z) z) in
+    let i = own x r u in
     (u, (i .0, (i .1 .0, (omega (arith, i .1 .1 .0, c .loop-test .left), i .1 .1 .1)))))
     (c .before .loop .inv)
 
@@ -321,11 +283,9 @@ pub +try-content+try-contents+try-each-spec : {M : Type 1} → statement M
     (try-content-chunk-of-requires t)
     (try-content-array-write-filled t)
     (try-content-element-write-next t)
-    (try-content-sums-met-requires t)
-    (try-content-returns t)
     (try-content-try-contents-requires t)
     (try-content-same-length t)
-    (try-content-returns-2 t))
+    (try-content-returns t))
     (λ t. try-contents-lts.spec (try-contents-claims t)
     (try-contents-at t)
     try-contents.Post
@@ -345,11 +305,8 @@ pub +try-content+try-contents+try-each-spec : {M : Type 1} → statement M
     try-each.Post
     try-each-Inv-loop
     try-each-μ-loop
-    (try-each-mul-contents t)
-    (try-each-element-copy-out-contents t)
-    (try-each-element-copy-out-contents-2 t)
-    (try-each-slice-aggregate-contents t)
-    (try-each-contents-requires t)
+    (try-each-slice-aggregate-list-contents t)
+    (try-each-list-contents-requires t)
     (try-each-loop-holds t)
     (try-each-array-read-try-content t)
     (try-each-try-content-requires t)
