@@ -22,26 +22,15 @@ ghost use Rattle.contents.specs.Contents.{Among};
 ghost use Rattle.recover.specs.Recover.{Collected};
 ghost use Rattle.fill.specs.Fill.{Asks, AllLose, With};
 
-// The first cell that is still to be found, 12 if there is none.
-fn next_open(lost: [u8; 12]) -> usize
-    ensures { λ z. ⌜ (z ≤ 12) × ((z < 12 → 0 < getD lost z 0) × ((k : ℕ) → k < z → getD lost k 0 ≡ 0)) ⌝ }
-{
-    let mut z: usize = 0;
-    while z < 12 {
-        if 0 < lost[z] {
-            return z;
-        }
-        z += 1;
-    }
-    z
-}
-
 // A number of a message as a number of any size.
 fn wide(v: u16) -> usize
     ensures { λ r. ⌜ r ≡ v ⌝ }
 {
     v as usize
 }
+
+// The rank of a cell that is not open.
+const CLOSED: usize = 512;
 
 // Whether no other cell with the key of cell z, its block or its column, is open.
 fn alone(keys: [u8; 12], lost: [u8; 12], z: usize) -> bool
@@ -51,6 +40,47 @@ fn alone(keys: [u8; 12], lost: [u8; 12], z: usize) -> bool
     let mut others = lost;
     others[z] = 0;
     cells::share(keys, others, keys[z]) == 0
+}
+
+// How dear it is to try the contents of cell z, below CLOSED if it is open: the sum of a line in which it is the only open one leaves
+// few contents, and fewer losses leave fewer.
+fn rank(block: [u8; 12], column: [u8; 12], lost: [u8; 12], z: usize) -> usize
+    requires { ⌜ z < 12 ⌝ }
+    ensures { λ r. ⌜ (r ≤ 512) × ((0 < getD lost z 0 → r < 512) × (r < 512 → 0 < getD lost z 0)) ⌝ }
+{
+    let a = bits::wide(lost[z]);
+    if a == 0 {
+        return CLOSED;
+    }
+    if alone(column, lost, z) {
+        return a;
+    }
+    if alone(block, lost, z) {
+        return a;
+    }
+    a + 256
+}
+
+// The open cell whose contents are tried first, 12 if none is open. Any open cell will do; a good choice leaves few contents to try.
+fn choose(cells: Cells) -> usize
+    ensures { λ z. ⌜ (z ≤ 12) × ((z < 12 → 0 < getD (cells .lost) z 0)
+        × (z ≡ 12 → (k : ℕ) → k < 12 → getD (cells .lost) k 0 ≡ 0)) ⌝ }
+{
+    let block = cells.block;
+    let column = cells.column;
+    let lost = cells.lost;
+    let mut best: usize = 12;
+    let mut least: usize = CLOSED;
+    let mut z: usize = 0;
+    while z < 12 {
+        let dear = rank(block, column, lost, z);
+        if dear < least {
+            best = z;
+            least = dear;
+        }
+        z += 1;
+    }
+    best
 }
 
 // What the sum of its chunk-string asks of cell z: nothing where another cell is open there.
@@ -219,8 +249,7 @@ fn try_contents(
     ensures { λ r. ⌜ Grown l (now (numbers .entry)) (now (y .entry)) cap (Under l (now (y .entry)) cells row)
         (now (list .entry)) (kept .count) (kept .more) (now (list .exit)) (r .count) (r .more) ⌝ }
 {
-    let lost = cells.lost;
-    let z = next_open(lost);
+    let z = choose(cells);
     if z == 12 {
         return found::add_row(l, y, numbers, row, cap, list, kept);
     }

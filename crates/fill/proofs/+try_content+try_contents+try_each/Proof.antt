@@ -28,7 +28,7 @@ use Rattle.fill.proofs.try_each.Kinds as try-each-kinds
 use Rattle.fill.proofs.+try_content+try_contents+try_each.Lts-try_each as try-each-lts
 use Rattle.fill.proofs.add_recovered.Reads as add-recovered-reads
 use Rattle.fill.proofs.list_contents.Reads as list-contents-reads
-use Rattle.fill.proofs.next_open.Reads as next-open-reads
+use Rattle.fill.proofs.choose.Reads as choose-reads
 use Rattle.found.proofs.add_row.Reads as add-row-reads
 use Rattle.recover.proofs.chunk_of.Reads as chunk-of-reads
 use Rattle.recover.proofs.collect.Reads as collect-reads
@@ -82,8 +82,8 @@ try-content-claims t = (
 
 abbrev try-contents-claims : ℕ → try-contents-lts.Claims
 try-contents-claims t = (
-  next-open-reads.Asked,
-  next-open-reads.Learnt,
+  choose-reads.Asked,
+  choose-reads.Learnt,
   add-row-reads.Asked,
   add-row-reads.Learnt,
   collect-reads.Asked,
@@ -153,9 +153,9 @@ try-content-returns : (t : ℕ)
 try-content-returns t c =
     grown-weaken (λ x r w. found-under t (c .before .before .before .before) x w) (c .before .before .try-contents .ensures)
 
-try-contents-next-open-requires : (t : ℕ)
-    → try-contents-lts.Need-next-open-requires (try-contents-claims t) (try-contents-at t) try-contents.Post
-try-contents-next-open-requires t c κs = search needs
+try-contents-choose-requires : (t : ℕ)
+    → try-contents-lts.Need-choose-requires (try-contents-claims t) (try-contents-at t) try-contents.Post
+try-contents-choose-requires t c κs = search needs
 
 try-contents-add-row-requires : (t : ℕ)
     → try-contents-lts.Need-add-row-requires (try-contents-claims t) (try-contents-at t) try-contents.Post
@@ -168,23 +168,22 @@ try-contents-same-length t c = search needs
 try-contents-returns : (t : ℕ)
     → try-contents-lts.Need-returns (try-contents-claims t) (try-contents-at t) try-contents.Post
 try-contents-returns t c =
-    let s = c .before .before .before .before .before .before .before .before .before .before in
+    let s = c .before .before .before .before .before .before .before .before .before in
     let o = c .before .before .before .before in
-    let all = o .before .next-open .ensures .1 .1 in
-    grown-weaken (λ x r u. none-open (s .pre .1 .0) r u (λ z h. all z (omega (arith, o .if1 .taken))))
+    grown-weaken (λ x r u. none-open (s .pre .1 .0) r u (o .before .choose .ensures .1 .1 (o .if1 .taken)))
     (c .before .before .add-row .ensures)
 
 try-contents-collect-requires : (t : ℕ)
     → try-contents-lts.Need-collect-requires (try-contents-claims t) (try-contents-at t) try-contents.Post
 try-contents-collect-requires t c κs =
-    let s = c .before .before .before .before .before .before in
+    let s = c .before .before .before .before .before in
     (s .pre .1 .0 .is-legal, λ z o. let q = s .pre .1 .1 .1 z o in (q .0, q .1 .0))
 
 try-contents-add-recovered-requires : (t : ℕ)
     → try-contents-lts.Need-add-recovered-requires (try-contents-claims t) (try-contents-at t) try-contents.Post
 try-contents-add-recovered-requires t c κs =
     let k = c .before .before .before .before in
-    let s = k .before .before .before .before .before .before .before in
+    let s = k .before .before .before .before .before .before in
     (s .pre .1 .0, (s .pre .1 .1 .0, (s .pre .1 .1 .1, (k .collect .ensures, c .before .if2 .taken))))
 
 try-contents-same-length-2 : (t : ℕ)
@@ -199,9 +198,9 @@ try-contents-try-each-requires : (t : ℕ)
     → try-contents-lts.Need-try-each-requires (try-contents-claims t) (try-contents-at t) try-contents.Post
 try-contents-try-each-requires t c κs =
     let o = c .before .before .before .before .before in
-    let s = o .before .before .before .before .before .before in
-    let z : o .before .next-open .result < 12 = omega (arith, o .before .next-open .ensures .0, o .if1 .left) in
-    (omega (arith, s .pre .0), (s .pre .1 .0, (s .pre .1 .1 .0, (s .pre .1 .1 .1, (z, o .before .next-open .ensures .1 .0 z)))))
+    let s = o .before .before .before .before .before in
+    let z : o .before .choose .result < 12 = omega (arith, o .before .choose .ensures .0, o .if1 .left) in
+    (omega (arith, s .pre .0), (s .pre .1 .0, (s .pre .1 .1 .0, (s .pre .1 .1 .1, (z, o .before .choose .ensures .1 .0 z)))))
 
 try-contents-same-length-3 : (t : ℕ)
     → try-contents-lts.Need-same-length-3 (try-contents-claims t) (try-contents-at t) try-contents.Post
@@ -289,7 +288,7 @@ pub +try-content+try-contents+try-each-spec : {M : Type 1} → statement M
     (λ t. try-contents-lts.spec (try-contents-claims t)
     (try-contents-at t)
     try-contents.Post
-    (try-contents-next-open-requires t)
+    (try-contents-choose-requires t)
     (try-contents-add-row-requires t)
     (try-contents-same-length t)
     (try-contents-returns t)
