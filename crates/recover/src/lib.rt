@@ -108,11 +108,11 @@ fn reduce(nc: usize, count: usize, row: [u8; 255]) -> [u8; 255]
     requires { ⌜ ((3 ≤ nc) × (nc ≤ 8)) × (count ≤ 255) ⌝ }
     ensures { λ r. ⌜ ((c : ℕ) → c < count → getD r c 0 ≡ getD row c 0 % 2 ^ nc) × Elements nc r ⌝ }
 {
-    let size = field::order(nc) + 1;
+    let ones = field::order(nc) as u8;
     let mut out: [u8; 255] = [0; 255];
     let mut c: usize = 0;
     while c < count {
-        out[c] = (bits::wide(row[c]) % size) as u8;
+        out[c] = row[c] & ones;
         c += 1;
     }
     out
