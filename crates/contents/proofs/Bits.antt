@@ -14,7 +14,7 @@ use Rattle.bits.specs.Bits.{digits}
 use Rattle.bits.proofs.Laws.{length-digits, lt-or-ge, pow-next}
 use Rattle.consistent.specs.Greedy.{losses}
 use Rattle.consistent.proofs.Greedy.{losses-most}
-use Rattle.contents.specs.Contents.{Ends, EndsAfter, Room}
+use Rattle.contents.specs.Contents.{Ends, EndsAfter}
 
 -- ---- the number
 -- a bit that is still to come

@@ -1,6 +1,6 @@
 -- Entries that are sifted one by one: those that a line allows go to the front. Assumes nothing.
 use Prim.Native.Nat.{ℕ, _+_, _<_, _≤_}
-use mathlib.Core.Path.{_≡_, refl, sym, ap, _∙_}
+use mathlib.Core.Path.{_≡_, refl, sym, _∙_}
 use mathlib.Core.Logic.{⊎-elim}
 use mathlib.Core.List.{List}
 use native.Mathlib.Omega.{arith}
@@ -33,7 +33,8 @@ module _ (nc : ℕ) (a : Ask) (entry : List ℕ) where
           all = λ w m allows. ⊎-elim (earlier w m allows) (this w m) (lt-or-ge (m .0) i);
         }
       where
-        earlier : (w : ℕ) (m : Among entry 0 (i + 1) w) → Allows nc a w → m .0 < i → Among (set exit k (getD exit i 0)) 0 (k + 1) w
+        earlier : (w : ℕ) (m : Among entry 0 (i + 1) w) → Allows nc a w → m .0 < i
+            → Among (set exit k (getD exit i 0)) 0 (k + 1) w
         earlier w m allows g =
             let n = s .all w (m .0, (m .1 .0, (g, m .1 .1 .1))) allows in
             let other = getD-set-other exit k (n .0) (getD exit i 0) 0 (λ e. omega (arith, n .1 .1 .0)) in

@@ -11,8 +11,8 @@ ghost use Rattle.lines.specs.Lines.{line, Inside};
 ghost use Rattle.contents.specs.Asks.{Allows, Small};
 ghost use Rattle.contents.specs.Contents.{Among, Ends, EndsAfter, Room, Gathered};
 
-// Lists from entry n on the contents whose bits before the last `left` are those of v, and whose last ones lose just a bits against y
-// from place p on. The answer is where the entries end.
+// Lists from entry n on the contents whose bits before the last `left` are those of v, and whose last ones lose just a bits against
+// y from place p on. The answer is where the entries end.
 fn gather(left: usize, v: u8, y: &[u8], p: usize, a: usize, out: &mut [u8], n: usize) -> usize
     requires { ⌜ Room left v n (length (now out)) × (p ≤ length (now y)) ⌝ }
     ensures { λ r. ⌜ Gathered (Ends left v a (drop p (now (y .entry)))) (2 ^ left) n (now (out .entry)) r (now (out .exit)) ⌝ }
@@ -42,7 +42,8 @@ fn gather_bit(
     n: usize,
 ) -> usize
     requires { ⌜ Room left v n (length (now out)) × (p ≤ length (now y)) ⌝ }
-    ensures { λ r. ⌜ Gathered (EndsAfter b left v a (drop p (now (y .entry)))) (2 ^ left) n (now (out .entry)) r (now (out .exit)) ⌝ }
+    ensures { λ r. ⌜ Gathered (EndsAfter b left v a (drop p (now (y .entry)))) (2 ^ left) n
+        (now (out .entry)) r (now (out .exit)) ⌝ }
 {
     if p < y.len() {
         if y[p] == b {
@@ -64,8 +65,8 @@ pub fn contents(nc: usize, y: &[u8], place: usize, a: u8, out: &mut [u8]) -> usi
     gather(nc, 0, y, place, bits::wide(a), out, 0)
 }
 
-// What the sum of a line asks of one of its chunks: the sum of the rest of the line and the total of the chunk's positions, the first
-// of which is given, are so much modulo a number.
+// What the sum of a line asks of one of its chunks: the sum of the rest of the line and the total of the chunk's positions, the
+// first of which is given, are so much modulo a number.
 pub struct Ask {
     pub rest: usize,
     pub first: usize,

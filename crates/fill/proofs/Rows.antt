@@ -1,5 +1,5 @@
--- What is known of a consistent row under a state: a line of chunks none of which is open has its sum, a row without open chunks
--- is the one in hand, and its chunk at a cell is one of the contents tried. Rests on the laws of lines, found and cells.
+-- What is known of a consistent row under a state: a line of chunks at most one of which is open has its sum, a row without open
+-- chunks is the one in hand, and its chunk at a cell is one of the contents tried. Rests on the laws of lines, found and cells.
 -- Assumes nothing.
 use Prim.Native.Nat.{ℕ, _+_, _*_, _<_}
 use mathlib.Core.Path.{_≡_, refl, sym, ap, _∙_}
@@ -80,7 +80,8 @@ pub in-hand-loses : (l : Layout) (y : List ℕ) (cells : Cells) → Placed l (le
     → Under l y cells row x → InHand l hand x → AllLose l y cells hand
 in-hand-loses l y cells p hand u h z o =
     let q = p z o in
-    let low : chunkOf l cells z < l .l1 * l .l2 = omega (arith, field-room (l .l1) (l .l2) (getD (cells .block) z 0) (q .0), q .1 .0) in
+    let room = field-room (l .l1) (l .l2) (getD (cells .block) z 0) (q .0) in
+    let low : chunkOf l cells z < l .l1 * l .l2 = omega (arith, q .1 .0) in
     rw (h (chunkOf l cells z) low) at (u .loses z o)
 
 -- ---- the contents of a cell, one after another

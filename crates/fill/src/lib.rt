@@ -42,8 +42,8 @@ fn alone(keys: [u8; 12], lost: [u8; 12], z: usize) -> bool
     cells::share(keys, others, keys[z]) == 0
 }
 
-// How dear it is to try the contents of cell z, below CLOSED if it is open: the sum of a line in which it is the only open one leaves
-// few contents, and fewer losses leave fewer.
+// How dear it is to try the contents of cell z, below CLOSED if it is open: the sum of a line in which it is the only open one
+// leaves few contents, and fewer losses leave fewer.
 fn rank(block: [u8; 12], column: [u8; 12], lost: [u8; 12], z: usize) -> usize
     requires { ⌜ z < 12 ⌝ }
     ensures { λ r. ⌜ (r ≤ 512) × ((0 < getD lost z 0 → r < 512) × (r < 512 → 0 < getD lost z 0)) ⌝ }
@@ -61,7 +61,8 @@ fn rank(block: [u8; 12], column: [u8; 12], lost: [u8; 12], z: usize) -> usize
     a + 256
 }
 
-// The open cell whose contents are tried first, 12 if none is open. Any open cell will do; a good choice leaves few contents to try.
+// The open cell whose contents are tried first, 12 if none is open. Any open cell will do; a good choice leaves few contents to
+// try.
 fn choose(cells: Cells) -> usize
     ensures { λ z. ⌜ (z ≤ 12) × ((z < 12 → 0 < getD (cells .lost) z 0)
         × (z ≡ 12 → (k : ℕ) → k < 12 → getD (cells .lost) k 0 ≡ 0)) ⌝ }

@@ -136,7 +136,8 @@ unmatched : (t : ℕ) (c : gather-bit-lts.Joined1 (gather-bit-claims t) (gather-
     let a = c .before .before .before .args in a .p < length (a .y .now) → getD (a .y .now) (a .p) 0 ≡ a .b → ⊥
 unmatched t c i e = ⊎-elim (λ w. w .2 .left e) (λ w. absurd (omega (arith, w .left))) (c .if1 .came)
 
-gather-bit-shared-slice-read-if2 : (t : ℕ) → gather-bit-lts.Need-shared-slice-read-if2 (gather-bit-claims t) (gather-bit-at t) gather-bit.Post
+gather-bit-shared-slice-read-if2 : (t : ℕ)
+    → gather-bit-lts.Need-shared-slice-read-if2 (gather-bit-claims t) (gather-bit-at t) gather-bit.Post
 gather-bit-shared-slice-read-if2 t c = search needs
 
 gather-bit-add-gather : (t : ℕ) → gather-bit-lts.Need-add-gather (gather-bit-claims t) (gather-bit-at t) gather-bit.Post
@@ -165,7 +166,8 @@ gather-bit-returns-2 t c =
 gather-bit-sub-gather : (t : ℕ) → gather-bit-lts.Need-sub-gather (gather-bit-claims t) (gather-bit-at t) gather-bit.Post
 gather-bit-sub-gather t c = search needs
 
-gather-bit-gather-requires-2 : (t : ℕ) → gather-bit-lts.Need-gather-requires-2 (gather-bit-claims t) (gather-bit-at t) gather-bit.Post
+gather-bit-gather-requires-2 : (t : ℕ)
+    → gather-bit-lts.Need-gather-requires-2 (gather-bit-claims t) (gather-bit-at t) gather-bit.Post
 gather-bit-gather-requires-2 t c κs = search needs
 
 gather-bit-same-length-2 : (t : ℕ) → gather-bit-lts.Need-same-length-2 (gather-bit-claims t) (gather-bit-at t) gather-bit.Post

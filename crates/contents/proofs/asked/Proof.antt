@@ -1,8 +1,8 @@
--- `contents::asked` meets its contract: the sum of the line with a zero for the chunk and what the chunk brings make its sum. Assumes
--- nothing.
+-- `contents::asked` meets its contract: the sum of the line with a zero for the chunk and what the chunk brings make its sum.
+-- Assumes nothing.
 use borrow.Author.Needs.{needs}
 use Prim.Native.Nat.{_+_, _*_, _<_, _≤_}
-use mathlib.Core.Path.{_≡_, ap, _∙_}
+use mathlib.Core.Path.{_≡_, _∙_}
 use native.Mathlib.Omega.{arith}
 use lib.ListN.{length, set, length-set}
 use Rattle.bits.specs.Bits.{longest}
@@ -16,7 +16,8 @@ use Rattle.contents.proofs.asked.Tie as tie
 
 -- the chunk stands in the row, and its bits in the line
 stands : (c : tie.Start) →
-    let a = c .args in (a .start + a .t * a .stride < 255) × ((a .t * a .nc + a .nc ≤ a .count * a .nc) × (a .count * a .nc ≤ longest))
+    let a = c .args in
+    (a .start + a .t * a .stride < 255) × ((a .t * a .nc + a .nc ≤ a .count * a .nc) × (a .count * a .nc ≤ longest))
 stands c =
     let a = c .args in
     let i = c .pre .0 in
@@ -70,7 +71,8 @@ returns c =
     let n = length-line (a .nc) (a .start) (a .stride) (a .count) (set (a .row) at 0) in
     let h = stands s in (
       record { rest = omega (arith, h .1); first = omega (arith, h .1); modulus = omega arith },
-      λ v k. rw e (sum-set (a .nc) (a .start) (a .stride) (a .count) (a .t) (s .pre .1 .1) v (a .row) (s .pre .1 .0) (omega (arith, h .0)) ∙ k),
+      λ v k. rw e (sum-set (a .nc) (a .start) (a .stride) (a .count) (a .t) (s .pre .1 .1) v (a .row) (s .pre .1 .0)
+          (omega (arith, h .0)) ∙ k),
     )
 
 pub asked-spec : {M : Type 1} → statement M

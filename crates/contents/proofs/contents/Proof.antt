@@ -1,8 +1,8 @@
 -- `contents::contents` meets its contract: before the first bit every content of nc bits is still to come. Assumes nothing.
 use borrow.Author.Needs.{needs}
 use Prim.Native.Nat.{_^_, _≤_}
-use mathlib.Core.Path.{_≡_, sym, _∙_}
-use native.Mathlib.Nat.{div-eq-of-lt, one-mul, zero-add}
+use mathlib.Core.Path.{sym, _∙_}
+use native.Mathlib.Nat.{div-eq-of-lt, one-mul}
 use native.Mathlib.Omega.{arith}
 use lib.Pow.{pow-mono}
 use Rattle.contents.proofs.contents.Statement.{statement}

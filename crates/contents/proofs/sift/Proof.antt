@@ -1,7 +1,7 @@
 -- `contents::sift` meets its contract. The loop's invariant: the entries passed are sifted. Assumes nothing.
 use borrow.Author.Needs.{needs}
 use Prim.Native.Nat.{ℕ, _+_, _-_, _%_, _<_, _≤_}
-use mathlib.Core.Path.{_≡_, ap, _∙_}
+use mathlib.Core.Path.{ap, _∙_}
 use mathlib.Core.Logic.{⊎-elim}
 use native.Mathlib.Omega.{arith}
 use lib.ListN.{length}
@@ -51,7 +51,8 @@ loop-again c =
     let s = p .before .before in
     let a = s .args in
     let v = p .loop in
-    let low : v .i < length (a .out .now) = omega (arith, c .before .before .before .before .before .before .loop-test .taken, s .pre .1 .1) in
+    let more = c .before .before .before .before .before .before .loop-test .taken in
+    let low : v .i < length (a .out .now) = omega (arith, s .pre .1 .1) in
     ⊎-elim
     (λ w. (omega arith, rw (w .1, w .2) (sifted-kept (a .nc) (a .a) (a .out .now) (v .i) (v .out) (v .k) (v .inv .1) low)))
     (λ w. (

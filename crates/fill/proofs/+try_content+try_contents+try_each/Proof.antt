@@ -1,7 +1,7 @@
--- `fill::try_content`, `fill::try_contents` and `fill::try_each`, which call each other, meet their contracts. The measure is thrice
--- the losses that are still open, and more for the functions that find none. The loop's invariant: every consistent row under the
--- state whose chunk at the cell is among the contents tried is known. Rests on the laws of steps (found) and of a cell that is
--- found (cells). Assumes nothing.
+-- `fill::try_content`, `fill::try_contents` and `fill::try_each`, which call each other, meet their contracts. The measure is
+-- thrice the losses that are still open, and more for the functions that find no cell. The loop's invariant: every consistent row
+-- under the state whose chunk at the cell is among the contents tried is known. Rests on the laws of steps (found) and of a cell
+-- that is found (cells). Assumes nothing.
 use borrow.Author.Needs.{needs}
 use Prim.Native.Nat.{ℕ, _+_, _-_, _*_, _<_}
 use mathlib.Core.Path.{_≡_}
@@ -218,7 +218,8 @@ abbrev try-each-μ-loop : try-each-lts.MeasureT-loop
 try-each-μ-loop l y numbers cells row z cap list₀ tried n held₀ u₀ list held u = 256 - u
 
 try-each-slice-aggregate-list-contents : (t : ℕ)
-    → try-each-lts.Need-slice-aggregate-list-contents (try-each-claims t) (try-each-at t) try-each.Post try-each-Inv-loop try-each-μ-loop
+    → try-each-lts.Need-slice-aggregate-list-contents (try-each-claims t) (try-each-at t) try-each.Post
+    try-each-Inv-loop try-each-μ-loop
 try-each-slice-aggregate-list-contents t c = search needs
 
 try-each-list-contents-requires : (t : ℕ)
@@ -249,7 +250,9 @@ try-each-add-u t c = search needs
 
 try-each-loop-less : (t : ℕ)
     → try-each-lts.Need-loop-less (try-each-claims t) (try-each-at t) try-each.Post try-each-Inv-loop try-each-μ-loop
-try-each-loop-less t c = omega (arith, c .before .before .before .before .loop-test .taken, c .before .before .before .before .before .before .before .list-contents .ensures .0)
+try-each-loop-less t c =
+    let t = c .before .before .before .before in
+    omega (arith, t .loop-test .taken, t .before .before .before .list-contents .ensures .0)
 
 try-each-loop-again : (t : ℕ)
     → try-each-lts.Need-loop-again (try-each-claims t) (try-each-at t) try-each.Post try-each-Inv-loop try-each-μ-loop
@@ -263,7 +266,8 @@ try-each-loop-again t c =
 
 try-each-same-length : (t : ℕ)
     → try-each-lts.Need-same-length (try-each-claims t) (try-each-at t) try-each.Post try-each-Inv-loop try-each-μ-loop
-try-each-same-length t c = grown-length (c .before .before .before .before .before .before .before .before .pre .1 .1 .0) (c .before .loop .inv)
+try-each-same-length t c =
+    grown-length (c .before .before .before .before .before .before .before .before .pre .1 .1 .0) (c .before .loop .inv)
 
 try-each-returns : (t : ℕ)
     → try-each-lts.Need-returns (try-each-claims t) (try-each-at t) try-each.Post try-each-Inv-loop try-each-μ-loop
@@ -276,7 +280,8 @@ try-each-returns t c =
     (c .before .loop .inv)
 
 pub +try-content+try-contents+try-each-spec : {M : Type 1} → statement M
-+try-content+try-contents+try-each-spec = close μ-try-content μ-try-contents μ-try-each (λ t. try-content-lts.spec (try-content-claims t)
++try-content+try-contents+try-each-spec = close μ-try-content μ-try-contents μ-try-each (λ t. try-content-lts.spec
+    (try-content-claims t)
     (try-content-at t)
     try-content.Post
     (try-content-chunk-of-requires t)

@@ -2,7 +2,7 @@
 -- lose just their counts there. Assumes nothing.
 use borrow.Author.Needs.{needs}
 use borrow.Author.Tests.{not-true}
-use mathlib.Core.Path.{_≡_, sym, _∙_}
+use mathlib.Core.Path.{sym, _∙_}
 use mathlib.Core.Bool.{false≢true}
 use mathlib.Core.List.{List}
 use Prim.Native.Nat.{ℕ}
@@ -38,7 +38,8 @@ returns c =
     let a = s .args in
     grown-nothing (s .pre .1 .0)
     (λ x r u. false≢true (sym (not-true _ (c .if1 .taken))
-    ∙ c .before .all-lose .ensures (in-hand-loses (a .l) (a .y .now) (a .cells) (s .pre .1 .1 .0) (w .recover .result) u (recovered w x r u))))
+    ∙ c .before .all-lose .ensures (in-hand-loses (a .l) (a .y .now) (a .cells) (s .pre .1 .1 .0)
+    (w .recover .result) u (recovered w x r u))))
 
 add-row-requires : tie.Need-add-row-requires
 add-row-requires c κs = search needs

@@ -1,10 +1,9 @@
 -- `fill::all_lose` meets its contract: where it says no, it has come to an open cell that loses another count. Assumes nothing.
 use borrow.Author.Needs.{needs}
 use borrow.Author.Tests.{eqb-false, not-true}
-use Prim.Native.Nat.{_-_, _<_, _≤_}
-use mathlib.Core.Path.{_≡_, sym, ap, _∙_}
+use Prim.Native.Nat.{_-_, _≤_}
+use mathlib.Core.Path.{sym, _∙_}
 use native.Mathlib.Omega.{arith}
-use lib.ListN.{getD}
 use Rattle.message.proofs.Legal.{legal-bounds}
 use Rattle.cells.specs.Cells.{Open}
 use Rattle.fill.proofs.all_lose.Statement.{statement}
@@ -17,7 +16,8 @@ abbrev μ-loop : tie.MeasureT-loop
 μ-loop l y row cells z₀ z = 12 - z
 
 -- the cell that is looked at is open, and stands in the row
-opened : (c : tie.Then1 Inv-loop μ-loop) → Open (c .before .before .before .before .before .args .t3) (c .before .before .before .loop .z)
+opened : (c : tie.Then1 Inv-loop μ-loop)
+    → Open (c .before .before .before .before .before .args .t3) (c .before .before .before .loop .z)
 opened c = (c .before .before .loop-test .taken, c .if1 .taken)
 
 loop-holds : tie.Need-loop-holds Inv-loop μ-loop

@@ -1,7 +1,7 @@
 -- `fill::ask_string` meets its contract: with the row's own content the chunk-string has its sum. Assumes nothing.
 use borrow.Author.Needs.{needs}
 use borrow.Author.Tests.{eqb-true, not-false}
-use Prim.Native.Nat.{_*_, _<_, _≤_}
+use Prim.Native.Nat.{_<_}
 use mathlib.Core.Path.{_≡_, sym, _∙_}
 use native.Mathlib.Omega.{arith}
 use lib.ListN.{length, getD}
@@ -71,11 +71,14 @@ returns-2 c =
     let o = c .before .before .before .before .before .before .before in
     let b = o .before .before .before .before .before in
     let a = b .args in
+    let first = c .before .before .before .before .wide2 .ensures in
+    let second = c .before .before .before .before .before .wide .ensures in
     let e = eqb-true _ _ (sym (o .before .alone .ensures) ∙ not-false _ (o .if1 .left)) in (
       c .asked .ensures .0,
       λ y x g s u.
           let has = string-alone g s u (a .z) (in-row b) (cells-column b) (b .pre .1 .1 .1 .1) e in
-          c .asked .ensures .1 (getD (values (a .l) x) (chunkOf (a .l) (a .t3) (a .z)) 0) (rw (c .before .wide3 .ensures, c .before .before .before .before .wide2 .ensures, c .before .before .before .before .before .wide .ensures) has),
+          let own = getD (values (a .l) x) (chunkOf (a .l) (a .t3) (a .z)) 0 in
+          c .asked .ensures .1 own (rw (c .before .wide3 .ensures, first, second) has),
     )
 
 pub ask-string-spec : {M : Type 1} → statement M

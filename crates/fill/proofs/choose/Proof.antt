@@ -1,5 +1,5 @@
--- `fill::choose` meets its contract. The loop's invariant: the best cell so far is open, and where there is none no cell passed is.
--- Assumes nothing.
+-- `fill::choose` meets its contract. The loop's invariant: the best cell so far is open, and where there is none no cell passed
+-- is. Assumes nothing.
 use borrow.Author.Needs.{needs}
 use borrow.Author.Count.{below-more}
 use Prim.Native.Nat.{ℕ, zero, suc, _-_, _<_, _≤_}
