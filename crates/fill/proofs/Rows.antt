@@ -1,27 +1,28 @@
--- What is known of a consistent row under a state: a line of chunks none of which is open has its sum, a row without open chunks
--- is the one in hand, and its chunk at a cell is one of the contents tried. Rests on the laws of lines, found and cells.
+-- What is known of a consistent row under a state: a line of chunks at most one of which is open has its sum, a row without open
+-- chunks is the one in hand, and its chunk at a cell is one of the contents tried. Rests on the laws of lines, found and cells.
 -- Assumes nothing.
-use Prim.Native.Nat.{ℕ, _+_, _*_, _<_, _≤_}
-use mathlib.Core.Path.{_≡_, sym, ap, _∙_}
+use Prim.Native.Nat.{ℕ, _+_, _*_, _<_}
+use mathlib.Core.Path.{_≡_, refl, sym, ap, _∙_}
 use mathlib.Core.Logic.{_⊎_, inl, inr, ⊎-elim}
 use mathlib.Core.List.{List}
+use native.Mathlib.Nat.{add-comm, mul-one}
 use native.Mathlib.Omega.{arith}
-use lib.ListN.{length, getD, drop, set}
-use Rattle.bits.specs.Bits.{digits}
+use lib.ListN.{length, getD, set}
 use Rattle.bits.proofs.Laws.{lt-or-ge}
 use Rattle.vt.specs.Sum.{sum}
 use Rattle.message.specs.declared.Layout.{Layout}
-use Rattle.consistent.specs.Greedy.{losses, inAll}
+use Rattle.message.proofs.Fields.{field-room}
+use Rattle.consistent.specs.Greedy.{inAll}
 use Rattle.lines.specs.Lines.{values, line}
 use Rattle.lines.proofs.Lines.{block-line, string-line}
 use Rattle.found.specs.Found.{Given, Sent, InHand}
 use Rattle.found.proofs.Found.{sent-parts}
-use Rattle.cells.specs.Cells.{share, chunkOf, Open, Under, found}
+use Rattle.cells.specs.Cells.{share, chunkOf, Open, Placed, Under, found}
 use Rattle.cells.specs.declared.Cells.{Cells}
 use Rattle.cells.proofs.Shares.{all-found}
 use Rattle.cells.proofs.State.{decide, closed-column, closed-block}
 use Rattle.recover.proofs.Recovered.{chunk-in-hand}
-use Rattle.fill.specs.Fill.{With, Below}
+use Rattle.fill.specs.Fill.{AllLose, With, Tried}
 
 -- ---- one consistent row under a state
 module _ {l : Layout} {numbers y x : List ℕ} (given : Given l numbers y) (s : Sent l numbers y x)
@@ -47,23 +48,58 @@ module _ {l : Layout} {numbers y x : List ℕ} (given : Given l numbers y) (s : 
   none-open n c h =
       chunk-in-hand l (given .is-legal) y cells row x u c h (λ o. absurd (omega (arith, o .1 .0, n (o .0) (o .1 .0 .0))))
 
+-- ---- a cell that is the only open one of its chunk-string, or of its block
+module _ {l : Layout} {numbers y x : List ℕ} (given : Given l numbers y) (s : Sent l numbers y x)
+    {cells : Cells} {row : List ℕ} (u : Under l y cells row x) (z : ℕ) (h : chunkOf l cells z < length row) where
+  -- the row's own content there
+  abbrev own : ℕ
+  own = getD (values l x) (chunkOf l cells z) 0
+
+  -- with it the chunk-string in hand has its sum
+  pub string-alone : length (cells .column) ≡ 12 → getD (cells .column) z 0 < l .l2
+      → share (cells .column) (set (cells .lost) z 0) (getD (cells .column) z 0) ≡ 0
+      → sum (line (l .nc) (getD (cells .column) z 0) (l .l2) (l .l1)
+      (set row (getD (cells .column) z 0 + getD (cells .block) z 0 * l .l2) own))
+      ≡ getD numbers (l .l1 + getD (cells .column) z 0) 0
+  string-alone n g e =
+      rw (add-comm (getD (cells .column) z 0) (getD (cells .block) z 0 * l .l2))
+      (string-has given s (decide l y cells row x u z own h refl) (getD (cells .column) z 0) n g e)
+
+  -- and the block
+  pub block-alone : length (cells .block) ≡ 12 → getD (cells .block) z 0 < l .l1
+      → share (cells .block) (set (cells .lost) z 0) (getD (cells .block) z 0) ≡ 0
+      → sum (line (l .nc) (getD (cells .block) z 0 * l .l2) 1 (l .l2)
+      (set row (getD (cells .block) z 0 * l .l2 + getD (cells .column) z 0 * 1) own))
+      ≡ getD numbers (getD (cells .block) z 0) 0
+  block-alone n g e =
+      rw (mul-one (getD (cells .column) z 0))
+      (block-has given s (decide l y cells row x u z own h refl) (getD (cells .block) z 0) n g e)
+
+-- where a row under the state is the one in hand, each open cell loses just its count there
+pub in-hand-loses : (l : Layout) (y : List ℕ) (cells : Cells) → Placed l (length y) cells → (hand : List ℕ) {row x : List ℕ}
+    → Under l y cells row x → InHand l hand x → AllLose l y cells hand
+in-hand-loses l y cells p hand u h z o =
+    let q = p z o in
+    let room = field-room (l .l1) (l .l2) (getD (cells .block) z 0) (q .0) in
+    let low : chunkOf l cells z < l .l1 * l .l2 = omega (arith, q .1 .0) in
+    rw (h (chunkOf l cells z) low) at (u .loses z o)
+
 -- ---- the contents of a cell, one after another
 module _ (l : Layout) (y : List ℕ) (cells : Cells) (row : List ℕ) (z v : ℕ) {x : List ℕ} where
-  -- a content loses the cell's count
-  pub with-loses : Open cells z → With l y cells row z v x
-      → losses (digits (l .nc) v) (drop (getD (cells .place) z 0) y) ≡ getD (cells .lost) z 0
-  with-loses o w = rw (w .1) at (w .0 .loses z o)
-
   -- once it is put into the row in hand, the cell is found
   pub with-found : (at : ℕ) → at ≡ chunkOf l cells z → at < length row → With l y cells row z v x
       → Under l y (found cells z) (set row at v) x
   with-found at e h w = rw e (decide l y cells row x (w .0) z v (rw e at h) (w .1))
 
-  -- below the next content are those below this one, and this one
-  pub below-next : (w : ℕ) → v ≡ w → Below l y cells row z (v + 1) x → Below l y cells row z v x ⊎ With l y cells row z w x
-  below-next w e b =
-      ⊎-elim (λ h. inl (b .0, h)) (λ h. inr (b .0, omega (arith, b .1)))
-      (lt-or-ge (getD (values l x) (chunkOf l cells z) 0) v)
+-- among the first contents are those before the last of them, and that one
+pub tried-next : (l : Layout) (y : List ℕ) (cells : Cells) (row : List ℕ) (z : ℕ) (contents : List ℕ) (u : ℕ) {x : List ℕ}
+    → Tried l y cells row z contents (u + 1) x → Tried l y cells row z contents u x ⊎ With l y cells row z (getD contents u 0) x
+tried-next l y cells row z contents u t =
+    let k = t .1 in
+    ⊎-elim
+    (λ h. inl (t .0, (k .0, (k .1 .0, (h, k .1 .1 .1)))))
+    (λ h. let e : k .0 ≡ u = omega (arith, k .1 .1 .0) in inr (t .0, sym (rw e at (k .1 .1 .1))))
+    (lt-or-ge (k .0) u)
 
 -- the losses that are still open fall when a cell is found
 pub lost-less : (cells : Cells) (z : ℕ) → Open cells z → inAll (found cells z .lost) < inAll (cells .lost)

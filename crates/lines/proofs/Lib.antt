@@ -1,4 +1,5 @@
 -- The laws of specs/, for the proofs of this crate and of the crates that stand on it.
 pub mod Lines
 mod Turns
+pub mod Parts
 mod Holes

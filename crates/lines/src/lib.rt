@@ -44,9 +44,9 @@ pub fn spread(
 }
 
 // The total of the positions of a chunk's ones, where its first bit stands at a position.
-fn chunk_total(nc: usize, v: u8, first: usize) -> usize
+pub fn chunk_total(nc: usize, v: u8, first: usize) -> usize
     requires { ⌜ (nc ≤ 8) × (first ≤ longest + 1) ⌝ }
-    ensures { λ r. ⌜ r ≡ total first (digits nc v) ⌝ }
+    ensures { λ r. ⌜ (r ≡ total first (digits nc v)) × (r ≤ 8 * (longest + 9)) ⌝ }
 {
     let mut t: usize = 0;
     let mut i: usize = 0;

@@ -97,7 +97,8 @@ module _ (l : Layout) (ns y x row : List ℕ) (cells : Cells) (n : ℕ) (places 
 
   -- ---- the row in hand with the erased chunks cleared, all numbers elements of the field
   module _ (blank cleared base : List ℕ) (long : 255 ≤ length base) (none : (w : ℕ) → getD blank w 0 ≡ 0)
-      (clears : PutAt n places blank row cleared) (reduces : (c : ℕ) → getD base c 0 ≡ getD cleared c 0 % 2 ^ l .nc) where
+      (clears : PutAt n places blank row cleared)
+      (reduces : (c : ℕ) → c < l .l1 * l .l2 → getD base c 0 ≡ getD cleared c 0 % 2 ^ l .nc) where
     -- its first numbers, one for each chunk of the row
     abbrev front : List ℕ
     front = take (l .l1 * l .l2) base
@@ -108,11 +109,13 @@ module _ (l : Layout) (ns y x row : List ℕ) (cells : Cells) (n : ℕ) (places 
     base-kept : (c : ℕ) → c < l .l1 * l .l2 → (Among n places c → ⊥) → getD (values l x) c 0 ≡ getD base c 0
     base-kept c h other =
         let e : getD cleared c 0 ≡ getD (values l x) c 0 = clears .elsewhere c other ∙ sym (kept c h other) in
-        sym (reduces c ∙ ap (λ (v : ℕ). v % 2 ^ l .nc) e ∙ mod-eq-of-lt (value-low l x (sent .0) c))
+        sym (reduces c h ∙ ap (λ (v : ℕ). v % 2 ^ l .nc) e ∙ mod-eq-of-lt (value-low l x (sent .0) c))
 
     base-blank : (w : ℕ) → w < n → getD base (place w) 0 ≡ 0
     base-blank w h =
-        reduces (place w) ∙ ap (λ (v : ℕ). v % 2 ^ l .nc) (clears .there w h ∙ none w) ∙ mod-eq-of-lt (pow-pos (l .nc))
+        reduces (place w) (k .spots .inside w h)
+        ∙ ap (λ (v : ℕ). v % 2 ^ l .nc) (clears .there w h ∙ none w)
+        ∙ mod-eq-of-lt (pow-pos (l .nc))
 
     inside : (w : ℕ) → w < 0 + n → place w < length front
     inside w h = omega (arith, length-front, k .spots .inside w (omega arith))

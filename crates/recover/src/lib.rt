@@ -103,16 +103,16 @@ fn put(row: [u8; 255], e: Erased, contents: [u8; 12]) -> [u8; 255]
     out
 }
 
-// Each number of a row as an element of the field.
-fn reduce(nc: usize, row: [u8; 255]) -> [u8; 255]
-    requires { ⌜ (3 ≤ nc) × (nc ≤ 8) ⌝ }
-    ensures { λ r. ⌜ ((c : ℕ) → getD r c 0 ≡ getD row c 0 % 2 ^ nc) ⌝ }
+// Each of the first numbers of a row as an element of the field; the others are left out, since few of them may be chunks.
+fn reduce(nc: usize, count: usize, row: [u8; 255]) -> [u8; 255]
+    requires { ⌜ ((3 ≤ nc) × (nc ≤ 8)) × (count ≤ 255) ⌝ }
+    ensures { λ r. ⌜ ((c : ℕ) → c < count → getD r c 0 ≡ getD row c 0 % 2 ^ nc) × Elements nc r ⌝ }
 {
-    let size = field::order(nc) + 1;
-    let mut out = row;
+    let ones = field::order(nc) as u8;
+    let mut out: [u8; 255] = [0; 255];
     let mut c: usize = 0;
-    while c < 255 {
-        out[c] = (bits::wide(row[c]) % size) as u8;
+    while c < count {
+        out[c] = row[c] & ones;
         c += 1;
     }
     out
@@ -150,7 +150,7 @@ pub fn recover(l: Layout, numbers: &[u16], e: Erased, row: [u8; 255]) -> [u8; 25
     let mut logs: [u8; 256] = [0; 256];
     field::fill_logs(nc, &mut logs);
     let t = field::table();
-    let base = reduce(nc, put(row, e, [0; 12]));
+    let base = reduce(nc, l.l1 * l.l2, put(row, e, [0; 12]));
     let s = missing(l, &logs, numbers, base);
     let places = e.places;
     let contents = erasures::solve(&t, nc, &logs, places, e.n, 0, s);

@@ -80,7 +80,8 @@ returns : tie.Need-returns Inv-loop μ-loop
 returns c =
     let a = c .before .before .args in
     let p = c .before .loop in
-    omega (arith, total-end (a .first + p .i) (digits (a .nc) (a .v)) (p .i) (omega (arith, length-digits (a .nc) (a .v))))
+    let end = total-end (a .first + p .i) (digits (a .nc) (a .v)) (p .i) (omega (arith, length-digits (a .nc) (a .v))) in
+    (omega arith, omega (arith, p .inv .1 .0))
 
 pub chunk-total-spec : {M : Type 1} → statement M
 chunk-total-spec =

@@ -63,7 +63,7 @@ added c =
     let p = c .before .before .before .loop in
     let a = c .before .before .before .before .before .args in
     let step = total-turn (a .nc) (a .start) (a .stride) (a .count) (p .t) (a .vs .now) (omega arith) in
-    omega (arith, p .inv .1, step, c .chunk-total .ensures)
+    omega (arith, p .inv .1, step, c .chunk-total .ensures .0)
 
 add-sum : tie.Need-add-sum Inv-loop μ-loop
 add-sum c =

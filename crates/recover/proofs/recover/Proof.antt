@@ -3,10 +3,8 @@
 use borrow.Author.Needs.{needs}
 use Prim.Native.Nat.{_≤_}
 use mathlib.Core.Path.{_≡_}
-use native.Mathlib.Nat.{mod-lt}
 use native.Mathlib.Omega.{arith}
 use lib.ListN.{length, getD, replicate}
-use lib.Pow.{pow-pos}
 use Rattle.field.specs.Field.{Elements}
 use Rattle.field.proofs.Double.{size-high}
 use Rattle.message.proofs.Legal.{Bounds, legal-bounds, sizes}
@@ -38,7 +36,7 @@ places s =
 
 -- where the row in hand is in the field: the function's start
 abbrev start : tie.After-reduce → tie.Start
-start c = c .before .before .before .before .before .before .before
+start c = c .before .before .before .before .before .before .before .before
 
 long : (c : tie.After-reduce) → 255 ≤ length (c .reduce .result)
 long c =
@@ -46,8 +44,7 @@ long c =
     omega arith
 
 elements : (c : tie.After-reduce) → Elements (start c .args .l .nc) (c .reduce .result)
-elements c k =
-    rw (c .reduce .ensures k) (mod-lt (getD (c .before .put .result) k 0) (pow-pos (start c .args .l .nc)))
+elements c = c .reduce .ensures .1
 
 slice-aggregate-fill-logs : tie.Need-slice-aggregate-fill-logs
 slice-aggregate-fill-logs c = search needs
@@ -61,15 +58,21 @@ fill-logs-requires c κs =
 table-requires : tie.Need-table-requires
 table-requires c κs = search needs
 
+mul-reduce : tie.Need-mul-reduce
+mul-reduce c =
+    let s = c .before .before .before .before .before .before in
+    record { fits = omega (arith, sizes (s .args .l) (bounds s) .chunks) }
+
 put-requires : tie.Need-put-requires
 put-requires c κs =
-    let s = c .before .before .before .before .before in
+    let s = c .before .before .before .before .before .before in
     (s .pre .1 .1 .0, spots s)
 
 reduce-requires : tie.Need-reduce-requires
 reduce-requires c κs =
-    let b = bounds (c .before .before .before .before .before .before) in
-    (b .nc-low, b .nc-high)
+    let s = c .before .before .before .before .before .before .before in
+    let b = bounds s in
+    ((b .nc-low, b .nc-high), sizes (s .args .l) b .chunks)
 
 slice-aggregate-missing : tie.Need-slice-aggregate-missing
 slice-aggregate-missing c = search needs
@@ -78,7 +81,7 @@ missing-requires : tie.Need-missing-requires
 missing-requires c κs =
     let k = c .before in
     let s = start k in
-    (s .pre .0, (k .before .before .before .before .fill-logs .ensures .1, (elements k, s .pre .1 .0)))
+    (s .pre .0, (k .before .before .before .before .before .fill-logs .ensures .1, (elements k, s .pre .1 .0)))
 
 slice-aggregate-solve : tie.Need-slice-aggregate-solve
 slice-aggregate-solve c = search needs
@@ -89,7 +92,7 @@ solve-requires c κs =
     let k = m .before .before in
     let s = start k in
     let b = bounds s in (
-      (k .before .before .table .ensures, b .nc-low, b .nc-high, k .before .before .before .before .fill-logs .ensures .1),
+      (k .before .before .before .table .ensures, b .nc-low, b .nc-high, k .before .before .before .before .before .fill-logs .ensures .1),
       (omega arith, s .pre .1 .1 .0, places s, m .missing .ensures .0),
     )
 
@@ -108,7 +111,7 @@ returns c cells collected y x given sent under =
     let v = c .before .solve in
     let few : a .e .n ≤ a .l .r = omega (arith, s .pre .1 .1 .1 .0) in
     solved (a .l) (a .numbers .now) y x (a .row) cells (a .e .n) (a .e .places) given sent under collected (replicate 12 0)
-    (p .result) (k .reduce .result) (long k) (blank-at 12) (p .ensures) (k .reduce .ensures) (m .missing .result)
+    (p .result) (k .reduce .result) (long k) (blank-at 12) (p .ensures) (k .reduce .ensures .0) (m .missing .result)
     (v .result) (c .put2 .result) few (m .missing .ensures .1) (v .ensures .1) (c .put2 .ensures)
 
 pub recover-spec : {M : Type 1} → statement M
@@ -118,6 +121,7 @@ recover-spec =
     slice-aggregate-fill-logs
     fill-logs-requires
     table-requires
+    mul-reduce
     put-requires
     reduce-requires
     slice-aggregate-missing

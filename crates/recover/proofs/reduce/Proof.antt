@@ -1,55 +1,45 @@
--- `recover::reduce` meets its contract: each number passed is what 2 ^ nc leaves of it. Assumes nothing.
+-- `recover::reduce` meets its contract: each number passed is what 2 ^ nc leaves of it, the others are zero. Assumes nothing.
 use borrow.Author.Needs.{needs}
 use Prim.Native.Nat.{ℕ, _+_, _-_, _%_, _^_, _<_, _≤_}
-use mathlib.Core.Path.{_≡_, refl, sym, _∙_}
-use lib.ListN.{length, getD, length-set, List·getD-eq-default}
-use lib.Pow.{pow-pos}
-use native.Mathlib.Nat.{mod-lt, mod-eq-of-lt}
+use mathlib.Core.Path.{_≡_, refl, _∙_}
+use native.Mathlib.Nat.{mod-lt}
 use native.Mathlib.Omega.{arith}
-use mathlib.Core.Logic.{⊎-elim}
-use Rattle.bits.proofs.Laws.{lt-or-ge}
-use Rattle.field.proofs.Double.{size-low, size-high}
+use lib.Bits.{bitAnd, and-mask}
+use lib.ListN.{length, getD, length-set}
+use lib.Pow.{pow-pos}
+use Rattle.field.specs.Field.{Element, Elements}
+use Rattle.field.proofs.Double.{size-high}
 use Rattle.erasures.proofs.Erasures.{set-each}
+use Rattle.recover.proofs.Recovered.{blank-at}
 use Rattle.recover.proofs.reduce.Statement.{statement}
 use Rattle.recover.proofs.reduce.Tie as tie
 
 abbrev Inv-loop : tie.InvT-loop
-Inv-loop nc row size out₀ c₀ out c =
-    (((c ≤ 255) × (length out ≡ 255)) × (size ≡ 2 ^ nc)) × ((k : ℕ) → k < c → getD out k 0 ≡ getD row k 0 % 2 ^ nc)
+Inv-loop nc count row ones out₀ c₀ out c =
+    ((c ≤ count) × (length out ≡ 255)) × (((k : ℕ) → k < c → getD out k 0 ≡ getD row k 0 % 2 ^ nc) × Elements nc out)
 
 abbrev μ-loop : tie.MeasureT-loop
-μ-loop nc row size out₀ c₀ out c = 255 - c
+μ-loop nc count row ones out₀ c₀ out c = count - c
 
 order-requires : tie.Need-order-requires Inv-loop μ-loop
 order-requires c κs = search needs
 
-add-size : tie.Need-add-size Inv-loop μ-loop
-add-size c = omega (arith, size-high (c .before .args .nc) (c .before .pre .1))
+cast-ones : tie.Need-cast-ones Inv-loop μ-loop
+cast-ones c =
+    let s = c .before in
+    record { fits = omega (arith, c .order .ensures, size-high (s .args .nc) (s .pre .0 .1)) }
 
 loop-holds : tie.Need-loop-holds Inv-loop μ-loop
-loop-holds c =
-    let s = c .before in
-    let low = size-low (s .args .nc) (s .pre .0) in
-    (((omega arith, search needs), omega (arith, c .order .ensures, low)), λ k h. absurd (omega arith))
+loop-holds c = (
+  (omega arith, refl),
+  (λ k h. absurd (omega arith), λ k. rw (blank-at 255 k) (pow-pos (c .before .args .nc))),
+)
 
-array-read-wide : tie.Need-array-read-wide Inv-loop μ-loop
-array-read-wide c = search needs
-
-wide-requires : tie.Need-wide-requires Inv-loop μ-loop
-wide-requires c κs = search needs
-
-rem-out : tie.Need-rem-out Inv-loop μ-loop
-rem-out c = search needs
-
-cast-out : tie.Need-cast-out Inv-loop μ-loop
-cast-out c =
-    let s = c .before .before .before .before in
-    let size : ℕ = c .before .before .before .order .result + 1 in
-    let high = size-high (s .args .nc) (s .pre .1) in
-    record { fits = omega (arith, mod-lt (c .wide .result) {m = size} (omega arith), c .before .before .loop .inv .0 .1, high) }
+array-read-out : tie.Need-array-read-out Inv-loop μ-loop
+array-read-out c = omega (arith, c .loop-test .taken, c .before .before .before .pre .1)
 
 array-write-out : tie.Need-array-write-out Inv-loop μ-loop
-array-write-out c = search needs
+array-write-out c = omega (arith, c .loop-test .taken, c .before .before .before .pre .1)
 
 add-c : tie.Need-add-c Inv-loop μ-loop
 add-c c = search needs
@@ -59,27 +49,23 @@ loop-less c = search needs
 
 loop-again : tie.Need-loop-again Inv-loop μ-loop
 loop-again c =
-    let s = c .before .before .before .before in
-    let o = c .before .before .loop in
+    let s = c .before .before .before in
+    let o = c .before .loop in
     let n = s .args .nc in
-    let x : ℕ = getD (s .args .t2) (o .c) 0 in
-    let v : ℕ = c .wide .result % (c .before .before .before .order .result + 1) in
-    let is : v ≡ x % 2 ^ n = rw (c .wide .ensures, o .inv .0 .1) refl in (
-      ((omega arith, length-set (o .out) (o .c) v ∙ o .inv .0 .0 .1), o .inv .0 .1),
-      set-each (λ (k y : ℕ). k < o .c + 1 → y ≡ getD (s .args .t2) k 0 % 2 ^ n) (o .out) (o .c) v (omega arith)
-          (λ k ne g. o .inv .1 k (omega arith)) (λ g. is),
+    let x : ℕ = getD (s .args .t3) (o .c) 0 in
+    let v : ℕ = bitAnd x (c .before .before .order .result) in
+    let low : o .c < length (o .out) = omega (arith, c .loop-test .taken, s .pre .1) in
+    let is : v ≡ x % 2 ^ n = rw (c .before .before .order .ensures) (and-mask x n) in (
+      (omega (arith, c .loop-test .taken), length-set (o .out) (o .c) v ∙ o .inv .0 .1),
+      (
+        set-each (λ (k y : ℕ). k < o .c + 1 → y ≡ getD (s .args .t3) k 0 % 2 ^ n) (o .out) (o .c) v low
+            (λ k ne g. o .inv .1 .0 k (omega arith)) (λ g. is),
+        set-each (λ (k y : ℕ). Element n y) (o .out) (o .c) v low (λ k ne. o .inv .1 .1 k) (rw is (mod-lt x (pow-pos n))),
+      ),
     )
 
 returns : tie.Need-returns Inv-loop μ-loop
-returns c k =
-    let s = c .before .before .before in
-    let o = c .before .loop in
-    let long : length (s .args .t2) ≡ 255 = search needs in
-    let n = s .args .nc in
-    ⊎-elim (λ h. o .inv .1 k (omega arith))
-    (λ h. List·getD-eq-default (o .out) 0 {n = k} (omega arith)
-    ∙ sym (rw (List·getD-eq-default (s .args .t2) 0 {n = k} (omega arith)) (mod-eq-of-lt (pow-pos n))))
-    (lt-or-ge k 255)
+returns c = let o = c .before .loop in (λ k h. o .inv .1 .0 k (omega arith), o .inv .1 .1)
 
 pub reduce-spec : {M : Type 1} → statement M
 reduce-spec =
@@ -88,12 +74,9 @@ reduce-spec =
     Inv-loop
     μ-loop
     order-requires
-    add-size
+    cast-ones
     loop-holds
-    array-read-wide
-    wide-requires
-    rem-out
-    cast-out
+    array-read-out
     array-write-out
     add-c
     loop-less

@@ -1,0 +1,90 @@
+-- `contents::sift` meets its contract. The loop's invariant: the entries passed are sifted. Assumes nothing.
+use borrow.Author.Needs.{needs}
+use Prim.Native.Nat.{ℕ, _+_, _-_, _%_, _<_, _≤_}
+use mathlib.Core.Path.{ap, _∙_}
+use mathlib.Core.Logic.{⊎-elim}
+use native.Mathlib.Omega.{arith}
+use lib.ListN.{length}
+use Rattle.contents.proofs.Sifted.{Sifted, sifted-none, sifted-kept, sifted-left}
+use Rattle.contents.proofs.sift.Statement.{statement}
+use Rattle.contents.proofs.sift.Tie as tie
+
+abbrev Inv-loop : tie.InvT-loop
+Inv-loop nc a out₀ n k₀ i₀ out k i = (i ≤ n) × Sifted nc a out₀ i out k
+
+abbrev μ-loop : tie.MeasureT-loop
+μ-loop nc a out₀ n k₀ i₀ out k i = n - i
+
+loop-holds : tie.Need-loop-holds Inv-loop μ-loop
+loop-holds c = (search needs, sifted-none (c .before .args .nc) (c .before .args .a) (c .before .args .out .now))
+
+slice-read-v : tie.Need-slice-read-v Inv-loop μ-loop
+slice-read-v c = omega (arith, c .before .before .loop .inv .1 .long, c .before .before .before .before .pre .1 .1)
+
+chunk-total-requires : tie.Need-chunk-total-requires Inv-loop μ-loop
+chunk-total-requires c κs = let s = c .before .before .before .before in (s .pre .0, s .pre .1 .0 .first)
+
+add-if1 : tie.Need-add-if1 Inv-loop μ-loop
+add-if1 c = omega (arith, c .before .chunk-total .ensures .1, c .before .before .before .before .before .before .pre .1 .0 .rest)
+
+rem-if1 : tie.Need-rem-if1 Inv-loop μ-loop
+rem-if1 c = omega (arith, c .before .before .before .before .before .before .before .pre .1 .0 .modulus)
+
+slice-write-out : tie.Need-slice-write-out Inv-loop μ-loop
+slice-write-out c =
+    let p = c .before .before .before .before .before .before .before in
+    omega (arith, p .loop .inv .1 .few, p .loop .inv .1 .long, p .before .before .pre .1 .1)
+
+add-k : tie.Need-add-k Inv-loop μ-loop
+add-k c = omega (arith, c .before .before .before .before .before .before .before .loop .inv .1 .few)
+
+add-i : tie.Need-add-i Inv-loop μ-loop
+add-i c = search needs
+
+loop-less : tie.Need-loop-less Inv-loop μ-loop
+loop-less c = search needs
+
+loop-again : tie.Need-loop-again Inv-loop μ-loop
+loop-again c =
+    let t = c .before .before .before .before .chunk-total .ensures .0 in
+    let p = c .before .before .before .before .before .before .before in
+    let s = p .before .before in
+    let a = s .args in
+    let v = p .loop in
+    let more = c .before .before .before .before .before .before .loop-test .taken in
+    let low : v .i < length (a .out .now) = omega (arith, s .pre .1 .1) in
+    ⊎-elim
+    (λ w. (omega arith, rw (w .1, w .2) (sifted-kept (a .nc) (a .a) (a .out .now) (v .i) (v .out) (v .k) (v .inv .1) low)))
+    (λ w. (
+      omega arith,
+      rw (w .1, w .2) (sifted-left (a .nc) (a .a) (a .out .now) (v .i) (v .out) (v .k) (v .inv .1)
+          (λ allows. w .0 .left (ap (λ (n : ℕ). (a .a .rest + n) % a .a .modulus) t ∙ allows))),
+    ))
+    (c .if1 .came)
+
+same-length : tie.Need-same-length Inv-loop μ-loop
+same-length c = c .before .loop .inv .1 .long
+
+returns : tie.Need-returns Inv-loop μ-loop
+returns c =
+    let v = c .before .loop in
+    (omega (arith, v .inv .1 .few), λ w m h. v .inv .1 .all w (m .0, (m .1 .0, (omega (arith, m .1 .1 .0), m .1 .1 .1))) h)
+
+pub sift-spec : {M : Type 1} → statement M
+sift-spec =
+    tie.close
+    (tie.spec
+    Inv-loop
+    μ-loop
+    loop-holds
+    slice-read-v
+    chunk-total-requires
+    add-if1
+    rem-if1
+    slice-write-out
+    add-k
+    add-i
+    loop-less
+    loop-again
+    same-length
+    returns)
