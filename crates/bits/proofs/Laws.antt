@@ -101,12 +101,12 @@ length-unpack [] = refl
 length-unpack (v ∷ s) = length-append (digits 8 v) (unpack s) ∙ omega (arith, length-digits 8 v, length-unpack s)
 
 -- ---- the number that bits spell
-number-none : (k : ℕ) → number k [] ≡ 0
+pub number-none : (k : ℕ) → number k [] ≡ 0
 unfolding number
 number-none zero = refl
 number-none (suc k) = refl
 
-number-cons : (k b : ℕ) (x : List ℕ) → number (suc k) (b ∷ x) ≡ b * 2 ^ k + number k x
+pub number-cons : (k b : ℕ) (x : List ℕ) → number (suc k) (b ∷ x) ≡ b * 2 ^ k + number k x
 unfolding number
 number-cons k b x = refl
 

@@ -2,3 +2,4 @@
 pub mod Laws
 pub mod Packing
 pub mod Copy
+pub mod Spans

@@ -176,6 +176,15 @@ blank-at [] e i = refl
 blank-at (b ∷ x) e zero = eqb-true b 0 (both-left (eqb b 0) (blank x) e)
 blank-at (b ∷ x) e (suc i) = blank-at x (both-right (eqb b 0) (blank x) e) i
 
+-- zeros behind a string do not matter to its bytes
+pub bytes-blank : (n : ℕ) (x z : List ℕ) → blank z ≡ true → bytes n (x ++ z) ≡ bytes n x
+bytes-blank n x z e = bytes-ext n (x ++ z) x (λ i. ⊎-elim (λ h. List·getD-append x z 0 i h) (beyond i) (lt-or-ge i (length x)))
+  where
+    beyond : (i : ℕ) → length x ≤ i → getD (x ++ z) i 0 ≡ getD x i 0
+    beyond i h =
+        let k : i ≡ length x + (i - length x) = omega arith in
+        ap (λ (n : ℕ). getD (x ++ z) n 0) k ∙ getD-append-add x z (i - length x) 0 ∙ blank-at z e (i - length x) ∙ sym (List·getD-eq-default x 0 h)
+
 -- ---- looking at the spare bits one by one
 pub blank-next : (x : List ℕ) (i : ℕ) → i < length x → getD x i 0 ≡ 0 → blank (drop (i + 1) x) ≡ blank (drop i x)
 unfolding blank
@@ -202,7 +211,7 @@ pub fits-blank : (w : ℕ) (s : List ℕ) → fits w s ≡ true → blank (drop 
 unfolding fits
 fits-blank w s e = both-right (eqb (length s) (bytesFor w)) (blank (drop w (unpack s))) e
 
-bytes-unpack : (s : List ℕ) → AllBytes s → bytes (length s) (unpack s) ≡ s
+pub bytes-unpack : (s : List ℕ) → AllBytes s → bytes (length s) (unpack s) ≡ s
 unfolding bytes unpack
 bytes-unpack [] a = refl
 bytes-unpack (v ∷ s) a =

@@ -16,6 +16,14 @@ pub fn wide(b: u8) -> usize
     b as usize
 }
 
+// 2 to the power k.
+pub fn power(k: usize) -> usize
+    requires { ⌜ k ≤ 16 ⌝ }
+    ensures { λ r. ⌜ r ≡ 2 ^ k ⌝ }
+{
+    1 << k
+}
+
 // Elements copied to a place of a slice.
 pub fn copy_to(part: &[u8], out: &mut [u8], at: usize)
     requires { ⌜ at + length (now part) ≤ length (now out) ⌝ }
@@ -162,6 +170,24 @@ pub fn fits(w: usize, s: &[u8]) -> bool
     true
 }
 
+// A byte of a slice; past the end stands 0.
+pub fn byte_at(s: &[u8], i: usize) -> usize
+    ensures { λ r. ⌜ (r ≡ getD (now (s .entry)) i 0) × (r < 256) ⌝ }
+{
+    if i < s.len() { wide(s[i]) } else { 0 }
+}
+
+// Three bytes from a place on, as a number: a field of up to 16 bits lies in them, wherever its first bit stands in the first.
+fn three_bytes(s: &[u8], i: usize) -> usize
+    requires { ⌜ i ≤ 4096 ⌝ }
+    ensures { λ r. ⌜ (r ≡ number 24 (drop (i * 8) (unpacked (now (s .entry))))) × (r < 2 ^ 24) ⌝ }
+{
+    if i + 2 < s.len() {
+        return wide(s[i]) * 65536 + wide(s[i + 1]) * 256 + wide(s[i + 2]);
+    }
+    byte_at(s, i) * 65536 + byte_at(s, i + 1) * 256 + byte_at(s, i + 2)
+}
+
 // A place among bits.
 pub struct BitCursor {
     pub at: usize,
@@ -180,15 +206,11 @@ impl BitCursor {
         ensures { λ r. ⌜ (r .value ≡ number k (drop (self .at) (unpacked (now (s .entry))))) × (r .next .at ≡ self .at + k) ⌝ }
     {
         let at = self.at;
-        let mut v: u16 = 0;
-        let mut i: usize = 0;
-        while i < k {
-            let b = bit_at(s, at + i) as u16;
-            v = v * 2 + b;
-            i += 1;
-        }
+        let held = three_bytes(s, at / 8);
+        let behind = 24 - at % 8 - k;
+        let value = (held >> behind) % power(k);
         Field {
-            value: v,
+            value: value as u16,
             next: BitCursor { at: at + k },
         }
     }

@@ -1,9 +1,9 @@
 -- The parts of a message put together: the checks of the chunks, the fields one after another, and the packed fields
 -- behind the head. Assumes nothing.
-use Prim.Native.Nat.{ℕ, _+_, _-_, _*_, _<_, _≤_}
+use Prim.Native.Nat.{ℕ, suc, _+_, _-_, _*_, _<_, _≤_}
 use mathlib.Core.Path.{_≡_, refl, sym, ap, _∙_}
 use mathlib.Core.Bool.{true}
-use mathlib.Core.List.{List, [], _++_, append-assoc, append-nil, flatMap, map}
+use mathlib.Core.List.{List, [], _∷_, _++_, append-assoc, append-nil, flatMap, map}
 use native.Mathlib.Omega.{arith}
 use borrow.Rule.Slice.PartAt.{part-to-end}
 use borrow.Rule.Slice.PartMut.{putMid}
@@ -11,14 +11,17 @@ use lib.ListN.{length, take, drop, length-append, length-drop, drop-of-length-le
 use lib.Seq.{take-at, drop-drop, ext-getD, getD-take, length-take-le}
 use Rattle.bits.specs.Bits.{AllBits, longest, number, digits, bytesFor, pack, unpack, fits}
 use Rattle.bits.proofs.Copy.{part-next}
-use Rattle.bits.proofs.Laws.{bits-take, bits-unpack}
+use Rattle.bits.proofs.Laws.{bits-unpack, length-unpack}
 use Rattle.bits.proofs.Packing.{fits-length, length-string}
 use Rattle.field.specs.Field.{Elements, check, Checks}
+use Rattle.message.specs.Chunks.{rowOf, Chunked}
+use Rattle.message.specs.Encoding.{FitAll}
 use Rattle.message.specs.Layout.{legal, rowBits, blockBits, stringBits, chunks}
 use Rattle.message.specs.Message.{width, fieldsLength, messageBytes, blockSums, stringSums, checks, head, fieldBits, encode, message}
+use Rattle.message.specs.Read.{fields}
 use Rattle.message.specs.declared.Layout.{Layout}
 use Rattle.message.proofs.Cutting.{each-number, chunk-numbers, chunk-elements, length-block-sums, length-string-sums, length-checks}
-use Rattle.message.proofs.Fields.{width-most, length-flat, length-fields}
+use Rattle.message.proofs.Fields.{width-most, length-flat, length-fields, fields-flat, flat-fields}
 use Rattle.message.proofs.Legal.{legal-bounds, sizes}
 use Rattle.message.proofs.Longest.{fields-high}
 use Rattle.message.proofs.Messages.{bits-fields, length-field-bits}
@@ -38,14 +41,30 @@ module _ (l : Layout) (x : List ℕ) (a : AllBits x) (q z : List ℕ) (e : q ≡
   pub length-lent : length (take (l .l1 * l .l2 - 0) q) ≡ l .l1 * l .l2
   length-lent = ap length (chunks-lent ∙ chunk-numbers l x) ∙ length-fields (l .l1 * l .l2) (l .nc) x
 
-  -- the checks that are taken of them, at the front of an array, lent
-  pub checks-lent : (vs : List ℕ) → l .r ≤ length vs → Checks (l .nc) (l .r) (take (l .l1 * l .l2 - 0) q) vs → take (l .r) vs ≡ checks l x
-  unfolding checks
-  checks-lent vs h f =
-      let k : length (take (l .r) vs) ≡ l .r = length-take-le (l .r) vs h in
-      let g : ℕ → ℕ = λ i. check (l .nc) i (map (number (l .nc)) (chunks l x)) in
-      ext-getD 0 (take (l .r) vs) (checks l x) (k ∙ sym (length-checks l x))
-      (λ i n. let b : i < l .r = omega arith in getD-take (l .r) vs i 0 b ∙ f i b ∙ ap (check (l .nc) i) chunks-lent ∙ sym (each-number g (l .r) i b))
+  -- the row that they make
+  pub row-again : rowBits l ≤ length x → rowOf (l .nc) (take (l .l1 * l .l2 - 0) q) ≡ take (rowBits l) x
+  row-again h = ap (rowOf (l .nc)) (chunks-lent ∙ chunk-numbers l x) ∙ flat-fields (l .l1 * l .l2) (l .nc) x a h
+
+-- the chunks of the row that numbers make are these numbers
+numbers-again : (l : Layout) (cs : List ℕ) → Chunked l cs → map (number (l .nc)) (chunks l (rowOf (l .nc) cs)) ≡ cs
+numbers-again l cs e =
+    chunk-numbers l (rowOf (l .nc) cs)
+    ∙ ap (fields (l .l1 * l .l2) (l .nc)) (sym (append-nil (rowOf (l .nc) cs)))
+    ∙ fields-flat (l .l1 * l .l2) (l .nc) cs [] (e .0) (fit-all cs (e .1))
+  where
+    fit-all : (vs : List ℕ) → Elements (l .nc) vs → FitAll (l .nc) vs
+    fit-all [] h = tt
+    fit-all (v ∷ vs) h = (h 0, fit-all vs (λ k. h (suc k)))
+
+-- the checks that are taken of them, at the front of an array
+pub checks-are : (l : Layout) (cs vs : List ℕ) → Chunked l cs → l .r ≤ length vs → Checks (l .nc) (l .r) cs vs → take (l .r) vs ≡ checks l (rowOf (l .nc) cs)
+unfolding checks
+checks-are l cs vs e h f =
+    let x : List ℕ = rowOf (l .nc) cs in
+    let k : length (take (l .r) vs) ≡ l .r = length-take-le (l .r) vs h in
+    let g : ℕ → ℕ = λ i. check (l .nc) i (map (number (l .nc)) (chunks l x)) in
+    ext-getD 0 (take (l .r) vs) (checks l x) (k ∙ sym (length-checks l x))
+    (λ i n. let b : i < l .r = omega arith in getD-take (l .r) vs i 0 b ∙ f i b ∙ ap (check (l .nc) i) (sym (numbers-again l cs e)) ∙ sym (each-number g (l .r) i b))
 
 -- ---- parts that are written one after another to the start of a slice d
 -- the slice b starts with p, and n is the place behind it
@@ -128,13 +147,17 @@ module _ (l : Layout) (p o : List ℕ) (e : legal l ≡ true) (g : fits (rowBits
   pub length-held : length (held l p) ≡ rowBits l
   length-held = length-string (rowBits l) p g
 
-  -- the row at the front of the array that was unpacked to
-  pub row-lent : (q z : List ℕ) → q ≡ held l p ++ z → take (rowBits l - 0) q ≡ held l p
-  row-lent q z h = let n : rowBits l - 0 ≡ rowBits l = omega arith in rw (h, n) (take-at (held l p) z (rowBits l) length-held)
+  -- the numbers of its chunks at the front of an array, lent
+  module _ (q z : List ℕ) (h : q ≡ fields (l .l1 * l .l2) (l .nc) (unpack p) ++ z) where
+    numbers-lent : q ≡ map (number (l .nc)) (chunks l (unpack p)) ++ z
+    numbers-lent = h ∙ ap (λ (m : List ℕ). m ++ z) (sym (chunk-numbers l (unpack p)))
 
-  -- it meets what the fields ask of a row
-  pub row-asks : (y : List ℕ) → y ≡ held l p → ((legal l ≡ true) × (AllBits y × (length y ≡ rowBits l))) × (fieldsLength l ≤ 1160)
-  row-asks y h = ((e, (rw h (bits-take (rowBits l) (unpack p) (bits-unpack p)), ap length h ∙ length-held)), fields-high l e)
+    pub row-lent : rowOf (l .nc) (take (l .l1 * l .l2 - 0) q) ≡ held l p
+    row-lent = row-again l (unpack p) (bits-unpack p) q z numbers-lent (omega (arith, enough .0, length-unpack p))
+
+    -- they meet what the fields ask of a row
+    pub row-asks : ((legal l ≡ true) × Chunked l (take (l .l1 * l .l2 - 0) q)) × (fieldsLength l ≤ 1160)
+    row-asks = ((e, (length-lent l (unpack p) (bits-unpack p) q z numbers-lent, chunks-elements l (unpack p) (bits-unpack p) q z numbers-lent)), fields-high l e)
 
   pub head-room : 9 ≤ length o
   unfolding messageBytes

@@ -14,3 +14,4 @@ mod Placing
 mod Assembly
 mod Writes
 pub mod Roundtrip
+pub mod Picking

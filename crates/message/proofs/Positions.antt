@@ -2,7 +2,7 @@
 use Prim.Native.Nat.{ℕ, suc, _+_, _*_, _<_, _≤_}
 use mathlib.Core.Path.{_≡_, refl}
 use mathlib.Core.List.{List, [], _∷_, _++_}
-use native.Mathlib.Nat.{add-zero, zero-add, add-suc, suc-mul, mod-lt}
+use native.Mathlib.Nat.{add-suc, suc-mul, mod-lt}
 use native.Mathlib.Numerals.{add-one}
 use native.Mathlib.Omega.{arith}
 use lib.ListN.{length, getD, drop}
@@ -10,13 +10,10 @@ use lib.Seq.{drop-cons}
 use Rattle.bits.specs.Bits.{AllBits}
 use Rattle.vt.specs.Sum.{total, sum}
 use Rattle.vt.proofs.Totals.{times-bit}
+use Rattle.vt.proofs.Weighing.{total-append as joined-total}
 
 pub total-append : (i : ℕ) (x y : List ℕ) → total i (x ++ y) ≡ total i x + total (i + length x) y
-unfolding total
-total-append i [] y = rw (add-zero i, zero-add) refl
-total-append i (b ∷ x) y =
-    let e : suc i + length x ≡ i + suc (length x) = omega arith in
-    rw (total-append (suc i) x y, e) (omega arith)
+total-append = joined-total
 
 pub total-high : (i : ℕ) (x : List ℕ) → AllBits x → total i x ≤ length x * (i + length x)
 unfolding total

@@ -7,14 +7,6 @@ ghost use Rattle.bits.specs.Bits.{longest};
 ghost use Rattle.message.specs.Layout.{layout, legal as isLegal};
 ghost use Rattle.message.specs.Message.{width as widthOf, fieldsLength, messageBytes};
 
-// 2 to the power nc.
-fn elements(nc: usize) -> usize
-    requires { ⌜ nc ≤ 8 ⌝ }
-    ensures { λ r. ⌜ r ≡ 2 ^ nc ⌝ }
-{
-    1 << nc
-}
-
 // Whether there are few enough chunks for the field.
 fn few_chunks(l1: usize, l2: usize, nc: usize) -> bool
     requires { ⌜ (1 ≤ l1) × ((1 ≤ l2) × (nc ≤ 8)) ⌝ }
@@ -26,7 +18,7 @@ fn few_chunks(l1: usize, l2: usize, nc: usize) -> bool
     if 255 < l2 {
         return false;
     }
-    if elements(nc) <= l1 * l2 {
+    if bits::power(nc) <= l1 * l2 {
         return false;
     }
     true

@@ -1,5 +1,6 @@
 // Layouts, the side message, and the two operations on it: writing the message of a row, and reading one back. Contracts cite
 // specs/.
+pub mod chunks;
 pub mod layouts;
 pub mod reading;
 pub mod sums;

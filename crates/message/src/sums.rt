@@ -1,4 +1,5 @@
 // The sums and the chunks of a row that is given as unpacked bits, one byte a bit. Contracts cite specs/Message.antt.
+use crate::chunks;
 ghost use mathlib.Core.Path.{_≡_};
 ghost use mathlib.Core.Bool.{true};
 ghost use mathlib.Core.List.{_++_, map};
@@ -94,10 +95,8 @@ pub fn fill_checks(l1: usize, l2: usize, nc: usize, r: usize, row: &[u8], out: &
     requires { ⌜ (isLegal (layout l1 l2 nc r) ≡ true) × (AllBits (now row) × ((length (now row) ≡ rowBits (layout l1 l2 nc r)) × (r ≤ length (now out)))) ⌝ }
     ensures { λ _. ⌜ take r (now (out .exit)) ≡ checks (layout l1 l2 nc r) (now (row .entry)) ⌝ }
 {
-    let mut logs: [u8; 256] = [0; 256];
-    field::fill_logs(nc, &mut logs);
-    let mut chunks: [u8; 255] = [0; 255];
-    fill_chunks(l1, l2, nc, r, row, &mut chunks);
+    let mut values: [u8; 255] = [0; 255];
+    fill_chunks(l1, l2, nc, r, row, &mut values);
     let n = l1 * l2;
-    field::checks(nc, r, &logs, &chunks[0..n], out);
+    chunks::fill_checks(l1, l2, nc, r, &values[0..n], out);
 }

@@ -1,8 +1,8 @@
-// Writing the message of a row: its fields as bits, one byte a bit, then the head and the packed fields. Contracts cite
-// specs/Message.antt and specs/Write.antt.
+// Writing the message of a row: its chunks as numbers, its fields as bits, one byte a bit, then the head and the packed fields.
+// Contracts cite specs/Chunks.antt, specs/Message.antt and specs/Write.antt.
 use crate::Written;
+use crate::chunks;
 use crate::layouts;
-use crate::sums;
 use bits::BitCursor;
 use refusal::Refusal;
 ghost use mathlib.Core.Path.{_≡_};
@@ -10,35 +10,38 @@ ghost use mathlib.Core.Bool.{true};
 ghost use mathlib.Core.List.{_++_, flatMap};
 ghost use Prim.Native.Nat.{_+_, _*_, _≤_};
 ghost use lib.ListN.{length, take, drop};
-ghost use Rattle.bits.specs.Bits.{AllBits, digits, unpack as unpacked, fits};
+ghost use Rattle.bits.specs.Bits.{digits, unpack as unpacked, fits};
+ghost use Rattle.vt.specs.Weights.{weights};
 ghost use Rattle.message.specs.Layout.{layout, legal as isLegal, rowBits};
+ghost use Rattle.message.specs.Chunks.{rowOf, Chunked};
 ghost use Rattle.message.specs.Message.{width, fieldsLength, messageBytes, blockSums, stringSums, checks, head, fieldBits, message};
 ghost use Rattle.message.specs.Write.{writtenOf, writeAnswer, writeTarget};
 
 // So many sums of a row from a first one on, as fields of k bits at a cursor, and the cursor after them. The block sums come
 // first, then the chunk-string sums.
 fn put_sums(
+    table: &[u16; 256],
     l1: usize,
     l2: usize,
     nc: usize,
     r: usize,
-    row: &[u8],
+    chunks: &[u8],
     first: usize,
     count: usize,
     k: usize,
     start: BitCursor,
     bits: &mut [u8],
 ) -> BitCursor
-    requires { ⌜ ((isLegal (layout l1 l2 nc r) ≡ true) × (AllBits (now row) × (length (now row) ≡ rowBits (layout l1 l2 nc r))))
+    requires { ⌜ ((now table ≡ weights) × ((isLegal (layout l1 l2 nc r) ≡ true) × Chunked (layout l1 l2 nc r) (now chunks)))
         × ((first + count ≤ l1 + l2) × ((k ≤ 16) × (start .at + count * k ≤ length (now bits)))) ⌝ }
     ensures { λ c. ⌜ (c .at ≡ start .at + count * k) × (now (bits .exit) ≡ take (start .at) (now (bits .entry))
-        ++ flatMap (digits k) (take count (drop first (blockSums (layout l1 l2 nc r) (now (row .entry)) ++ stringSums (layout l1 l2 nc r) (now (row .entry)))))
+        ++ flatMap (digits k) (take count (drop first (blockSums (layout l1 l2 nc r) (rowOf nc (now (chunks .entry))) ++ stringSums (layout l1 l2 nc r) (rowOf nc (now (chunks .entry))))))
         ++ drop (start .at + count * k) (now (bits .entry))) ⌝ }
 {
     let mut c = start;
     let mut i: usize = 0;
     while i < count {
-        let sum = sums::sum_at(l1, l2, nc, r, row, first + i) as u16;
+        let sum = chunks::sum_of(table, l1, l2, nc, r, chunks, first + i) as u16;
         let next = c.put(bits, k, sum);
         c = next;
         i += 1;
@@ -67,33 +70,35 @@ fn put_row_checks(
     l2: usize,
     nc: usize,
     r: usize,
-    row: &[u8],
+    chunks: &[u8],
     start: BitCursor,
     bits: &mut [u8],
 )
-    requires { ⌜ ((isLegal (layout l1 l2 nc r) ≡ true) × (AllBits (now row) × (length (now row) ≡ rowBits (layout l1 l2 nc r))))
+    requires { ⌜ ((isLegal (layout l1 l2 nc r) ≡ true) × Chunked (layout l1 l2 nc r) (now chunks))
         × (start .at + r * nc ≤ length (now bits)) ⌝ }
     ensures { λ _. ⌜ now (bits .exit) ≡ take (start .at) (now (bits .entry))
-        ++ flatMap (digits nc) (checks (layout l1 l2 nc r) (now (row .entry))) ++ drop (start .at + r * nc) (now (bits .entry)) ⌝ }
+        ++ flatMap (digits nc) (checks (layout l1 l2 nc r) (rowOf nc (now (chunks .entry)))) ++ drop (start .at + r * nc) (now (bits .entry)) ⌝ }
 {
     let mut values: [u8; 16] = [0; 16];
-    sums::fill_checks(l1, l2, nc, r, row, &mut values);
+    chunks::fill_checks(l1, l2, nc, r, chunks, &mut values);
     put_checks(nc, &values[0..r], start, bits);
 }
 
 // The fields of a row's message, one byte a bit, at the start of a slice.
-fn put_fields(l1: usize, l2: usize, nc: usize, r: usize, row: &[u8], bits: &mut [u8])
-    requires { ⌜ ((isLegal (layout l1 l2 nc r) ≡ true) × (AllBits (now row) × (length (now row) ≡ rowBits (layout l1 l2 nc r))))
+fn put_fields(l1: usize, l2: usize, nc: usize, r: usize, chunks: &[u8], bits: &mut [u8])
+    requires { ⌜ ((isLegal (layout l1 l2 nc r) ≡ true) × Chunked (layout l1 l2 nc r) (now chunks))
         × (fieldsLength (layout l1 l2 nc r) ≤ length (now bits)) ⌝ }
-    ensures { λ _. ⌜ now (bits .exit) ≡ fieldBits (layout l1 l2 nc r) (blockSums (layout l1 l2 nc r) (now (row .entry)))
-        (stringSums (layout l1 l2 nc r) (now (row .entry))) (checks (layout l1 l2 nc r) (now (row .entry)))
+    ensures { λ _. ⌜ now (bits .exit) ≡ fieldBits (layout l1 l2 nc r) (blockSums (layout l1 l2 nc r) (rowOf nc (now (chunks .entry))))
+        (stringSums (layout l1 l2 nc r) (rowOf nc (now (chunks .entry)))) (checks (layout l1 l2 nc r) (rowOf nc (now (chunks .entry))))
         ++ drop (fieldsLength (layout l1 l2 nc r)) (now (bits .entry)) ⌝ }
 {
     let block = layouts::width(l2 * nc);
     let string = layouts::width(nc * l1);
-    let after_blocks = put_sums(l1, l2, nc, r, row, 0, l1, block, BitCursor { at: 0 }, bits);
-    let after_strings = put_sums(l1, l2, nc, r, row, l1, l2, string, after_blocks, bits);
-    put_row_checks(l1, l2, nc, r, row, after_strings, bits);
+    let t = vt::weights();
+    let start = BitCursor { at: 0 };
+    let blocks = put_sums(&t, l1, l2, nc, r, chunks, 0, l1, block, start, bits);
+    let strings = put_sums(&t, l1, l2, nc, r, chunks, l1, l2, string, blocks, bits);
+    put_row_checks(l1, l2, nc, r, chunks, strings, bits);
 }
 
 // The head of a message at the start of a slice.
@@ -122,11 +127,11 @@ fn put_message(l1: usize, l2: usize, nc: usize, r: usize, row: &[u8], out: &mut 
     ensures { λ _. ⌜ now (out .exit) ≡ message (layout l1 l2 nc r) (take (rowBits (layout l1 l2 nc r)) (unpacked (now (row .entry))))
         ++ drop (messageBytes (layout l1 l2 nc r)) (now (out .entry)) ⌝ }
 {
-    let n = l1 * l2 * nc;
-    let mut x: [u8; bits::LONGEST] = [0; bits::LONGEST];
-    bits::unpack(row, n, &mut x);
+    let n = l1 * l2;
+    let mut values: [u8; 255] = [0; 255];
+    chunks::fill(row, n, nc, &mut values);
     let mut fields: [u8; 1160] = [0; 1160];
-    put_fields(l1, l2, nc, r, &x[0..n], &mut fields);
+    put_fields(l1, l2, nc, r, &values[0..n], &mut fields);
     put_head(l1, l2, nc, r, out);
     let used = layouts::fields_length(l1, l2, nc, r);
     bits::pack(&fields[0..used], &mut out[9..]);

@@ -1,60 +1,71 @@
--- Mending packed bits: what the two local arrays hold, between unpacking and packing. Assumes nothing.
-use Prim.Native.Nat.{ℕ, _+_, _-_, _*_, _<_, _≤_}
-use mathlib.Core.Path.{_≡_, refl, ap, _∙_}
-use mathlib.Core.List.{List, _++_}
+-- Mending packed bits: the string that they hold, and the bytes of the mended one. Assumes nothing.
+use Prim.Native.Nat.{ℕ, _+_, _-_, _*_, _%_, _<_, _≤_}
+use mathlib.Core.Path.{_≡_, refl, sym, ap, _∙_, subst}
+use mathlib.Core.Bool.{true}
+use mathlib.Core.List.{List, _∷_, _++_, append-assoc}
 use native.Mathlib.Omega.{arith}
-use lib.ListN.{length, take, drop}
-use lib.Seq.{take-at}
-use Rattle.bits.specs.Bits.{AllBits, longest, bytesFor, pack, unpack}
+use lib.ListN.{length, take, drop, take-append-drop}
+use lib.Seq.{take-append-le, drop-append-le}
+use Rattle.bits.specs.Bits.{AllBits, bytes, bytesFor, pack, unpack, blank}
 use Rattle.bits.proofs.Laws.{bits-take, bits-unpack}
-use Rattle.bits.proofs.Packing.{fits-length, length-string}
+use Rattle.bits.proofs.Packing.{bytes-blank, fits-blank, length-string}
 use Rattle.vt.specs.Mend.{mended}
-use Rattle.vt.proofs.Mending.{Mends, mended-mends}
+use Rattle.vt.specs.Ones.{ones}
+use Rattle.vt.specs.Sum.{total}
+use Rattle.vt.proofs.Mending.{Mends, mended-only, puts}
 use Rattle.vt.proofs.Refusing.{Fit}
+use Rattle.vt.proofs.Totals.{put-adds}
+use Rattle.vt.proofs.Weighing.{ones-append, total-append, blank-ones, blank-total}
 
 -- the string that the packed bits hold
 abbrev held : (w : ℕ) (p : List ℕ) → List ℕ
 held w p = take (w - 1) (unpack p)
 
 module _ (w s : ℕ) (p : List ℕ) (room : ℕ) (f : Fit w s p room) where
-  -- the packed bits are long enough
-  pub enough : w - 1 ≤ length p * 8
-  enough = omega (arith, fits-length (w - 1) p (f .1 .1 .0), f .0 .0)
-
-  -- they hold w - 1 elements, each a bit
+  -- it has w - 1 elements, each a bit
   held-length : length (held w p) ≡ w - 1
   held-length = length-string (w - 1) p (f .1 .1 .0)
 
   held-bits : AllBits (held w p)
   held-bits = bits-take (w - 1) (unpack p) (bits-unpack p)
 
-  -- and are mended
-  mends : Mends w s (held w p) (mended w s (held w p))
-  mends = mended-mends w s (held w p) held-bits (omega (arith, held-length, f .0 .0)) (f .1 .0)
+  -- behind it come zeros
+  spare : blank (drop (w - 1) (unpack p)) ≡ true
+  spare = fits-blank (w - 1) p (f .1 .1 .0)
 
-  -- the front of the array that was unpacked to
-  pub front-held : (q z : List ℕ) → q ≡ held w p ++ drop (w - 1) z → take (w - 1 - 0) q ≡ held w p
-  front-held q z e = let n : w - 1 - 0 ≡ w - 1 = omega arith in rw (e, n) (take-at (held w p) (drop (w - 1) z) (w - 1) held-length)
+  split : unpack p ≡ held w p ++ drop (w - 1) (unpack p)
+  split = sym (take-append-drop (w - 1) (unpack p))
 
-  -- it meets what the mender asks of bits
-  pub asks : (x : List ℕ) → x ≡ held w p → (AllBits x × (length x < longest)) × ((s ≤ length x + 1) × (length x + 1 ≤ longest))
-  asks x e =
-      let n : length x ≡ w - 1 = ap length e ∙ held-length in
-      ((rw e held-bits, omega (arith, f .0 .0, f .0 .1)), (omega (arith, f .1 .0, f .0 .0), omega (arith, f .0 .0, f .0 .1)))
+  -- which do not change its total, nor the ones from a place on
+  held-total : total 1 (unpack p) ≡ total 1 (held w p)
+  held-total =
+      ap (total 1) split ∙ total-append 1 (held w p) (drop (w - 1) (unpack p))
+      ∙ omega (arith, blank-total (1 + length (held w p)) (drop (w - 1) (unpack p)) spare)
 
-  -- the front of the array that was mended to
-  pub front-mended : (x q z : List ℕ) → x ≡ held w p → q ≡ mended (length x + 1) s x ++ drop (length x + 1) z → take (w - 0) q ≡ mended w s (held w p)
-  front-mended x q z e g =
-      let n : length x + 1 ≡ w = omega (arith, ap length e, held-length, f .0 .0) in
-      let m : w - 0 ≡ w = omega arith in
-      rw (g, n, m, e) (take-at (mended w s (held w p)) (drop w z) w (mends .row .0))
+  behind : (at : ℕ) → at ≤ w - 1 → drop at (unpack p) ≡ drop at (held w p) ++ drop (w - 1) (unpack p)
+  behind at h = ap (drop at) split ∙ drop-append-le at (held w p) (drop (w - 1) (unpack p)) (omega (arith, held-length))
 
-  -- it meets what packing asks
-  pub asks-packing : (x : List ℕ) → x ≡ mended w s (held w p) → AllBits x × ((length x ≤ longest) × (bytesFor (length x) ≤ room))
-  asks-packing x e =
-      let n : length x ≡ w = ap length e ∙ mends .row .0 in
-      (rw e (mends .row .1), (omega (arith, f .0 .1), rw n (f .1 .1 .1)))
+  held-ones : (at : ℕ) → at ≤ w - 1 → ones (drop at (unpack p)) ≡ ones (drop at (held w p))
+  held-ones at h =
+      ap ones (behind at h) ∙ ones-append (drop at (held w p)) (drop (w - 1) (unpack p)) ∙ omega (arith, blank-ones (drop (w - 1) (unpack p)) spare)
 
-  -- the target after packing
-  pub packed : (x o : List ℕ) → x ≡ mended w s (held w p) → pack x ++ drop (bytesFor (length x)) o ≡ pack (mended w s (held w p)) ++ drop (bytesFor w) o
-  packed x o e = rw (e, mends .row .0) refl
+  module _ (at b t : ℕ) (h : at ≤ w - 1) (small : b < 2) (adds : (at + 1) * b + ones (drop at (unpack p)) ≡ t) (lacks : (total 1 (unpack p) + t) % (w + 1) ≡ s) where
+    -- the string with the bit put in
+    abbrev put : List ℕ
+    put = take at (held w p) ++ (b ∷ drop at (held w p))
+
+    mends : Mends w s (held w p) put
+    mends =
+        let m : length (held w p) + 2 ≡ w + 1 = omega (arith, held-length, f .0 .0) in
+        let n : length (held w p) + 1 ≡ w = omega (arith, held-length, f .0 .0) in
+        let g = put-adds at b t (at + 1) (held w p) (omega (arith, held-length)) (omega arith) (rw (held-ones at h) at adds) in
+        subst (λ (v : ℕ). Mends v s (held w p) put) n (puts at b t s (held w p) held-bits small g (rw m (rw held-total at lacks)))
+
+    -- its bytes are the mended string's
+    pub put-mended : bytes (bytesFor w) (take at (unpack p) ++ (b ∷ drop at (unpack p))) ≡ pack (mended w s (held w p))
+    unfolding pack
+    put-mended =
+        let z : List ℕ = drop (w - 1) (unpack p) in
+        let front : take at (unpack p) ≡ take at (held w p) = ap (take at) split ∙ take-append-le at (held w p) z (omega (arith, held-length)) in
+        rw (front, behind at h) (ap (bytes (bytesFor w)) (sym (append-assoc (take at (held w p)) (b ∷ drop at (held w p)) z)) ∙ bytes-blank (bytesFor w) put z spare)
+        ∙ sym (ap (λ (n : ℕ). bytes (bytesFor n) put) (mends .row .0)) ∙ ap pack (mended-only w s (held w p) put mends)

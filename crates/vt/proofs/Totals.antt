@@ -1,7 +1,7 @@
 -- What a bit that is put into a string adds to the total of the positions of its ones: its own position where it is a one, and
 -- one for each one that it moves on. Assumes nothing.
 use Prim.Native.Nat.{ℕ, zero, suc, _+_, _*_, _<_, _≤_}
-use mathlib.Core.Path.{_≡_, refl}
+use mathlib.Core.Path.{_≡_, refl, ap, _∙_}
 use mathlib.Core.Bool.{Bool, true, false}
 use mathlib.Core.Logic.{_⊎_, inl, inr, ⊎-elim}
 use mathlib.Core.List.{List, [], _∷_, _++_}
@@ -15,6 +15,7 @@ use lib.Seq.{drop-cons}
 use Rattle.bits.specs.Bits.{AllBits}
 use Rattle.bits.proofs.Laws.{lt-or-ge}
 use Rattle.vt.specs.Ones.{ones}
+use Rattle.vt.specs.Places.{Reach}
 use Rattle.vt.specs.Sum.{total}
 
 -- a bit times a number is at most the number
@@ -55,7 +56,7 @@ unfolding ones
 ones-end x j h = rw (drop-of-length-le x {i = j} h) refl
 
 -- what the bit b, put in at place k, adds where the first bit stands at position i
-total-put : (i k b : ℕ) (y : List ℕ) → k ≤ length y → total i (take k y ++ (b ∷ drop k y)) ≡ total i y + ((i + k) * b + ones (drop k y))
+pub total-put : (i k b : ℕ) (y : List ℕ) → k ≤ length y → total i (take k y ++ (b ∷ drop k y)) ≡ total i y + ((i + k) * b + ones (drop k y))
 unfolding total
 total-put i zero b y h = let u = total-up i y in let e : (i + 0) * b ≡ i * b = rw (add-zero i) refl in omega arith
 total-put i (suc k) b [] h = absurd (omega arith)
@@ -64,17 +65,9 @@ total-put i (suc k) b (c ∷ y) h =
     let e : (suc i + k) * b ≡ (i + suc k) * b = rw (add-suc i k, suc-add i k) refl in
     omega arith
 
--- a 0 adds the number of ones behind it
-pub put-zero : (k t : ℕ) (y : List ℕ) → k ≤ length y → t ≡ ones (drop k y) → total 1 (take k y ++ (0 ∷ drop k y)) ≡ total 1 y + t
-put-zero k t y h e = let u = total-put 1 k 0 y h in omega (arith, mul-zero (1 + k))
-
--- a 1 adds that and its own position
-pub put-one : (k t : ℕ) (y : List ℕ) → k ≤ length y → t ≡ k + 1 + ones (drop k y) → total 1 (take k y ++ (1 ∷ drop k y)) ≡ total 1 y + t
-put-one k t y h e = let u = total-put 1 k 1 y h in omega (arith, mul-one (1 + k))
-
--- from position i on, with r ones left, a bit that adds t has a place: a 0 adds at most r, and a 1 at least i + r and at most e
-abbrev pub Reach : (i t r e : ℕ) → Type 0
-Reach i t r e = (t ≤ r) ⊎ ((i + r ≤ t) × (t ≤ e))
+-- a bit whose own position, where it is a one, and the ones behind it are t in all adds t
+pub put-adds : (k b t c : ℕ) (y : List ℕ) → k ≤ length y → c ≡ 1 + k → c * b + ones (drop k y) ≡ t → total 1 (take k y ++ (b ∷ drop k y)) ≡ total 1 y + t
+put-adds k b t c y h e f = total-put 1 k b y h ∙ ap (λ (n : ℕ). total 1 y + n) (rw (← e) f)
 
 -- from the start on, every t up to the length with the new bit has a place
 pub reach-start : (t r e : ℕ) → t ≤ e → Reach 1 t r e
@@ -84,9 +77,9 @@ reach-start t r e h = ⊎-elim (λ l. inr (omega arith, h)) (λ l. inl l) (lt-or
 pub reach-next : (i k t c r q e : ℕ) → c < 2 → k ≡ i + 1 → r ≡ c + q → (t ≡ r → ⊥) → (t ≡ i + r → ⊥) → Reach i t r e → Reach k t q e
 reach-next i k t c r q e h f g m n w = ⊎-elim (λ u. inl (omega (arith, m))) (λ u. inr (omega (arith, n, u .0), u .1)) w
 
--- at the end a 0 adds nothing, and a 1 its own position
-pub reach-end : (j t r n : ℕ) → n ≤ j → r ≡ 0 → (t ≡ 0 → ⊥) → Reach (j + 1) t r (n + 1) → t ≡ j + 1 + r
-reach-end j t r n h e m w = ⊎-elim (λ u. absurd (m (omega arith))) (λ u. omega (arith, u .0, u .1)) w
+-- behind the last bit, where a 0 does not add t, a 1 does
+pub reach-end : (i t r b e : ℕ) → r ≡ b → b ≤ t → e ≡ i + b → (t ≡ b → ⊥) → Reach i t r e → t ≡ i + r
+reach-end i t r b e h k l m w = ⊎-elim (λ u. absurd (m (omega arith))) (λ u. omega (arith, u .0, u .1)) w
 
 -- the place and the bit that add t
 pub record Place (i t : ℕ) (y : List ℕ) : Type 0 where

@@ -1,4 +1,6 @@
 pub mod Sum
 pub mod Ones
+pub mod Weights
+pub mod Places
 pub mod Mend
 pub mod Answer

@@ -45,7 +45,7 @@ start c = c .before .before .before .before .before
 half : (c : Half) → let a = start c .args in c .copy-to .last .1 .0 ≡ take (a .at) (a .bits .now) ++ drop (a .at) (a .out .now)
 half c =
     let a = start c .args in
-    first-part (a .bits .now) (a .out .now) (a .at) (a .bit) (start c .pre .0) (start c .pre .1) (c .copy-to .last .1 .0) (c .copy-to .ensures)
+    first-part (a .bits .now) (a .out .now) (a .at) (start c .pre .0) (c .copy-to .last .1 .0) (c .copy-to .ensures)
 
 copy-to-requires-2 : tie.Need-copy-to-requires-2
 copy-to-requires-2 c κs =

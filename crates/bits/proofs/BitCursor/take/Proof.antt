@@ -1,85 +1,75 @@
--- `bits::BitCursor::take` meets its contract. The loop's invariant: what is read so far, with the bits still to come, is the field. Assumes nothing.
+-- `bits::BitCursor::take` meets its contract: the field is a span of the three bytes that hold it. Assumes nothing.
 use borrow.Author.Needs.{needs}
-use Prim.Native.Nat.{_+_, _-_, _*_, _^_, _<_, _≤_}
-use mathlib.Core.Path.{_≡_, refl, _∙_, sym}
-use native.Mathlib.Nat.{add-zero, zero-mul, zero-add}
+use Prim.Native.Nat.{ℕ, _+_, _-_, _*_, _/_, _%_, _^_, _<_, _≤_}
+use mathlib.Core.Path.{_≡_, refl, ap, _∙_}
+use mathlib.Core.List.{List}
 use native.Mathlib.Omega.{arith}
 use lib.ListN.{drop}
-use lib.Pow.{pow-mono}
+use lib.Pow.{pow-pos, pow-mono}
+use lib.Seq.{drop-drop}
 use Rattle.bits.specs.Bits.{number, unpack}
-use Rattle.bits.proofs.Laws.{bit-at, bits-unpack, number-next, number-end, pow-next}
+use Rattle.bits.proofs.Laws.{bits-unpack, bits-drop, number-lt}
+use Rattle.bits.proofs.Spans.{number-span}
 use Rattle.bits.proofs.BitCursor.take.Statement.{statement}
 use Rattle.bits.proofs.BitCursor.take.Tie as tie
 
-abbrev Inv-loop : tie.InvT-loop
-Inv-loop s k at v₀ i₀ v i = (i ≤ k) × ((v < 2 ^ i) × (v * 2 ^ (k - i) + number (k - i) (drop (at + i) (unpack s)) ≡ number k (drop at (unpack s))))
+three-bytes-requires : tie.Need-three-bytes-requires
+three-bytes-requires c κs = search needs
 
-abbrev μ-loop : tie.MeasureT-loop
-μ-loop s k at v₀ i₀ v i = k - i
+sub-behind : tie.Need-sub-behind
+sub-behind c = search needs
 
--- the value after a turn stays below the next power of 2, and that within 16 bits
-below : (c : tie.After-bit-at Inv-loop μ-loop) → (c .before .before .loop .v * 2 + c .bit-at .result < 2 ^ (c .before .before .loop .i + 1)) × (2 ^ (c .before .before .loop .i + 1) ≤ 2 ^ 16)
-below c =
-    let a = c .before .before .before .before .args in
-    let p = c .before .before .loop in
-    let b = c .bit-at .ensures in
-    (omega (arith, pow-next (p .i), bit-at (unpack (a .s .now)) (bits-unpack (a .s .now)) (a .self .at + p .i)), pow-mono {i = p .i + 1} {j = 16} (omega arith))
+sub-behind-2 : tie.Need-sub-behind-2
+sub-behind-2 c = search needs
 
-loop-holds : tie.Need-loop-holds Inv-loop μ-loop
-loop-holds c =
-    let z : c .before .args .k - 0 ≡ c .before .args .k = omega arith in
-    (search needs, (search needs, rw (add-zero (c .before .args .self .at), z, zero-mul, zero-add) refl))
+shr-value : tie.Need-shr-value
+shr-value c = search needs
 
-add-bit-at : tie.Need-add-bit-at Inv-loop μ-loop
-add-bit-at c = search needs
+power-requires : tie.Need-power-requires
+power-requires c κs = search needs
 
-bit-at-requires : tie.Need-bit-at-requires Inv-loop μ-loop
-bit-at-requires c κs = search needs
+rem-value : tie.Need-rem-value
+rem-value c = omega (arith, c .power .ensures, pow-pos (c .before .before .before .args .k))
 
-cast-b : tie.Need-cast-b Inv-loop μ-loop
-cast-b c = record { fits = omega (arith, below c .0, below c .1) }
-
-mul-v : tie.Need-mul-v Inv-loop μ-loop
-mul-v c = record { fits = omega (arith, below c .0, below c .1) }
-
-add-v : tie.Need-add-v Inv-loop μ-loop
-add-v c = record { fits = omega (arith, below c .0, below c .1) }
-
-add-i : tie.Need-add-i Inv-loop μ-loop
-add-i c = search needs
-
-loop-less : tie.Need-loop-less Inv-loop μ-loop
-loop-less c = search needs
-
-loop-again : tie.Need-loop-again Inv-loop μ-loop
-loop-again c =
-    let a = c .before .before .before .before .args in
-    let p = c .before .before .loop in
-    (omega arith, (below c .0, rw (c .bit-at .ensures) (number-next (p .v) (a .k) (a .self .at) (p .i) (unpack (a .s .now)) (omega arith)) ∙ p .inv .1 .1))
-
-add-t12 : tie.Need-add-t12 Inv-loop μ-loop
-add-t12 c = search needs
-
-returns : tie.Need-returns Inv-loop μ-loop
-returns c =
+-- the field
+value : (c : tie.After-power) → let a = c .before .before .before .args in
+    c .before .three-bytes .result / 2 ^ (24 - a .self .at % 8 - a .k) % c .power .result ≡ number (a .k) (drop (a .self .at) (unpack (a .s .now)))
+value c =
     let a = c .before .before .before .args in
-    let p = c .before .loop in
-    (sym (number-end (p .v) (a .k - p .i) (drop (a .self .at + p .i) (unpack (a .s .now))) (omega arith)) ∙ p .inv .1 .1, refl)
+    let u : List ℕ = unpack (a .s .now) in
+    let at : ℕ = a .self .at in
+    let behind : ℕ = 24 - at % 8 - a .k in
+    let w : 24 ≡ at % 8 + (a .k + behind) = omega arith in
+    let p : at / 8 * 8 + at % 8 ≡ at = omega arith in
+    rw (c .power .ensures, c .before .three-bytes .ensures .0)
+    (ap (λ (n : ℕ). number n (drop (at / 8 * 8) u) / 2 ^ behind % 2 ^ a .k) w
+    ∙ number-span (at % 8) (a .k) behind (drop (at / 8 * 8) u) (bits-drop (at / 8 * 8) u (bits-unpack (a .s .now)))
+    ∙ ap (number (a .k)) (drop-drop (at % 8) (at / 8 * 8) u ∙ ap (λ (n : ℕ). drop n u) p))
+
+cast-t10 : tie.Need-cast-t10
+cast-t10 c =
+    let a = c .before .before .before .args in
+    let u : List ℕ = unpack (a .s .now) in
+    let low : number (a .k) (drop (a .self .at) u) < 2 ^ a .k = number-lt (a .k) (drop (a .self .at) u) (bits-drop (a .self .at) u (bits-unpack (a .s .now))) in
+    let top : 2 ^ a .k ≤ 2 ^ 16 = pow-mono {i = a .k} {j = 16} (omega arith) in
+    record { fits = omega (arith, value c) }
+
+add-t8 : tie.Need-add-t8
+add-t8 c = search needs
+
+returns : tie.Need-returns
+returns c = (value c, refl)
 
 pub take-spec : {M : Type 1} → statement M
 take-spec =
     tie.close
     (tie.spec
-    Inv-loop
-    μ-loop
-    loop-holds
-    add-bit-at
-    bit-at-requires
-    cast-b
-    mul-v
-    add-v
-    add-i
-    loop-less
-    loop-again
-    add-t12
+    three-bytes-requires
+    sub-behind
+    sub-behind-2
+    shr-value
+    power-requires
+    rem-value
+    cast-t10
+    add-t8
     returns)

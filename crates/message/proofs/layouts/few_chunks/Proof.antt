@@ -20,8 +20,8 @@ returns-2 c =
     let a = s .args in
     sym (lt-leb (a .l1 * a .l2) (2 ^ a .nc - 1) (omega (arith, mul-le-mul-right (a .l2) (s .pre .0), one-mul (a .l2), pow-mono {i = a .nc} {j = 8} (s .pre .1 .1))))
 
-elements-requires : tie.Need-elements-requires
-elements-requires c κs = search needs
+power-requires : tie.Need-power-requires
+power-requires c κs = search needs
 
 mul-if3 : tie.Need-mul-if3
 mul-if3 c =
@@ -32,13 +32,13 @@ mul-if3 c =
 returns-3 : tie.Need-returns-3
 returns-3 c =
     let a = c .before .before .before .before .args in
-    sym (lt-leb (a .l1 * a .l2) (2 ^ a .nc - 1) (omega (arith, c .before .elements .ensures, c .if3 .taken, pow-pos (a .nc))))
+    sym (lt-leb (a .l1 * a .l2) (2 ^ a .nc - 1) (omega (arith, c .before .power .ensures, c .if3 .taken, pow-pos (a .nc))))
 
 returns-4 : tie.Need-returns-4
 returns-4 c =
     let a = c .before .before .before .before .args in
-    sym (le-leb (a .l1 * a .l2) (2 ^ a .nc - 1) (omega (arith, c .before .elements .ensures, c .if3 .left)))
+    sym (le-leb (a .l1 * a .l2) (2 ^ a .nc - 1) (omega (arith, c .before .power .ensures, c .if3 .left)))
 
 pub few-chunks-spec : {M : Type 1} → statement M
 few-chunks-spec =
-    tie.close (tie.spec returns returns-2 elements-requires mul-if3 returns-3 returns-4)
+    tie.close (tie.spec returns returns-2 power-requires mul-if3 returns-3 returns-4)

@@ -2,6 +2,7 @@
 use borrow.Author.Needs.{needs}
 use mathlib.Core.List.{_++_}
 use native.Mathlib.Omega.{arith}
+use Rattle.message.specs.Chunks.{rowOf}
 use Rattle.message.specs.Layout.{layout}
 use Rattle.message.specs.declared.Layout.{Layout}
 use Rattle.message.proofs.Assembly.{Stage, blockPart, stringPart, block-room, block-stage, string-room, string-stage, check-room, check-stage}
@@ -24,49 +25,52 @@ mul-width-2 c = omega (arith, high (c .before .before .before) .string)
 width-requires-2 : tie.Need-width-requires-2
 width-requires-2 c κs = high (c .before .before .before) .string
 
+weights-requires : tie.Need-weights-requires
+weights-requires c κs = search needs
+
 put-sums-requires : tie.Need-put-sums-requires
 put-sums-requires c κs =
-    let s = c .before .before .before .before .before in
+    let s = c .before .before .before .before .before .before .before in
     let a = s .args in
-    (s .pre .0, (search needs, block-room (layout (a .l1) (a .l2) (a .nc) (a .r)) (a .row .now) (a .bits .now) (s .pre .0 .0) (s .pre .1) _ (c .before .before .width .ensures)))
+    ((c .before .before .weights .ensures, s .pre .0), (search needs, block-room (layout (a .l1) (a .l2) (a .nc) (a .r)) (rowOf (a .nc) (a .chunks .now)) (a .bits .now) (s .pre .0 .0) (s .pre .1) _ (c .before .before .before .before .width .ensures)))
 
 -- what the function is given, seen from where the block sums are put
 abbrev start : tie.After-put-sums → tie.Start
-start c = c .before .before .before .before .before .before
+start c = c .before .before .before .before .before .before .before .before
 
 -- after the block sums
 blocks-placed : (c : tie.After-put-sums) → let a = start c .args in
-    Stage (a .bits .now) (blockPart (layout (a .l1) (a .l2) (a .nc) (a .r)) (a .row .now)) (c .put-sums .last .1 .1 .1 .1 .1 .1 .1 .1 .1 .0) (c .put-sums .result .at)
+    Stage (a .bits .now) (blockPart (layout (a .l1) (a .l2) (a .nc) (a .r)) (rowOf (a .nc) (a .chunks .now))) (c .put-sums .last .1 .1 .1 .1 .1 .1 .1 .1 .1 .1 .0) (c .put-sums .result .at)
 blocks-placed c =
     let s = start c in
     let a = s .args in
     let q = c .put-sums .ensures in
-    block-stage (layout (a .l1) (a .l2) (a .nc) (a .r)) (a .row .now) (a .bits .now) (s .pre .0 .0) (s .pre .1) _ (c .before .before .before .width .ensures) _ _ (q .0) (q .1)
+    block-stage (layout (a .l1) (a .l2) (a .nc) (a .r)) (rowOf (a .nc) (a .chunks .now)) (a .bits .now) (s .pre .0 .0) (s .pre .1) _ (c .before .before .before .before .before .width .ensures) _ _ (q .0) (q .1)
 
 put-sums-requires-2 : tie.Need-put-sums-requires-2
 put-sums-requires-2 c κs =
-    let b = c .before .before .before in
-    let s = start b in
-    let a = s .args in
-    (s .pre .0, (search needs, string-room (layout (a .l1) (a .l2) (a .nc) (a .r)) (a .row .now) (a .bits .now) (s .pre .0 .0) (s .pre .1) _ (b .before .before .width2 .ensures) _ _ (blocks-placed b)))
-
--- after the chunk-string sums
-strings-placed : (c : tie.After-put-sums2) → let a = start (c .before .before .before .before) .args in
-    Stage (a .bits .now) (blockPart (layout (a .l1) (a .l2) (a .nc) (a .r)) (a .row .now) ++ stringPart (layout (a .l1) (a .l2) (a .nc) (a .r)) (a .row .now))
-    (c .put-sums2 .last .1 .1 .1 .1 .1 .1 .1 .1 .1 .0) (c .put-sums2 .result .at)
-strings-placed c =
     let b = c .before .before .before .before in
     let s = start b in
     let a = s .args in
+    ((b .before .before .before .weights .ensures, s .pre .0), (search needs, string-room (layout (a .l1) (a .l2) (a .nc) (a .r)) (rowOf (a .nc) (a .chunks .now)) (a .bits .now) (s .pre .0 .0) (s .pre .1) _ (b .before .before .before .before .width2 .ensures) _ _ (blocks-placed b)))
+
+-- after the chunk-string sums
+strings-placed : (c : tie.After-put-sums2) → let a = start (c .before .before .before .before .before) .args in
+    Stage (a .bits .now) (blockPart (layout (a .l1) (a .l2) (a .nc) (a .r)) (rowOf (a .nc) (a .chunks .now)) ++ stringPart (layout (a .l1) (a .l2) (a .nc) (a .r)) (rowOf (a .nc) (a .chunks .now)))
+    (c .put-sums2 .last .1 .1 .1 .1 .1 .1 .1 .1 .1 .1 .0) (c .put-sums2 .result .at)
+strings-placed c =
+    let b = c .before .before .before .before .before in
+    let s = start b in
+    let a = s .args in
     let q = c .put-sums2 .ensures in
-    string-stage (layout (a .l1) (a .l2) (a .nc) (a .r)) (a .row .now) (a .bits .now) (s .pre .0 .0) (s .pre .1) _ (b .before .before .width2 .ensures) _ _ (blocks-placed b) _ _ (q .0) (q .1)
+    string-stage (layout (a .l1) (a .l2) (a .nc) (a .r)) (rowOf (a .nc) (a .chunks .now)) (a .bits .now) (s .pre .0 .0) (s .pre .1) _ (b .before .before .before .before .width2 .ensures) _ _ (blocks-placed b) _ _ (q .0) (q .1)
 
 put-row-checks-requires : tie.Need-put-row-checks-requires
 put-row-checks-requires c κs =
     let t = c .before .before .before in
-    let s = start (t .before .before .before .before) in
+    let s = start (t .before .before .before .before .before) in
     let a = s .args in
-    (s .pre .0, check-room (layout (a .l1) (a .l2) (a .nc) (a .r)) (a .row .now) (a .bits .now) (s .pre .0 .0) (s .pre .1) _ _ (strings-placed t))
+    (s .pre .0, check-room (layout (a .l1) (a .l2) (a .nc) (a .r)) (rowOf (a .nc) (a .chunks .now)) (a .bits .now) (s .pre .0 .0) (s .pre .1) _ _ (strings-placed t))
 
 same-length : tie.Need-same-length
 same-length c = search needs
@@ -75,9 +79,9 @@ returns : tie.Need-returns
 returns c =
     let q = c .before .before in
     let t = q .before .before .before .before in
-    let s = start (t .before .before .before .before) in
+    let s = start (t .before .before .before .before .before) in
     let a = s .args in
-    check-stage (layout (a .l1) (a .l2) (a .nc) (a .r)) (a .row .now) (a .bits .now) (s .pre .0 .0) (s .pre .1) _ _ (strings-placed t) _ (q .put-row-checks .ensures)
+    check-stage (layout (a .l1) (a .l2) (a .nc) (a .r)) (rowOf (a .nc) (a .chunks .now)) (a .bits .now) (s .pre .0 .0) (s .pre .1) _ _ (strings-placed t) _ (q .put-row-checks .ensures)
 
 pub put-fields-spec : {M : Type 1} → statement M
 put-fields-spec =
@@ -87,6 +91,7 @@ put-fields-spec =
     width-requires
     mul-width-2
     width-requires-2
+    weights-requires
     put-sums-requires
     put-sums-requires-2
     put-row-checks-requires

@@ -1,11 +1,13 @@
 -- `message::writing::put_message` meets its contract: what the local arrays and the target hold on the way is said in Assembly.
 -- Assumes nothing.
 use borrow.Author.Needs.{needs}
-use Prim.Native.Nat.{ℕ, _-_, _≤_}
+use Prim.Native.Nat.{ℕ, _-_, _*_, _≤_}
 use mathlib.Core.Path.{_≡_}
 use mathlib.Core.List.{List}
 use native.Mathlib.Omega.{arith}
 use lib.ListN.{length, take}
+use Rattle.bits.proofs.Packing.{fits-length}
+use Rattle.message.specs.Chunks.{rowOf}
 use Rattle.message.specs.Layout.{layout, rowBits}
 use Rattle.message.specs.declared.Layout.{Layout}
 use Rattle.message.proofs.Assembly.{held, fieldsOf, enough, row-lent, row-asks, head-room, fields-lent, body-room, pack-asks, assembled}
@@ -21,18 +23,17 @@ high : (s : tie.Start) → Sizes (lay s)
 high s = sizes (lay s) (legal-bounds (lay s) (s .pre .0))
 
 mul-n : tie.Need-mul-n
-mul-n c = omega (arith, high (c .before .before) .chunks)
+mul-n c = record { fits = omega (arith, high (c .before .before) .chunks) }
 
-mul-n-2 : tie.Need-mul-n-2
-mul-n-2 c = omega (arith, high (c .before .before) .row)
+slice-aggregate-fill : tie.Need-slice-aggregate-fill
+slice-aggregate-fill c = search needs
 
-slice-aggregate-unpack : tie.Need-slice-aggregate-unpack
-slice-aggregate-unpack c = search needs
-
-unpack-requires : tie.Need-unpack-requires
-unpack-requires c κs =
+fill-requires : tie.Need-fill-requires
+fill-requires c κs =
     let s = c .before .before .before in
-    enough (lay s) (s .args .row .now) (s .args .out .now) (s .pre .0) (s .pre .1 .0) (s .pre .1 .1)
+    let e = enough (lay s) (s .args .row .now) (s .args .out .now) (s .pre .0) (s .pre .1 .0) (s .pre .1 .1) in
+    let n = fits-length (rowBits (lay s)) (s .args .row .now) (s .pre .1 .0) in
+    ((legal-bounds (lay s) (s .pre .0) .nc-high, omega (arith, e .1)), (e .0, high s .chunks))
 
 sub-put-fields : tie.Need-sub-put-fields
 sub-put-fields c = search needs
@@ -41,28 +42,31 @@ part-put-fields-start : tie.Need-part-put-fields-start
 part-put-fields-start c = search needs
 
 part-put-fields-end : tie.Need-part-put-fields-end
-part-put-fields-end c = omega (arith, high (c .before .before .before .before .before .before) .row)
+part-put-fields-end c = omega (arith, high (c .before .before .before .before .before .before) .chunks)
 
 slice-aggregate-put-fields : tie.Need-slice-aggregate-put-fields
 slice-aggregate-put-fields c = search needs
 
--- what the function is given, seen from where the row is unpacked, and the row, lent
-abbrev start : tie.After-unpack → tie.Start
+-- what the function is given, seen from where the chunks are filled in, and their numbers, lent
+abbrev start : tie.After-fill → tie.Start
 start c = c .before .before .before .before
 
-abbrev lent : tie.After-unpack → List ℕ
-lent c = take (rowBits (lay (start c)) - 0) (c .unpack .last .1 .1 .0)
+abbrev lent : tie.After-fill → List ℕ
+lent c = take (start c .args .l1 * start c .args .l2 - 0) (c .fill .last .1 .1 .1 .0)
 
-lent-is : (c : tie.After-unpack) → lent c ≡ held (lay (start c)) (start c .args .row .now)
-lent-is c =
+abbrev row : tie.After-fill → List ℕ
+row c = rowOf (start c .args .nc) (lent c)
+
+row-is : (c : tie.After-fill) → row c ≡ held (lay (start c)) (start c .args .row .now)
+row-is c =
     let s = start c in
-    row-lent (lay s) (s .args .row .now) (s .args .out .now) (s .pre .0) (s .pre .1 .0) (s .pre .1 .1) (c .unpack .last .1 .1 .0) _ (c .unpack .ensures)
+    row-lent (lay s) (s .args .row .now) (s .args .out .now) (s .pre .0) (s .pre .1 .0) (s .pre .1 .1) (c .fill .last .1 .1 .1 .0) _ (c .fill .ensures)
 
 put-fields-requires : tie.Need-put-fields-requires
 put-fields-requires c κs =
     let u = c .before .before .before .before in
     let s = start u in
-    row-asks (lay s) (s .args .row .now) (s .args .out .now) (s .pre .0) (s .pre .1 .0) (s .pre .1 .1) (lent u) (lent-is u)
+    row-asks (lay s) (s .args .row .now) (s .args .out .now) (s .pre .0) (s .pre .1 .0) (s .pre .1 .1) (u .fill .last .1 .1 .1 .0) _ (u .fill .ensures)
 
 put-head-requires : tie.Need-put-head-requires
 put-head-requires c κs =
@@ -83,22 +87,22 @@ part-pack-end c =
     let s = start (c .before .before .before .before .before .before .before .before .before .before .before .before) in
     omega (arith, c .before .fields-length .ensures, fields-high (lay s) (s .pre .0))
 
--- the unpacked row seen from where the head is written, and the fields, lent
-abbrev unpacked : tie.After-put-head → tie.After-unpack
-unpacked c = c .before .before .before .before .before .before .before .before
+-- the chunks seen from where the head is written, and the fields, lent
+abbrev filled : tie.After-put-head → tie.After-fill
+filled c = c .before .before .before .before .before .before .before .before
 
-fields-are : (c : tie.After-fields-length) → let u = unpacked (c .before .before .before) in
-    take (c .fields-length .result - 0) (c .before .before .before .before .before .before .put-fields .last .1 .1 .1 .1 .1 .0) ≡ fieldsOf (lay (start u)) (lent u)
+fields-are : (c : tie.After-fields-length) → let u = filled (c .before .before .before) in
+    take (c .fields-length .result - 0) (c .before .before .before .before .before .before .put-fields .last .1 .1 .1 .1 .1 .0) ≡ fieldsOf (lay (start u)) (row u)
 fields-are c =
-    let u = unpacked (c .before .before .before) in
+    let u = filled (c .before .before .before) in
     let s = start u in
     let q = c .before .before .before .before .before .before .put-fields in
-    fields-lent (lay s) (s .args .row .now) (s .args .out .now) (s .pre .0) (s .pre .1 .0) (s .pre .1 .1) (lent u) (q .last .1 .1 .1 .1 .1 .0) _ (c .fields-length .result) (c .fields-length .ensures) (q .ensures)
+    fields-lent (lay s) (s .args .row .now) (s .args .out .now) (s .pre .0) (s .pre .1 .0) (s .pre .1 .1) (row u) (q .last .1 .1 .1 .1 .1 .0) _ (c .fields-length .result) (c .fields-length .ensures) (q .ensures)
 
 -- there is a head in front of the packed fields
 headed : (c : tie.After-put-head) → 9 ≤ length (c .put-head .last .1 .1 .1 .1 .0)
 headed c =
-    let s = start (unpacked c) in
+    let s = start (filled c) in
     body-room (lay s) (s .args .row .now) (s .args .out .now) (s .pre .0) (s .pre .1 .0) (s .pre .1 .1) (c .put-head .last .1 .1 .1 .1 .0) (c .put-head .ensures)
 
 sub-pack-2 : tie.Need-sub-pack-2
@@ -114,8 +118,8 @@ pack-requires : tie.Need-pack-requires
 pack-requires c κs =
     let f = c .before .before .before in
     let h = f .before .before .before in
-    let s = start (unpacked h) in
-    pack-asks (lay s) (s .args .row .now) (s .args .out .now) (s .pre .0) (s .pre .1 .0) (s .pre .1 .1) (h .put-head .last .1 .1 .1 .1 .0) (h .put-head .ensures) (lent (unpacked h)) _ (fields-are f)
+    let s = start (filled h) in
+    pack-asks (lay s) (s .args .row .now) (s .args .out .now) (s .pre .0) (s .pre .1 .0) (s .pre .1 .1) (h .put-head .last .1 .1 .1 .1 .0) (h .put-head .ensures) (row (filled h)) _ (fields-are f)
 
 same-length : tie.Need-same-length
 same-length c = search needs
@@ -125,18 +129,17 @@ returns c =
     let q = c .before .before in
     let f = q .before .before .before .before in
     let h = f .before .before .before in
-    let u = unpacked h in
+    let u = filled h in
     let s = start u in
-    assembled (lay s) (s .args .row .now) (s .args .out .now) (s .pre .0) (s .pre .1 .0) (s .pre .1 .1) (h .put-head .last .1 .1 .1 .1 .0) (h .put-head .ensures) (lent u) _ (q .pack .last .1 .0) (lent-is u) (fields-are f) (q .pack .ensures)
+    assembled (lay s) (s .args .row .now) (s .args .out .now) (s .pre .0) (s .pre .1 .0) (s .pre .1 .1) (h .put-head .last .1 .1 .1 .1 .0) (h .put-head .ensures) (row u) _ (q .pack .last .1 .0) (row-is u) (fields-are f) (q .pack .ensures)
 
 pub put-message-spec : {M : Type 1} → statement M
 put-message-spec =
     tie.close
     (tie.spec
     mul-n
-    mul-n-2
-    slice-aggregate-unpack
-    unpack-requires
+    slice-aggregate-fill
+    fill-requires
     sub-put-fields
     part-put-fields-start
     part-put-fields-end

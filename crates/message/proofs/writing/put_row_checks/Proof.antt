@@ -2,8 +2,10 @@
 use borrow.Author.Needs.{needs}
 use Prim.Native.Nat.{ℕ, _-_}
 use mathlib.Core.Path.{_≡_, refl, ap, _∙_}
+use mathlib.Core.List.{List}
 use native.Mathlib.Omega.{arith}
 use lib.ListN.{take}
+use Rattle.message.specs.Chunks.{rowOf}
 use Rattle.message.specs.Layout.{layout}
 use Rattle.message.specs.Message.{checks}
 use Rattle.message.specs.declared.Layout.{Layout}
@@ -16,6 +18,9 @@ use Rattle.message.proofs.writing.put_row_checks.Tie as tie
 abbrev named : tie.Start → Layout
 named c = layout (c .args .l1) (c .args .l2) (c .args .nc) (c .args .r)
 
+abbrev row : tie.Start → List ℕ
+row c = rowOf (c .args .nc) (c .args .chunks .now)
+
 bounds : (c : tie.Start) → Bounds (named c)
 bounds c = legal-bounds (named c) (c .pre .0 .0)
 
@@ -23,7 +28,7 @@ bounds c = legal-bounds (named c) (c .pre .0 .0)
 abbrev start : tie.After-fill-checks → tie.Start
 start c = c .before .before .before .before
 
-values : (c : tie.After-fill-checks) → take (start c .args .r - 0) (c .fill-checks .last .1 .1 .1 .1 .1 .0) ≡ checks (named (start c)) (start c .args .row .now)
+values : (c : tie.After-fill-checks) → take (start c .args .r - 0) (c .fill-checks .last .1 .1 .1 .1 .1 .0) ≡ checks (named (start c)) (row (start c))
 values c =
     let z : start c .args .r - 0 ≡ start c .args .r = omega arith in
     ap (λ (n : ℕ). take n (c .fill-checks .last .1 .1 .1 .1 .1 .0)) z ∙ c .fill-checks .ensures
@@ -34,7 +39,7 @@ slice-aggregate-fill-checks c = search needs
 fill-checks-requires : tie.Need-fill-checks-requires
 fill-checks-requires c κs =
     let s = c .before .before .before in
-    (s .pre .0 .0, (s .pre .0 .1 .0, (s .pre .0 .1 .1, bounds s .r-high)))
+    (s .pre .0 .0, (s .pre .0 .1, bounds s .r-high))
 
 sub-put-checks : tie.Need-sub-put-checks
 sub-put-checks c = search needs
@@ -49,7 +54,7 @@ put-checks-requires : tie.Need-put-checks-requires
 put-checks-requires c κs =
     let k = c .before .before .before .before in
     let s = start k in
-    (omega (arith, bounds s .nc-high), rw (values k, length-checks (named s) (s .args .row .now)) (s .pre .1))
+    (omega (arith, bounds s .nc-high), rw (values k, length-checks (named s) (row s)) (s .pre .1))
 
 same-length : tie.Need-same-length
 same-length c = search needs
@@ -58,7 +63,7 @@ returns : tie.Need-returns
 returns c =
     let k = c .before .before .before .before .before .before .before in
     let s = start k in
-    let n = length-checks (named s) (s .args .row .now) in
+    let n = length-checks (named s) (row s) in
     c .before .before .put-checks .ensures ∙ rw (values k, n) refl
 
 pub put-row-checks-spec : {M : Type 1} → statement M

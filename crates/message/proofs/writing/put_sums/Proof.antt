@@ -6,30 +6,35 @@ use mathlib.Core.Path.{_≡_, _∙_}
 use mathlib.Core.List.{List, _++_}
 use native.Mathlib.Omega.{arith}
 use lib.ListN.{length, take, drop}
+use Rattle.message.specs.Chunks.{rowOf}
 use Rattle.message.specs.Layout.{layout}
 use Rattle.message.specs.Message.{blockSums, stringSums}
 use Rattle.message.specs.declared.Layout.{Layout}
 use Rattle.message.proofs.Legal.{legal-bounds, sizes}
+use Rattle.message.proofs.Picking.{row-length}
 use Rattle.message.proofs.Placing.{Placed, placed-start, placed-room, placed-next, placed-end}
 use Rattle.message.proofs.RowSums.{sum-low, length-part, sum-of-part}
 use Rattle.message.proofs.writing.put_sums.Statement.{statement}
 use Rattle.message.proofs.writing.put_sums.Tie as tie
 
 abbrev Inv-loop : tie.InvT-loop
-Inv-loop l1 l2 nc r row first count k bits₀ c₀ i₀ bits c i = (i ≤ count) × Placed bits₀ (c₀ .at) k (take count (drop first (blockSums (layout l1 l2 nc r) row ++ stringSums (layout l1 l2 nc r) row))) i bits (c .at)
+Inv-loop table l1 l2 nc r chunks first count k bits₀ c₀ i₀ bits c i = (i ≤ count) × Placed bits₀ (c₀ .at) k (take count (drop first (blockSums (layout l1 l2 nc r) (rowOf nc chunks) ++ stringSums (layout l1 l2 nc r) (rowOf nc chunks)))) i bits (c .at)
 
 abbrev μ-loop : tie.MeasureT-loop
-μ-loop l1 l2 nc r row first count k bits₀ c₀ i₀ bits c i = count - i
+μ-loop table l1 l2 nc r chunks first count k bits₀ c₀ i₀ bits c i = count - i
 
 -- the layout, the sums that are placed, and their count
 abbrev lay : tie.Start Inv-loop μ-loop → Layout
 lay c = layout (c .args .l1) (c .args .l2) (c .args .nc) (c .args .r)
 
+abbrev row : tie.Start Inv-loop μ-loop → List ℕ
+row c = rowOf (c .args .nc) (c .args .chunks .now)
+
 abbrev vs : tie.Start Inv-loop μ-loop → List ℕ
-vs c = take (c .args .count) (drop (c .args .first) (blockSums (lay c) (c .args .row .now) ++ stringSums (lay c) (c .args .row .now)))
+vs c = take (c .args .count) (drop (c .args .first) (blockSums (lay c) (row c) ++ stringSums (lay c) (row c)))
 
 count : (c : tie.Start Inv-loop μ-loop) → length (vs c) ≡ c .args .count
-count c = length-part (lay c) (c .args .row .now) (c .args .first) (c .args .count) (c .pre .1 .0)
+count c = length-part (lay c) (row c) (c .args .first) (c .args .count) (c .pre .1 .0)
 
 loop-holds : tie.Need-loop-holds Inv-loop μ-loop
 loop-holds c =
@@ -37,14 +42,14 @@ loop-holds c =
     let a = s .args in
     (search needs, placed-start (a .bits .now) (a .start .at) (a .k) (vs s) (a .count) (count s) (s .pre .1 .1 .1))
 
-add-sum-at : tie.Need-add-sum-at Inv-loop μ-loop
-add-sum-at c =
+add-sum-of : tie.Need-add-sum-of Inv-loop μ-loop
+add-sum-of c =
     let s = c .before .before .before .before in
-    let z = sizes (lay s) (legal-bounds (lay s) (s .pre .0 .0)) in
+    let z = sizes (lay s) (legal-bounds (lay s) (s .pre .0 .1 .0)) in
     omega (arith, s .pre .1 .0, z .l1-high, z .l2-high)
 
-sum-at-requires : tie.Need-sum-at-requires Inv-loop μ-loop
-sum-at-requires c κs =
+sum-of-requires : tie.Need-sum-of-requires Inv-loop μ-loop
+sum-of-requires c κs =
     let s = c .before .before .before .before in
     (s .pre .0 .0, (s .pre .0 .1 .0, (s .pre .0 .1 .1, omega (arith, s .pre .1 .0))))
 
@@ -52,7 +57,7 @@ cast-sum : tie.Need-cast-sum Inv-loop μ-loop
 cast-sum c =
     let s = c .before .before .before .before .before in
     let a = s .args in
-    omega (arith, c .sum-at .ensures, sum-low (lay s) (a .row .now) (s .pre .0 .0) (s .pre .0 .1 .1) (a .first + c .before .before .loop .i) (omega (arith, s .pre .1 .0)))
+    omega (arith, c .sum-of .ensures, sum-low (lay s) (row s) (s .pre .0 .1 .0) (row-length (lay s) (a .chunks .now) (s .pre .0 .1 .1)) (a .first + c .before .before .loop .i) (omega (arith, s .pre .1 .0)))
 
 put-requires : tie.Need-put-requires Inv-loop μ-loop
 put-requires c κs =
@@ -73,7 +78,7 @@ loop-again c =
     let a = s .args in
     let p = c .before .before .before .before .before .before .loop in
     let q = c .before .before .put in
-    let v = c .before .before .before .before .sum-at .ensures ∙ sum-of-part (lay s) (a .row .now) (a .first) (a .count) (p .i) (omega arith) in
+    let v = c .before .before .before .before .sum-of .ensures ∙ sum-of-part (lay s) (row s) (a .first) (a .count) (p .i) (omega arith) in
     (omega arith, placed-next (a .bits .now) (a .start .at) (a .k) (vs s) (a .count) (count s) (s .pre .1 .1 .1) (p .i) (p .c .at) (p .bits) (p .inv .1) (omega arith) _ _ (q .last .1 .0) v (q .ensures .0) (q .ensures .1))
 
 same-length : tie.Need-same-length Inv-loop μ-loop
@@ -93,8 +98,8 @@ put-sums-spec =
     Inv-loop
     μ-loop
     loop-holds
-    add-sum-at
-    sum-at-requires
+    add-sum-of
+    sum-of-requires
     cast-sum
     put-requires
     add-i
