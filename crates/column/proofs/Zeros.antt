@@ -1,80 +1,32 @@
 -- A chunk-string whose chunks in the heavy blocks count as zero: its total and what those chunks bring are the whole
 -- total, since a line's total changes just by what a changed chunk brings. Assumes nothing.
-use Prim.Native.Nat.{ℕ, zero, suc, _+_, _-_, _*_, _%_, _<_, _≤_}
+use Prim.Native.Nat.{ℕ, zero, suc, _+_, _*_, _%_, _<_, _≤_}
 use mathlib.Core.Path.{_≡_, refl, sym, ap, _∙_}
-use mathlib.Core.List.{List, [], _∷_, _++_}
+use mathlib.Core.List.{List, [], _∷_}
 use mathlib.Core.Logic.{⊎-elim}
 use native.Mathlib.Decide.{ℕ-discrete}
-use native.Mathlib.Nat.{mul-zero, zero-div, mod-add-mod, mod-lt, add-comm, add-mul}
+use native.Mathlib.Nat.{mod-add-mod, mod-lt, add-comm}
 use native.Mathlib.Omega.{arith}
 use lib.ListN.{getD, set, length}
 use lib.Seq.{getD-set-other}
 use Rattle.bits.specs.Bits.{digits}
-use Rattle.bits.proofs.Laws.{length-digits, lt-or-ge}
+use Rattle.bits.proofs.Laws.{lt-or-ge}
 use Rattle.vt.specs.Sum.{total, sum}
 use Rattle.message.specs.declared.Layout.{Layout}
 use Rattle.message.proofs.Fields.{field-room}
-use Rattle.message.proofs.Positions.{total-append}
 use Rattle.lines.specs.Lines.{line}
-use Rattle.lines.proofs.Lines.{length-line, line-cons, line-split, line-same}
+use Rattle.lines.proofs.Lines.{length-line}
+use Rattle.lines.proofs.Parts.{total-zero, total-but}
 use Rattle.weigh.specs.declared.Chunks.{Chunks}
 use Rattle.weigh.specs.Weigh.{brought}
 use Rattle.column.specs.Column.{Fit, chunkAt, filled}
 use Rattle.column.specs.declared.Heavy.{Heavy}
-
--- a zero brings nothing
-total-zero : (k i : ℕ) → total i (digits k 0) ≡ 0
-unfolding total digits
-total-zero zero i = refl
-total-zero (suc k) i = rw (zero-div, mul-zero) (omega (arith, total-zero k (suc i)))
 
 -- where a zero is set a zero stands, also beyond the end
 set-zero : (xs : List ℕ) (c : ℕ) → getD (set xs c 0) c 0 ≡ 0
 set-zero [] c = refl
 set-zero (x ∷ xs) zero = refl
 set-zero (x ∷ xs) (suc c) = set-zero xs c
-
--- ---- a line's total, around chunk t
-module _ (nc start stride count t : ℕ) (h : t < count) where
-  -- the chunks before it, the chunk and those behind it
-  in-parts : (us : List ℕ)
-      → total 1 (line nc start stride count us)
-      ≡ total 1 (line nc start stride t us) + (total (t * nc + 1) (digits nc (getD us (start + t * stride) 0))
-      + total (t * nc + 1 + nc) (line nc (start + t * stride + stride) stride (count - (t + 1)) us))
-  in-parts us =
-      let rest : ℕ = count - (t + 1) in
-      let e : count ≡ t + suc rest = omega arith in
-      let front = line nc start stride t us in
-      let d = digits nc (getD us (start + t * stride) 0) in
-      let back = line nc (start + t * stride + stride) stride rest us in
-      let n : 1 + length front ≡ t * nc + 1 = omega (arith, length-line nc start stride t us) in
-      let m : length d ≡ nc = length-digits nc (getD us (start + t * stride) 0) in
-      ap (λ (c : ℕ). total 1 (line nc start stride c us)) e
-      ∙ ap (total 1)
-      (line-split nc start stride t (suc rest) us
-      ∙ ap (λ (v : List ℕ). front ++ v) (line-cons nc (start + t * stride) stride rest us))
-      ∙ total-append 1 front (d ++ back)
-      ∙ ap (λ (v : ℕ). total 1 front + v)
-      (ap (λ (i : ℕ). total i (d ++ back)) n ∙ total-append (t * nc + 1) d back
-      ∙ ap (λ (k : ℕ). total (t * nc + 1) d + total (t * nc + 1 + k) back) m)
-
-  -- lines that are alike but for chunk t
-  pub total-but : (us vs : List ℕ)
-      → ((i : ℕ) → i < count → (i ≡ t → ⊥) → getD us (start + i * stride) 0 ≡ getD vs (start + i * stride) 0)
-      → total 1 (line nc start stride count us) + total (t * nc + 1) (digits nc (getD vs (start + t * stride) 0))
-      ≡ total 1 (line nc start stride count vs) + total (t * nc + 1) (digits nc (getD us (start + t * stride) 0))
-  total-but us vs same =
-      let a = line-same nc start stride t us vs (λ i k. same i (omega arith) (λ e. omega arith)) in
-      let b = line-same nc (start + t * stride + stride) stride (count - (t + 1)) us vs behind in
-      omega (arith, in-parts us, in-parts vs, ap (total 1) a, ap (total (t * nc + 1 + nc)) b)
-    where
-      behind : (i : ℕ) → i < count - (t + 1)
-          → getD us (start + t * stride + stride + i * stride) 0 ≡ getD vs (start + t * stride + stride + i * stride) 0
-      behind i k =
-          let e : start + (t + 1 + i) * stride ≡ start + t * stride + stride + i * stride =
-          omega (arith, add-mul (t + 1) i stride, add-mul t 1 stride)
-          in
-          rw e at (same (t + 1 + i) (omega arith) (λ q. omega arith))
 
 -- the sum of a line is its total, modulo its length and one
 line-sum : (nc start stride count : ℕ) (us : List ℕ)
