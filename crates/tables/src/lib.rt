@@ -518,6 +518,9 @@ pub fn tables(
     let left = t.left;
     let mut known: [u16; 255] = [0; 255];
     column::light_sums(l, y, numbers, heavy, row, &mut known);
+    if !costs::enough(l, y, totals, counts, numbers, heavy, left, &known) {
+        return kept;
+    }
     let light = apart_light(l, heavy, row, z);
     let mut rest: usize = 0;
     if light < room {

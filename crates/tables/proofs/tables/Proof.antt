@@ -1,11 +1,13 @@
 -- `tables::tables` meets its contract: every row under the table with which the columns begin comes through marked states. Assumes
 -- nothing.
 use Prim.Native.Nat.{ℕ, _+_, _*_, _<_, _≤_}
-use mathlib.Core.Path.{_≡_, sym, ap, subst}
+use mathlib.Core.Path.{_≡_, sym, ap, subst, _∙_}
+use mathlib.Core.Bool.{false≢true}
 use mathlib.Core.Logic.{_⊎_, inl, inr, ⊎-elim}
 use mathlib.Core.List.{List}
 use native.Mathlib.Omega.{arith}
 use borrow.Author.Needs.{needs}
+use borrow.Author.Tests.{not-true}
 use lib.ListN.{length, getD}
 use Rattle.bits.proofs.Laws.{lt-or-ge}
 use Rattle.message.proofs.Legal.{Sizes, legal-bounds, sizes}
@@ -14,7 +16,7 @@ use Rattle.found.specs.Found.{Sent}
 use Rattle.rows.specs.Held.{Known}
 use Rattle.rows.specs.Slice.{rowsIn}
 use Rattle.message.specs.Layout.{rowBits}
-use Rattle.found.proofs.Found.{grown-weaken, grown-none, grown-then}
+use Rattle.found.proofs.Found.{grown-weaken, grown-none, grown-nothing, grown-then}
 use Rattle.states.specs.States.{each}
 use Rattle.live.specs.Live.{Path, Through, apartFrom}
 use Rattle.tables.specs.Tables.{Under, ownLeft, ShapeOf, Looked, Comes, apart}
@@ -23,9 +25,16 @@ use Rattle.tables.proofs.Own.{in-hand, own-path}
 use Rattle.tables.proofs.tables.Statement.{statement}
 use Rattle.tables.proofs.tables.Tie as tie
 
--- the function's entry, seen from where the marks are made
+-- the function's entry, seen from where the sums are known
+abbrev entry : tie.After-light-sums → tie.Start
+entry c = c .before .before .before .before .before .before .before .before .before .before
+
+-- where the sums are known, and the entry, seen from where the marks are made
+abbrev summed : tie.After-prepare → tie.After-light-sums
+summed c = c .before .before .before .before .before .before .before .before .before
+
 abbrev start : tie.After-prepare → tie.Start
-start c = c .before .before .before .before .before .before .before .before .before .before .before .before .before .before .before .before
+start c = entry (summed c)
 
 high : (s : tie.Start) → Sizes (s .args .l)
 high s = sizes (s .args .l) (legal-bounds (s .args .l) (s .pre .0 .0 .is-legal))
@@ -36,9 +45,34 @@ slice-aggregate-light-sums c = search needs
 light-sums-requires : tie.Need-light-sums-requires
 light-sums-requires c κs = let s = c .before .before .before .before .before .before .before .before .before in (fits (s .pre .0 .0) (s .pre .1 .0 .0), high s .l2-high)
 
+slice-aggregate-enough : tie.Need-slice-aggregate-enough
+slice-aggregate-enough c = search needs
+
+enough-requires : tie.Need-enough-requires
+enough-requires c κs =
+    let b = c .before .before in
+    let s = entry b in
+    let long = b .light-sums .kept .1 .1 .1 .1 .1 .0 in
+    (fits (s .pre .0 .0) (s .pre .1 .0 .0), (s .pre .1 .1 .0, omega (arith, high s .l2-high, long)))
+
+-- a row under the table with which the columns begin has a path through the loss states
+path : (s : tie.Start) → let a = s .args in
+    (x : List ℕ) → Sent (a .l) (a .numbers .now) (a .y .now) x → Under (a .l) (a .y .now) (a .heavy) 0 0 (a .t) x
+    → Path (a .l) (a .y .now) (a .numbers .now) (a .heavy) (a .t .row) (each (a .t .left)) (values (a .l) x)
+    (ownLeft (a .l) (a .y .now) (a .heavy) x)
+path s x sent u = let p = s .pre in own-path (p .0 .0) sent (p .1 .0 .0) u (p .1 .0 .1)
+
+returns : tie.Need-returns
+returns c =
+    let b = c .before .before .before .before in
+    let enough = c .before .enough .ensures in
+    grown-nothing (entry b .pre .0 .1)
+    (λ x sent u.
+    false≢true (sym (not-true _ (c .if1 .taken)) ∙ enough _ _ _ (b .light-sums .ensures) (path (entry b) x sent u)))
+
 apart-light-requires : tie.Need-apart-light-requires
 apart-light-requires c κs =
-    let s = c .before .before .before .before .before .before .before .before .before .before .before in
+    let s = entry (c .before .before .before .before) in
     let sound = s .pre .1 .0 .0 in
     (s .pre .0 .0 .is-legal, (record { few = sound .few; inside = sound .inside; ascending = sound .ascending }, s .pre .1 .1 .1 .0))
 
@@ -53,18 +87,11 @@ slice-aggregate-prepare-2 c = search needs
 
 prepare-requires : tie.Need-prepare-requires
 prepare-requires c κs =
-    let s = c .before .before .before .before .before .before .before .before .before .before .before .before .before .before .before in
-    let long = c .before .before .before .before .before .light-sums .kept .1 .1 .1 .1 .1 .0 in
+    let s = entry (c .before .before .before .before .before .before .before .before) in
+    let long = c .before .before .before .before .before .before .before .before .light-sums .kept .1 .1 .1 .1 .1 .0 in
     (fits (s .pre .0 .0) (s .pre .1 .0 .0), (s .pre .1 .1 .0, (omega (arith, high s .l2-high, long), s .pre .1 .1 .1 .0)))
 
--- a row under the table with which the columns begin has a path through the loss states
-path : (c : tie.After-prepare) → let a = start c .args in
-    (x : List ℕ) → Sent (a .l) (a .numbers .now) (a .y .now) x → Under (a .l) (a .y .now) (a .heavy) 0 0 (a .t) x
-    → Path (a .l) (a .y .now) (a .numbers .now) (a .heavy) (a .t .row) (each (a .t .left)) (values (a .l) x)
-    (ownLeft (a .l) (a .y .now) (a .heavy) x)
-path c x sent u = let p = start c .pre in own-path (p .0 .0) sent (p .1 .0 .0) u (p .1 .0 .1)
-
--- and differs from z in at most so many chunks beside those of the heavy blocks
+-- and it differs from z in at most so many chunks beside those of the heavy blocks
 within : (c : tie.After-prepare) → let a = start c .args in
     (x : List ℕ) → Sent (a .l) (a .numbers .now) (a .y .now) x → Under (a .l) (a .y .now) (a .heavy) 0 0 (a .t) x
     → apart (a .l) (a .z .now) x ≤ c .before .before .before .before .apart-light .result + apartFrom (a .l) (a .heavy) (a .z .now) (values (a .l) x) 0
@@ -75,23 +102,23 @@ within c x sent u =
 -- one that differs from z in fewer chunks of the heavy blocks than are asked for is known
 near-known : (c : tie.After-prepare) → let s = start c in let a = s .args in
     (x : List ℕ) → Sent (a .l) (a .numbers .now) (a .y .now) x → Under (a .l) (a .y .now) (a .heavy) 0 0 (a .t) x
-    → apartFrom (a .l) (a .heavy) (a .z .now) (values (a .l) x) 0 < c .before .before .before .if1 .rest
+    → apartFrom (a .l) (a .heavy) (a .z .now) (values (a .l) x) 0 < c .before .before .before .if2 .rest
     → Known (rowsIn (rowBits (a .l)) (a .list .now) (a .kept .count) (a .kept .more)) x
 near-known c x sent u near =
     start c .pre .1 .1 .1 .1 x sent
     (⊎-elim
     (λ w. omega (arith, near, within c x sent u, w .1, w .0 .taken))
     (λ w. absurd (omega (arith, near, w .1)))
-    (c .before .before .before .if1 .came))
+    (c .before .before .before .if2 .came))
 
 abbrev Near : tie.After-prepare → List ℕ → Type 0
 Near c x =
     let a = start c .args in
     Under (a .l) (a .y .now) (a .heavy) 0 0 (a .t) x
-    × (apartFrom (a .l) (a .heavy) (a .z .now) (values (a .l) x) 0 < c .before .before .before .if1 .rest)
+    × (apartFrom (a .l) (a .heavy) (a .z .now) (values (a .l) x) 0 < c .before .before .before .if2 .rest)
 
-returns : tie.Need-returns
-returns c =
+returns-2 : tie.Need-returns-2
+returns-2 c =
     let q = c .before .before in
     let a = start q .args in
     let g = q .prepare .ensures .1 .1 in
@@ -99,11 +126,11 @@ returns c =
     (λ x sent u.
     ⊎-elim
     (near-known q x sent u)
-    (λ far. absurd (g _ _ _ (q .before .before .before .before .before .before .light-sums .ensures) (path q x sent u) far .0 (c .if2 .taken)))
+    (λ far. absurd (g _ _ _ (summed q .light-sums .ensures) (path (start q) x sent u) far .0 (c .if3 .taken)))
     (lt-or-ge (apartFrom (a .l) (a .heavy) (a .z .now) (values (a .l) x) 0) _))
 
-returns-2 : tie.Need-returns-2
-returns-2 c =
+returns-3 : tie.Need-returns-3
+returns-3 c =
     let q = c .before .before .before in
     let a = start q .args in
     let g = q .prepare .ensures .1 .1 in
@@ -111,18 +138,16 @@ returns-2 c =
     (λ x sent u.
     ⊎-elim
     (near-known q x sent u)
-    (λ far.
-    near-known q x sent u
-    (g _ _ _ (q .before .before .before .before .before .before .light-sums .ensures) (path q x sent u) far .1 .0 (c .if3 .taken)))
+    (λ far. near-known q x sent u (g _ _ _ (summed q .light-sums .ensures) (path (start q) x sent u) far .1 .0 (c .if4 .taken)))
     (lt-or-ge (apartFrom (a .l) (a .heavy) (a .z .now) (values (a .l) x) 0) _))
 
 -- what the columns ask: tables, sums, chunks to compare with
 looked : (c : tie.After-prepare) → let a = start c .args in
-    Looked (a .l) (a .y .now) (a .totals .now) (a .counts .now) (c .before .before .before .before .before .before .light-sums .last .1 .1 .1 .1 .1 .0) (a .z .now)
+    Looked (a .l) (a .y .now) (a .totals .now) (a .counts .now) (summed c .light-sums .last .1 .1 .1 .1 .1 .0) (a .z .now)
     (c .before .before .before .before .apart-light .result) 0
 looked c =
     let s = start c in
-    let long = c .before .before .before .before .before .before .light-sums .kept .1 .1 .1 .1 .1 .0 in
+    let long = summed c .light-sums .kept .1 .1 .1 .1 .1 .0 in
     record {
       tables = s .pre .1 .1 .0;
       sums = omega (arith, high s .l2-high, long);
@@ -136,16 +161,16 @@ comes : (c : tie.After-prepare) (marks : List ℕ) → let a = start c .args in
     → Through (a .l) (c .prepare .result .shape) marks (ownLeft (a .l) (a .y .now) (a .heavy) x)
     (apartFrom (a .l) (a .heavy) (a .z .now) (values (a .l) x))
     → Comes (a .l) (a .y .now) (a .numbers .now) (a .heavy) (c .prepare .result .shape)
-    (c .before .before .before .before .before .before .light-sums .last .1 .1 .1 .1 .1 .0) marks (a .z .now) (c .before .before .before .before .apart-light .result) 0 x
+    (summed c .light-sums .last .1 .1 .1 .1 .1 .0) marks (a .z .now) (c .before .before .before .before .apart-light .result) 0 x
 comes c marks x sent u t =
     let a = start c .args in
     record {
       row = start c .args .t .row;
-      light = c .before .before .before .before .before .before .light-sums .ensures;
+      light = summed c .light-sums .ensures;
       path = subst
           (λ (v : List ℕ). Path (a .l) (a .y .now) (a .numbers .now) (a .heavy) (a .t .row) (each v) (values (a .l) x)
           (ownLeft (a .l) (a .y .now) (a .heavy) x))
-          (sym (c .prepare .ensures .0 .1)) (path c x sent u);
+          (sym (c .prepare .ensures .0 .1)) (path (start c) x sent u);
       through = t;
       within = within c x sent u;
     }
@@ -171,10 +196,10 @@ columns-requires c κs =
 same-length : tie.Need-same-length
 same-length c = search needs
 
-returns-3 : tie.Need-returns-3
-returns-3 c =
+returns-4 : tie.Need-returns-4
+returns-4 c =
     let q = c .before .before .before .before .before .before .before .before .before .before in
-    let kept = c .before .before .before .before .before .before .if4 .taken in
+    let kept = c .before .before .before .before .before .before .if5 .taken in
     let a = start q .args in
     let h = start q .pre .0 .1 in
     let g = q .prepare .ensures .1 .1 in
@@ -182,17 +207,13 @@ returns-3 c =
     (λ x sent u.
     ⊎-elim
     {C = Near q x
-    ⊎ (Under (a .l) (a .y .now) (a .heavy) 0 0 (a .t) x
-    × Comes (a .l) (a .y .now) (a .numbers .now) (a .heavy) (q .prepare .result .shape)
-    (q .before .before .before .before .before .before .light-sums .last .1 .1 .1 .1 .1 .0)
-    (q .prepare .last .1 .1 .1 .1 .1 .1 .1 .1 .1 .1 .0) (a .z .now) (q .before .before .before .before .apart-light .result) 0 x)}
+        ⊎ (Under (a .l) (a .y .now) (a .heavy) 0 0 (a .t) x
+        × Comes (a .l) (a .y .now) (a .numbers .now) (a .heavy) (q .prepare .result .shape)
+        (summed q .light-sums .last .1 .1 .1 .1 .1 .0) (q .prepare .last .1 .1 .1 .1 .1 .1 .1 .1 .1 .1 .0) (a .z .now)
+        (q .before .before .before .before .apart-light .result) 0 x)}
     (λ near. inl (u, near))
     (λ far.
-    inr (
-      u,
-      comes q _ x sent u
-          (g _ _ _ (q .before .before .before .before .before .before .light-sums .ensures) (path q x sent u) far .1 .1 kept),
-    ))
+    inr (u, comes q _ x sent u (g _ _ _ (summed q .light-sums .ensures) (path (start q) x sent u) far .1 .1 kept)))
     (lt-or-ge (apartFrom (a .l) (a .heavy) (a .z .now) (values (a .l) x) 0) _))
     (grown-then h (grown-none h {P = Near q} (λ x sent p. near-known q x sent (p .0) (p .1))) (c .before .before .columns .ensures))
 
@@ -217,8 +238,8 @@ columns-requires-2 c κs =
 same-length-2 : tie.Need-same-length-2
 same-length-2 c = search needs
 
-returns-4 : tie.Need-returns-4
-returns-4 c =
+returns-5 : tie.Need-returns-5
+returns-5 c =
     let q = c .before .before .before .before .before .before .before .before .before .before .before in
     grown-weaken (λ x sent u. (u, comes q _ x sent u (λ j h k. absurd (omega (arith, k))))) (c .before .before .columns2 .ensures)
 
@@ -228,22 +249,25 @@ tables-spec =
     (tie.spec
     slice-aggregate-light-sums
     light-sums-requires
+    slice-aggregate-enough
+    enough-requires
+    returns
     apart-light-requires
     sub-rest
     slice-aggregate-prepare
     slice-aggregate-prepare-2
     prepare-requires
-    returns
     returns-2
+    returns-3
     slice-aggregate-columns
     slice-aggregate-columns-2
     columns-requires
     same-length
-    returns-3
+    returns-4
     slice-aggregate-columns-3
     sub-columns
     part-columns-start
     part-columns-end
     columns-requires-2
     same-length-2
-    returns-4)
+    returns-5)
