@@ -15,7 +15,7 @@ use Rattle.vt.specs.Sum.{total, sum}
 use Rattle.message.specs.declared.Layout.{Layout}
 use Rattle.message.proofs.Fields.{field-room}
 use Rattle.lines.specs.Lines.{line}
-use Rattle.lines.proofs.Lines.{length-line}
+use Rattle.lines.proofs.Lines.{length-line, line-same}
 use Rattle.lines.proofs.Parts.{total-zero, total-but}
 use Rattle.weigh.specs.declared.Chunks.{Chunks}
 use Rattle.weigh.specs.Weigh.{brought}
