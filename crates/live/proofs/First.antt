@@ -18,8 +18,9 @@ use Rattle.live.proofs.Columns.{remade-none, remade-set}
 use Rattle.live.proofs.Levels.{Above, Levels, level-or, levels-next}
 use Rattle.live.proofs.Steps.{crosses-same}
 
+-- of a row, that it is not near is known of the states wide
 module _ (l : Layout) (y numbers : List ℕ) (heavy : Heavy) (known : List ℕ) (shape : Shape) (j at base : ℕ) (entry :
-    List ℕ) where
+    List ℕ) (wide : (ℕ → ℕ) → Type 0) where
   abbrev size : ℕ → ℕ
   size = each (shape .size)
 
@@ -34,7 +35,7 @@ module _ (l : Layout) (y numbers : List ℕ) (heavy : Heavy) (known : List ℕ) 
     pub column : Remade (shape .states) at entry marks
     pub levelled : Levels (shape .n) size next-marks (each levels) q
     pub most-of : (p : ℕ) → p < q → getD marks (at + p) 0 ≤ most
-    pub goes : (left : ℕ → ℕ) → Within shape left → numberOf shape left < q
+    pub goes : (left : ℕ → ℕ) → Within shape left → wide left → numberOf shape left < q
         → Goes l y numbers heavy known shape j entry base left (getD marks (at + numberOf shape left) 0)
 
   pub completing-starts : (levels : List ℕ) → length levels ≡ mostStates → Completing entry levels 0 0
@@ -45,22 +46,23 @@ module _ (l : Layout) (y numbers : List ℕ) (heavy : Heavy) (known : List ℕ) 
         column = remade-none (shape .states) at entry;
         levelled = record { own = λ p k. absurd (omega arith); down = λ left w k. absurd (omega arith) };
         most-of = λ p k. absurd (omega arith);
-        goes = λ left w k. absurd (omega arith);
+        goes = λ left w u k. absurd (omega arith);
       }
 
-  -- what is known of the losses left found, the level v and the mark m of state q
-  pub record Told (marks levels : List ℕ) (most q : ℕ) (found : ℕ → ℕ) (v m more : ℕ) : Type 0 where
+  -- what is known of the losses left found, the level v, which is tested as f, and the mark m of state q
+  pub record Told (marks levels : List ℕ) (most q : ℕ) (found : ℕ → ℕ) (v f m more : ℕ) : Type 0 where
     pub digits : (own : ℕ → ℕ) → Within shape own → numberOf shape own ≡ q → (s : ℕ) → s < heavy .n → own s ≡ found s
     pub own : 0 < getD marks (base + q) 0 → 0 < v
     pub down : (s u : ℕ) → s < shape .n → 0 < found s → 0 < getD (shape .stride) s 0 → getD (shape .stride) s 0 ≤ q
         → 0 < u → u < 3 → u ≤ getD levels (q - getD (shape .stride) s 0) 0 → u + 1 ≤ v
-    pub first : FirstMark l y numbers heavy known shape j marks base found q v m
+    pub tested : (left : ℕ → ℕ) → Within shape left → numberOf shape left ≡ q → wide left → f ≡ v
+    pub first : FirstMark l y numbers heavy known shape j marks base found q f m
     pub most-more : most ≤ more
     pub mark-more : m ≤ more
 
   module _ (kept : Kept heavy shape) (apart : at + shape .states ≤ base) (room : base + shape .states ≤ length entry)
-      (marks levels : List ℕ) (most q : ℕ) (found : ℕ → ℕ) (v m more : ℕ) (c : Completing marks levels most q)
-      (h : q < shape .states) (told : Told marks levels most q found v m more) where
+      (marks levels : List ℕ) (most q : ℕ) (found : ℕ → ℕ) (v f m more : ℕ) (c : Completing marks levels most q)
+      (h : q < shape .states) (told : Told marks levels most q found v f m more) where
     -- the marks of the next column are as at entry
     same-next : (p : ℕ) → getD marks (base + p) 0 ≡ next-marks p
     same-next p = c .column .others (base + p) (inr (omega arith))
@@ -75,17 +77,18 @@ module _ (l : Layout) (y numbers : List ℕ) (heavy : Heavy) (known : List ℕ) 
         told .down s u k (omega arith) (omega (arith, stride-pos size s)) (omega arith) h₁ h₂ (rw t h₃)
 
     -- so state q is marked if a row can cross the column from it to a marked state
-    here : (left : ℕ → ℕ) → Within shape left → numberOf shape left ≡ q → Goes l y numbers heavy known shape j entry
-        base left m
-    here left w e row vs next light crosses marked =
+    here : (left : ℕ → ℕ) → Within shape left → wide left → numberOf shape left ≡ q
+        → Goes l y numbers heavy known shape j entry base left m
+    here left w u e row vs next light crosses marked =
+        let f-is = told .tested left w e u in
         let same = told .digits left w e in
         let crosses' = crosses-same l y numbers heavy row j vs left found next next same (λ s k. refl) crosses in
         let falls : (s : ℕ) → s < shape .n → next s ≤ left s = λ s k. crosses .falls s (omega (arith, kept .blocks)) in
-        ⊎-elim (λ u. told .first .high u)
+        ⊎-elim (λ a. told .first .high (omega (arith, a, f-is)))
         (⊎-elim
         (λ a. let n : numberOf shape next ≡ q = state-same' next left a ∙ e in
         told .first .same row vs next light crosses' (λ s k. a s (omega (arith, kept .blocks)) ∙ same s k)
-        (told .own (rw (same-next q) (rw n at marked))) (rw (same-next q) (rw n at marked)))
+        (omega (arith, told .own (rw (same-next q) (rw n at marked)), f-is)) (rw (same-next q) (rw n at marked)))
         (λ a. let s = a .0 in
         let t : getD (shape .stride) s 0 ≡ stride size s = kept .shaped .counts s (a .1 .0) in
         let b : s < heavy .n = omega (arith, kept .blocks, a .1 .0) in
@@ -94,6 +97,7 @@ module _ (l : Layout) (y numbers : List ℕ) (heavy : Heavy) (known : List ℕ) 
         (omega (arith, t, a .1 .1 .1 .0))
         (omega (
           arith,
+          f-is,
           above left w e s (a .1 .0) (omega (arith, a .1 .1 .0 .0)) 1 (omega arith) (omega arith)
               (c .levelled .own (q - stride size s) (omega (arith, a .1 .1 .1 .0, stride-pos size s)) (rw (a .1 .1 .1
               .1) at marked)),
@@ -119,7 +123,7 @@ module _ (l : Layout) (y numbers : List ℕ) (heavy : Heavy) (known : List ℕ) 
               (λ i. rw there (told .own (rw (same-next q) i)))
               (λ left w e s i p. rw there (above left w e s i p));
           most-of = λ p i. most-at p i (ℕ-discrete p q);
-          goes = λ left w i. goes-at left w i (ℕ-discrete (numberOf shape left) q);
+          goes = λ left w u i. goes-at left w u i (ℕ-discrete (numberOf shape left) q);
         }
       where
         most-at : (p : ℕ) → p < q + 1 → Dec (p ≡ q) → getD (set marks (at + q) m) (at + p) 0 ≤ more
@@ -129,11 +133,11 @@ module _ (l : Layout) (y numbers : List ℕ) (heavy : Heavy) (known : List ℕ) 
             rw (getD-set-other marks (at + q) (at + p) m 0 (λ d. e (omega arith)))
             (omega (arith, c .most-of p (omega arith), told .most-more))
 
-        goes-at : (left : ℕ → ℕ) → Within shape left → numberOf shape left < q + 1 → Dec (numberOf shape left ≡ q)
+        goes-at : (left : ℕ → ℕ) → Within shape left → wide left → numberOf shape left < q + 1 → Dec (numberOf shape left ≡ q)
             → Goes l y numbers heavy known shape j entry base left (getD (set marks (at + q) m) (at + numberOf shape
             left) 0)
-        goes-at left w i (yes e) =
-            rw (e, getD-set-same marks (at + q) m 0 (omega (arith, c .column .long))) (here left w e)
-        goes-at left w i (no e) =
-            rw (getD-set-other marks (at + q) (at + numberOf shape left) m 0 (λ d. e (omega arith))) (c .goes left w
+        goes-at left w u i (yes e) =
+            rw (e, getD-set-same marks (at + q) m 0 (omega (arith, c .column .long))) (here left w u e)
+        goes-at left w u i (no e) =
+            rw (getD-set-other marks (at + q) (at + numberOf shape left) m 0 (λ d. e (omega arith))) (c .goes left w u
             (omega arith))

@@ -4,26 +4,21 @@ use Prim.Native.Nat.{ℕ, zero, suc, _+_, _-_, _*_, _<_, _≤_}
 use mathlib.Core.Path.{_≡_, refl, sym, ap, _∙_}
 use mathlib.Core.Bool.{Bool, true, false, cond}
 use mathlib.Core.List.{List}
-use native.Mathlib.Decide.{ℕ-discrete}
 use native.Mathlib.Numerals.{add-one}
 use native.Mathlib.Omega.{arith}
-use borrow.Author.Count.{below-more}
 use lib.Dec.{eqb}
-use lib.ListN.{length, getD, set}
-use lib.Seq.{getD-set-same, getD-set-other}
+use lib.ListN.{getD}
 use Rattle.message.specs.declared.Layout.{Layout}
 use Rattle.lines.specs.Lines.{unlike}
-use Rattle.states.specs.States.{each, Shaped}
+use Rattle.states.specs.States.{each}
 use Rattle.states.specs.declared.Shape.{Shape}
-use Rattle.states.proofs.States.{state-low}
 use Rattle.column.specs.Column.{chunkAt, Crosses, apartIn}
 use Rattle.column.specs.declared.Heavy.{Heavy}
 use Rattle.column.proofs.Rows.{no-loss}
 use Rattle.far.specs.Far.{Reads, readApart, Walk, stepAt, blockAt}
-use Rattle.live.specs.Live.{markAt, Path, apartBefore, apartFrom}
-use Rattle.live.specs.Passes.{Within, numberOf, Kept, Remade}
-use Rattle.live.specs.Near.{Counted, mostIn, most, Leaves}
-use Rattle.live.proofs.Columns.{remade-none, remade-set, other-column}
+use Rattle.live.specs.Live.{Path, apartBefore, apartFrom}
+use Rattle.live.specs.Passes.{Kept}
+use Rattle.live.specs.Near.{Counted, mostIn, most}
 use Rattle.live.proofs.Paths.{own-within}
 
 -- one at most
@@ -140,7 +135,7 @@ module _ (l : Layout) (y numbers : List ℕ) (heavy : Heavy) (row : List ℕ) (s
       stays t k e = ap (λ (v : ℕ). own v s) (sym (to t k)) ∙ left-is t k e
 
   -- what the tables say of a state that the row comes through is at least the number of chunks in which it differs
-  module _ (before after : List ℕ) (counted : Counted l y heavy z shape before after) (j : ℕ) (inside : j ≤ l .l2) where
+  module _ (before after : List ℕ) (counted : Counted l y heavy z (shape .size) before after) (j : ℕ) (inside : j ≤ l .l2) where
     most-block : (s : ℕ) → s < heavy .n
         → inBlock l heavy z vs s (l .l2) ≤ mostIn (l .l2) before after s (size s) (own j s) j
     most-block s h =
@@ -159,7 +154,7 @@ module _ (l : Layout) (y numbers : List ℕ) (heavy : Heavy) (row : List ℕ) (s
         let e : shape .n ≡ heavy .n = kept .blocks in
         rw e (omega (arith, most-blocks (heavy .n) (omega arith), by-blocks l heavy z vs (l .l2)))
 
--- ---- marks taken away
+-- ---- states
 module _ (columns : ℕ) (before after : List ℕ) (size : ℕ → ℕ) where
   -- only the losses left in the blocks count
   pub most-same : (a b : ℕ → ℕ) (j n : ℕ) → ((s : ℕ) → s < n → a s ≡ b s)
@@ -169,82 +164,3 @@ module _ (columns : ℕ) (before after : List ℕ) (size : ℕ → ℕ) where
   most-same a b j (suc n) h =
       let e = ap (λ (v : ℕ). mostIn columns before after n (size n) v j) (h n (omega arith)) in
       omega (arith, most-same a b j n (λ s k. h s (omega arith)), e)
-
-module _ (columns : ℕ) (shape : Shape) (before after : List ℕ) (room j : ℕ) (entry : List ℕ) where
-  -- the states below q are done, the others are as at entry
-  pub record Leaving (marks : List ℕ) (q : ℕ) : Type 0 where
-    pub low : q ≤ shape .states
-    pub column : Remade (shape .states) (j * shape .states) entry marks
-    pub rest : (p : ℕ) → q ≤ p → getD marks (j * shape .states + p) 0 ≡ getD entry (j * shape .states + p) 0
-    pub leaves : (left : ℕ → ℕ) → Within shape left → numberOf shape left < q
-        → room ≤ most columns before after (each (shape .size)) left j (shape .n)
-        → getD marks (markAt shape j left) 0 ≡ getD entry (markAt shape j left) 0
-
-  pub leaving-first : Leaving entry 0
-  leaving-first =
-      record {
-        low = omega arith;
-        column = remade-none (shape .states) (j * shape .states) entry;
-        rest = λ p h. refl;
-        leaves = λ left w h. absurd (omega arith);
-      }
-
-  -- one state more: its mark becomes v
-  pub leaving-next : (marks : List ℕ) (q v : ℕ) → j * shape .states + shape .states ≤ length entry → q < shape .states → Leaving marks q
-      → ((left : ℕ → ℕ) → Within shape left → numberOf shape left ≡ q
-      → room ≤ most columns before after (each (shape .size)) left j (shape .n) → v ≡ getD marks (j * shape .states + q) 0)
-      → Leaving (set marks (j * shape .states + q) v) (q + 1)
-  leaving-next marks q v long h c here =
-      record {
-        low = omega arith;
-        column = remade-set (shape .states) (j * shape .states) entry marks (c .column) q v h;
-        rest = λ p k. getD-set-other marks (at + q) (at + p) v 0 (λ e. omega arith) ∙ c .rest p (omega arith);
-        leaves = λ left w k r. go left w k r (ℕ-discrete (numberOf shape left) q);
-      }
-    where
-      at : ℕ
-      at = j * shape .states
-
-      go : (left : ℕ → ℕ) → Within shape left → numberOf shape left < q + 1
-          → room ≤ most columns before after (each (shape .size)) left j (shape .n) → Dec (numberOf shape left ≡ q)
-          → getD (set marks (at + q) v) (markAt shape j left) 0 ≡ getD entry (markAt shape j left) 0
-      go left w k r (yes e) =
-          rw e
-          (getD-set-same marks (at + q) v 0 (omega (arith, c .column .long)) ∙ here left w e r ∙ c .rest q (omega arith))
-      go left w k r (no e) =
-          getD-set-other marks (at + q) (markAt shape j left) v 0 (λ d. e (omega arith)) ∙ c .leaves left w (omega arith) r
-
--- the number of a state is below the number of states
-pub within-low : (shape : Shape) → Shaped (shape .n) (shape .size) (shape .stride) (shape .states)
-    → (left : ℕ → ℕ) → Within shape left → numberOf shape left < shape .states
-within-low shape shaped left w = omega (arith, state-low (each (shape .size)) left (shape .n) w, shaped .all)
-
-module _ (columns : ℕ) (shape : Shape) (before after : List ℕ) (room : ℕ) (entry : List ℕ) where
-  -- the columns before j are done, the others are as at entry
-  pub record LeavingAll (marks : List ℕ) (j : ℕ) : Type 0 where
-    pub low : j ≤ columns + 1
-    pub long : length marks ≡ length entry
-    pub rest : (i p : ℕ) → j ≤ i → p < shape .states → getD marks (i * shape .states + p) 0 ≡ getD entry (i * shape .states + p) 0
-    pub leaves : (i : ℕ) → i < j → Leaves columns shape before after room i entry marks
-
-  pub leaving-all-first : LeavingAll entry 0
-  leaving-all-first =
-      record { low = omega arith; long = refl; rest = λ i p h k. refl; leaves = λ i h. absurd (omega arith) }
-
-  pub leaving-all-next : Shaped (shape .n) (shape .size) (shape .stride) (shape .states)
-      → (marks exit : List ℕ) (j : ℕ) → j ≤ columns → LeavingAll marks j
-      → Remade (shape .states) (j * shape .states) marks exit → Leaves columns shape before after room j marks exit
-      → LeavingAll exit (j + 1)
-  leaving-all-next shaped marks exit j h c r here =
-      record {
-        low = omega arith;
-        long = r .long ∙ c .long;
-        rest = λ i p k m. unchanged i p (λ e. omega arith) m ∙ c .rest i p (omega arith) m;
-        leaves = below-more _ _
-            (λ i k left w m. unchanged i (numberOf shape left) (λ e. omega arith) (within-low shape shaped left w) ∙ c .leaves i k left w m)
-            (λ left w m. here left w m ∙ c .rest j (numberOf shape left) (omega arith) (within-low shape shaped left w));
-      }
-    where
-      unchanged : (i p : ℕ) → (i ≡ j → ⊥) → p < shape .states
-          → getD exit (i * shape .states + p) 0 ≡ getD marks (i * shape .states + p) 0
-      unchanged i p n k = other-column (shape .states) j (j * shape .states) marks exit refl r i p n k

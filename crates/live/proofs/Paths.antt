@@ -141,17 +141,17 @@ module _ (l : Layout) (y numbers : List ℕ) (heavy : Heavy) (row : List ℕ) (s
       covers-at i h (inr e) (no n) = rw (unchanged i h n) (p .covers i h e)
 
   -- the first marks of one column more
-  pub first-next : (known : List ℕ) → Light l heavy row known → (j : ℕ) (entry marks : List ℕ) → j < l .l2
-      → Remade (shape .states) (j * shape .states) entry marks
-      → ((left : ℕ → ℕ) → Within shape left → Goes l y numbers heavy known shape j entry ((j + 1) * shape .states) left
+  pub first-next : (known : List ℕ) → Light l heavy row known → (j : ℕ) (entry marks : List ℕ) (wide : (ℕ → ℕ) → Type 0) → j < l .l2
+      → wide (own j) → Remade (shape .states) (j * shape .states) entry marks
+      → ((left : ℕ → ℕ) → Within shape left → wide left → Goes l y numbers heavy known shape j entry ((j + 1) * shape .states) left
       (getD marks (j * shape .states + numberOf shape left) 0))
       → ((i : ℕ) → j + 1 ≤ i → i ≤ l .l2 → 0 < getD entry (markAt shape i (own i)) 0)
       → (i : ℕ) → j ≤ i → i ≤ l .l2 → 0 < getD marks (markAt shape i (own i)) 0
-  first-next known light j entry marks hj r g t i lo hi = go (ℕ-discrete i j)
+  first-next known light j entry marks wide hj u r g t i lo hi = go (ℕ-discrete i j)
     where
       go : Dec (i ≡ j) → 0 < getD marks (markAt shape i (own i)) 0
       go (yes e) =
-          rw e (g (own j) (own-within j (omega arith)) row vs (own (j + 1)) light (path .crosses j hj)
+          rw e (g (own j) (own-within j (omega arith)) u row vs (own (j + 1)) light (path .crosses j hj)
           (t (j + 1) (omega arith) (omega arith)))
       go (no n) =
           rw (other-column (shape .states) j (j * shape .states) entry marks refl r i (numberOf shape (own i)) n

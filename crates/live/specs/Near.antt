@@ -9,15 +9,13 @@ use Rattle.states.specs.States.{each}
 use Rattle.states.specs.declared.Shape.{Shape}
 use Rattle.column.specs.declared.Heavy.{Heavy}
 use Rattle.far.specs.Far.{lefts, Covered, stepAt, blockAt}
-use Rattle.live.specs.Live.{markAt}
-use Rattle.live.specs.Passes.{Within}
 
 -- the tables of what rows count in the columns before each, by the losses used, and from each on, by the losses left
-pub record Counted (l : Layout) (y : List ℕ) (heavy : Heavy) (z : List ℕ) (shape : Shape) (before after : List ℕ) : Type 0 where
+pub record Counted (l : Layout) (y : List ℕ) (heavy : Heavy) (z size before after : List ℕ) : Type 0 where
   pub ahead : (s : ℕ) → s < heavy .n
-      → Covered l y heavy z s (each (shape .size) s) true (blockAt (l .l2) s) (l .l2) before
+      → Covered l y heavy z s (each size s) true (blockAt (l .l2) s) (l .l2) before
   pub back : (s : ℕ) → s < heavy .n
-      → Covered l y heavy z s (each (shape .size) s) false (blockAt (l .l2) s) (l .l2) after
+      → Covered l y heavy z s (each size s) false (blockAt (l .l2) s) (l .l2) after
 
 -- tables that have room for the blocks of a shape, each of which has few losses
 pub record Sized (columns : ℕ) (shape : Shape) (before after : List ℕ) : Type 0 where
@@ -37,9 +35,3 @@ unfoldable pub most : (columns : ℕ) (before after : List ℕ) (size left : ℕ
 most columns before after size left j zero = 0
 most columns before after size left j (suc s) =
     most columns before after size left j s + mostIn columns before after s (size s) (left s) j
-
--- marks of a column are taken away only from states all of whose rows differ in fewer than room chunks
-abbrev pub Leaves : (columns : ℕ) → Shape → (before after : List ℕ) (room j : ℕ) (entry exit : List ℕ) → Type 0
-Leaves columns shape before after room j entry exit =
-    (left : ℕ → ℕ) → Within shape left → room ≤ most columns before after (each (shape .size)) left j (shape .n)
-    → getD exit (markAt shape j left) 0 ≡ getD entry (markAt shape j left) 0

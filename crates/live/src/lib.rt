@@ -16,7 +16,7 @@ ghost use Rattle.column.specs.Column.{Fit, Light, Crosses, apartIn};
 ghost use Rattle.live.specs.Live.{Path, apartBefore, apartFrom, Covers, Through};
 ghost use Rattle.live.specs.Passes.{Ready, Within, numberOf, PutAt, entryOf, Digits, Kept, Remade, Joined};
 ghost use Rattle.far.specs.Far.{lefts, blockAt};
-ghost use Rattle.live.specs.Near.{Counted, Sized, mostIn, most, Leaves};
+ghost use Rattle.live.specs.Near.{Counted, Sized, mostIn, most};
 ghost use Rattle.live.specs.Passes.{Gains, Spread, SpreadBy, Gained, Goes, OneLess, FirstMark, Pass};
 
 // The most loss states whose marks are kept.
@@ -918,118 +918,6 @@ fn first_mark(
     )
 }
 
-// The first marks of a column, at a place, by those of the next column, at base: whether a row can cross it to a marked
-// state. It answers the greatest.
-fn complete_column(
-    l: Layout,
-    y: &[u8],
-    totals: &[u32],
-    counts: &[u16],
-    numbers: &[u16],
-    heavy: Heavy,
-    known: &[u16],
-    z: &[u8],
-    shape: Shape,
-    digits: &[u8],
-    j: usize,
-    at: usize,
-    base: usize,
-    marks: &mut [u8],
-) -> u8
-    requires { ⌜ Ready l (now y) (now totals) (now counts) (now numbers) heavy (now known) (now z) × ((j < l .l2)
-        × (Kept heavy shape × (Digits shape (now digits) × ((at + shape .states ≤ base)
-        × (base + shape .states ≤ length (now marks)))))) ⌝ }
-    ensures { λ r. ⌜ Remade (shape .states) at (now (marks .entry)) (now (marks .exit))
-        × (((p : ℕ) → p < shape .states → getD (now (marks .exit)) (at + p) 0 ≤ r)
-        × ((left : ℕ → ℕ) → Within shape left
-        → Goes l (now (y .entry)) (now (numbers .entry)) heavy (now (known .entry)) shape j (now
-        (marks .entry)) base left
-        (getD (now (marks .exit)) (at + numberOf shape left) 0))) ⌝ }
-{
-    let n = shape.n;
-    let states = shape.states;
-    let strides = shape.stride;
-    let mut levels: [u8; MOST_STATES] = [0; MOST_STATES];
-    let mut most: u8 = 0;
-    let mut q: usize = 0;
-    while q < states {
-        let level = level_of(n, &strides, digits, q, &levels, marks[base + q]);
-        let mark = first_mark(
-            l,
-            y,
-            totals,
-            counts,
-            numbers,
-            heavy,
-            known,
-            z,
-            shape,
-            digits,
-            j,
-            q,
-            level,
-            marks,
-            base,
-        );
-        levels[q] = level;
-        marks[at + q] = mark;
-        most = higher(most, mark);
-        q += 1;
-    }
-    most
-}
-
-// The first marks of all columns, from the last to the first: where a row can still come to the end. It answers whether
-// one can.
-fn complete(
-    l: Layout,
-    y: &[u8],
-    totals: &[u32],
-    counts: &[u16],
-    numbers: &[u16],
-    heavy: Heavy,
-    known: &[u16],
-    z: &[u8],
-    shape: Shape,
-    digits: &[u8],
-    marks: &mut [u8],
-) -> bool
-    requires { ⌜ Ready l (now y) (now totals) (now counts) (now numbers) heavy (now known) (now z)
-        × (Kept heavy shape × (Digits shape (now digits) × ((l .l2 + 1) * shape .states ≤ length (now marks)))) ⌝ }
-    ensures { λ r. ⌜ (length (now (marks .exit)) ≡ length (now (marks .entry)))
-        × ((row vs : List ℕ) (own : ℕ → ℕ → ℕ) → Light l heavy row (now (known .entry))
-        → Path l (now (y .entry)) (now (numbers .entry)) heavy row (each (shape .size)) vs own
-        → (r ≡ true) × Through l shape (now (marks .exit)) own (λ j. 0)) ⌝ }
-{
-    let states = shape.states;
-    let mut j = l.l2;
-    only(states, j * states, 0, 255, marks);
-    while 0 < j {
-        j -= 1;
-        if complete_column(
-            l,
-            y,
-            totals,
-            counts,
-            numbers,
-            heavy,
-            known,
-            z,
-            shape,
-            digits,
-            j,
-            j * states,
-            (j + 1) * states,
-            marks,
-        )
-            == 0
-        {
-            return false;
-        }
-    }
-    0 < marks[states - 1]
-}
-
 // What the tables say of heavy block s, which has so many losses, where at column j so many are left: in how many of its chunks a row can
 // differ from z at most. Where the block cannot have so many left they say nothing.
 fn most_in(
@@ -1078,8 +966,8 @@ fn most_apart(
     total
 }
 
-// The mark of state q in column j, unless each row that comes through the state differs from z in fewer than room chunks.
-fn far_mark(
+// The level of state q in column j, unless each row that comes through the state differs from z in fewer than room chunks.
+fn far_level(
     columns: usize,
     shape: Shape,
     digits: &[u8],
@@ -1088,80 +976,20 @@ fn far_mark(
     room: usize,
     j: usize,
     q: usize,
-    mark: u8,
+    level: u8,
 ) -> u8
     requires { ⌜ Sized columns shape (now before) (now after) × ((j ≤ columns) × (Digits shape (now digits) × (q < shape .states))) ⌝ }
     ensures { λ r. ⌜ ((left : ℕ → ℕ) → Within shape left → numberOf shape left ≡ q
-        → room ≤ most columns (now (before .entry)) (now (after .entry)) (each (shape .size)) left j (shape .n) → r ≡ mark) ⌝ }
+        → room ≤ most columns (now (before .entry)) (now (after .entry)) (each (shape .size)) left j (shape .n) → r ≡ level) ⌝ }
 {
-    if mark == 0 {
-        return mark;
+    if level == 0 {
+        return level;
     }
     let left = digits_of(digits, q);
     if most_apart(columns, shape, before, after, j, left) < room {
         return 0;
     }
-    mark
-}
-
-// Takes the marks of column j from the states all of whose rows are near.
-fn leave_column(
-    columns: usize,
-    shape: Shape,
-    digits: &[u8],
-    before: &[u8],
-    after: &[u8],
-    room: usize,
-    j: usize,
-    marks: &mut [u8],
-)
-    requires { ⌜ Sized columns shape (now before) (now after) × ((j ≤ columns) × (Digits shape (now digits)
-        × ((Shaped (shape .n) (shape .size) (shape .stride) (shape .states))
-        × (j * shape .states + shape .states ≤ length (now marks))))) ⌝ }
-    ensures { λ _. ⌜ Remade (shape .states) (j * shape .states) (now (marks .entry)) (now (marks .exit))
-        × Leaves columns shape (now (before .entry)) (now (after .entry)) room j (now (marks .entry)) (now (marks .exit)) ⌝ }
-{
-    let states = shape.states;
-    let at = j * states;
-    let mut q: usize = 0;
-    while q < states {
-        marks[at + q] = far_mark(
-            columns,
-            shape,
-            digits,
-            before,
-            after,
-            room,
-            j,
-            q,
-            marks[at + q],
-        );
-        q += 1;
-    }
-}
-
-// Takes the marks of all columns from the states all of whose rows are near.
-fn leave_near(
-    columns: usize,
-    shape: Shape,
-    digits: &[u8],
-    before: &[u8],
-    after: &[u8],
-    room: usize,
-    marks: &mut [u8],
-)
-    requires { ⌜ Sized columns shape (now before) (now after) × (Digits shape (now digits)
-        × ((Shaped (shape .n) (shape .size) (shape .stride) (shape .states))
-        × ((columns + 1) * shape .states ≤ length (now marks)))) ⌝ }
-    ensures { λ _. ⌜ (length (now (marks .exit)) ≡ length (now (marks .entry)))
-        × ((j : ℕ) → j ≤ columns
-        → Leaves columns shape (now (before .entry)) (now (after .entry)) room j (now (marks .entry)) (now (marks .exit))) ⌝ }
-{
-    let mut j: usize = 0;
-    while j <= columns {
-        leave_column(columns, shape, digits, before, after, room, j, marks);
-        j += 1;
-    }
+    level
 }
 
 // Whether each heavy block has so few losses that tables of counts can be made.
@@ -1181,43 +1009,131 @@ fn few_losses(shape: Shape) -> bool
     true
 }
 
-// The bytes of a table of counts: enough for every layout.
-const COUNTS: usize = 3393;
-
-// Takes the marks from the states through which no row comes that differs from z in room chunks of the heavy blocks.
-fn leave_out(
+// The first marks of a column, at a place, by those of the next column, at base: whether a row can cross it to a marked
+// state, and is not near. It answers the greatest.
+fn complete_column(
     l: Layout,
     y: &[u8],
+    totals: &[u32],
+    counts: &[u16],
     numbers: &[u16],
     heavy: Heavy,
+    known: &[u16],
     z: &[u8],
     shape: Shape,
     digits: &[u8],
+    before: &[u8],
+    after: &[u8],
+    room: usize,
+    j: usize,
+    at: usize,
+    base: usize,
+    marks: &mut [u8],
+) -> u8
+    requires { ⌜ Ready l (now y) (now totals) (now counts) (now numbers) heavy (now known) (now z) × ((j < l .l2)
+        × (Kept heavy shape × (Digits shape (now digits) × (Sized (l .l2) shape (now before) (now after)
+        × ((at + shape .states ≤ base) × (base + shape .states ≤ length (now marks))))))) ⌝ }
+    ensures { λ r. ⌜ Remade (shape .states) at (now (marks .entry)) (now (marks .exit))
+        × (((p : ℕ) → p < shape .states → getD (now (marks .exit)) (at + p) 0 ≤ r)
+        × ((left : ℕ → ℕ) → Within shape left
+        → room ≤ most (l .l2) (now (before .entry)) (now (after .entry)) (each (shape .size)) left j (shape .n)
+        → Goes l (now (y .entry)) (now (numbers .entry)) heavy (now (known .entry)) shape j (now
+        (marks .entry)) base left
+        (getD (now (marks .exit)) (at + numberOf shape left) 0))) ⌝ }
+{
+    let columns = l.l2;
+    let n = shape.n;
+    let states = shape.states;
+    let strides = shape.stride;
+    let mut levels: [u8; MOST_STATES] = [0; MOST_STATES];
+    let mut highest: u8 = 0;
+    let mut q: usize = 0;
+    while q < states {
+        let level = level_of(n, &strides, digits, q, &levels, marks[base + q]);
+        let tested = far_level(columns, shape, digits, before, after, room, j, q, level);
+        let mark = first_mark(
+            l,
+            y,
+            totals,
+            counts,
+            numbers,
+            heavy,
+            known,
+            z,
+            shape,
+            digits,
+            j,
+            q,
+            tested,
+            marks,
+            base,
+        );
+        levels[q] = level;
+        marks[at + q] = mark;
+        highest = higher(highest, mark);
+        q += 1;
+    }
+    highest
+}
+
+// The first marks of all columns, from the last to the first: where a row can still come to the end. It answers whether
+// one can.
+fn complete(
+    l: Layout,
+    y: &[u8],
+    totals: &[u32],
+    counts: &[u16],
+    numbers: &[u16],
+    heavy: Heavy,
+    known: &[u16],
+    z: &[u8],
+    shape: Shape,
+    digits: &[u8],
+    before: &[u8],
+    after: &[u8],
     room: usize,
     marks: &mut [u8],
-)
-    requires { ⌜ (Fit l (now y) (now numbers) heavy × (l .l1 * l .l2 ≤ length (now z)))
-        × (Kept heavy shape × (Digits shape (now digits) × ((l .l2 + 1) * shape .states ≤ length (now marks)))) ⌝ }
-    ensures { λ _. ⌜ (length (now (marks .exit)) ≡ length (now (marks .entry)))
-        × ((row vs : List ℕ) (own : ℕ → ℕ → ℕ) → Path l (now (y .entry)) (now (numbers .entry)) heavy row (each (shape .size)) vs own
-        → room ≤ apartFrom l heavy (now (z .entry)) vs 0 → Through l shape (now (marks .entry)) own (λ j. 0)
-        → Through l shape (now (marks .exit)) own (λ j. 0)) ⌝ }
+) -> bool
+    requires { ⌜ Ready l (now y) (now totals) (now counts) (now numbers) heavy (now known) (now z)
+        × (Kept heavy shape × (Digits shape (now digits) × (Sized (l .l2) shape (now before) (now after)
+        × ((l .l2 + 1) * shape .states ≤ length (now marks))))) ⌝ }
+    ensures { λ r. ⌜ (length (now (marks .exit)) ≡ length (now (marks .entry)))
+        × ((row vs : List ℕ) (own : ℕ → ℕ → ℕ) → Light l heavy row (now (known .entry))
+        → Path l (now (y .entry)) (now (numbers .entry)) heavy row (each (shape .size)) vs own
+        → ((i : ℕ) → i ≤ l .l2
+        → room ≤ most (l .l2) (now (before .entry)) (now (after .entry)) (each (shape .size)) (own i) i (shape .n))
+        → (r ≡ true) × Through l shape (now (marks .exit)) own (λ j. 0)) ⌝ }
 {
-    if room == 0 {
-        return;
+    let states = shape.states;
+    let mut j = l.l2;
+    only(states, j * states, 0, 255, marks);
+    while 0 < j {
+        j -= 1;
+        if complete_column(
+            l,
+            y,
+            totals,
+            counts,
+            numbers,
+            heavy,
+            known,
+            z,
+            shape,
+            digits,
+            before,
+            after,
+            room,
+            j,
+            j * states,
+            (j + 1) * states,
+            marks,
+        )
+            == 0
+        {
+            return false;
+        }
     }
-    if !few_losses(shape) {
-        return;
-    }
-    if COUNTS < shape.n * ((l.l2 + 1) * far::LEFTS) {
-        return;
-    }
-    let size = shape.size;
-    let mut before: [u8; COUNTS] = [0; COUNTS];
-    far::fill(l, y, numbers, heavy, z, size, true, &mut before);
-    let mut after: [u8; COUNTS] = [0; COUNTS];
-    far::fill(l, y, numbers, heavy, z, size, false, &mut after);
-    leave_near(l.l2, shape, digits, &before, &after, room, marks);
+    0 < marks[states - 1]
 }
 
 // Whether each number that a mark covers is below room.
@@ -1305,7 +1221,103 @@ fn count_marks(
     }
 }
 
-// The marks of the loss states, in three passes; after the first, those of states through which only near rows come are taken away.
+// The tables of what rows count in each heavy block, where rows that differ in room chunks are asked for.
+fn count_blocks(
+    l: Layout,
+    y: &[u8],
+    numbers: &[u16],
+    heavy: Heavy,
+    z: &[u8],
+    size: [u8; states::MOST_HEAVY],
+    room: usize,
+    before: &mut [u8],
+    after: &mut [u8],
+)
+    requires { ⌜ (Fit l (now y) (now numbers) heavy × (l .l1 * l .l2 ≤ length (now z)))
+        × (((s : ℕ) → s < heavy .n → getD size s 0 < lefts)
+        × ((blockAt (l .l2) (heavy .n) ≤ length (now before)) × (blockAt (l .l2) (heavy .n) ≤ length (now after)))) ⌝ }
+    ensures { λ _. ⌜ ((length (now (before .exit)) ≡ length (now (before .entry)))
+        × (length (now (after .exit)) ≡ length (now (after .entry))))
+        × (0 < room → Counted l (now (y .entry)) heavy (now (z .entry)) size (now (before .exit)) (now (after .exit))) ⌝ }
+{
+    if room == 0 {
+        return;
+    }
+    far::fill(l, y, numbers, heavy, z, size, true, before);
+    far::fill(l, y, numbers, heavy, z, size, false, after);
+}
+
+// The marks of the loss states, in three passes, with the tables of what rows count in each heavy block.
+fn make_marks(
+    l: Layout,
+    y: &[u8],
+    totals: &[u32],
+    counts: &[u16],
+    numbers: &[u16],
+    heavy: Heavy,
+    known: &[u16],
+    z: &[u8],
+    shape: Shape,
+    before: &[u8],
+    after: &[u8],
+    room: usize,
+    marks: &mut [u8],
+) -> Prepared
+    requires { ⌜ Ready l (now y) (now totals) (now counts) (now numbers) heavy (now known) (now z)
+        × (Kept heavy shape × (Sized (l .l2) shape (now before) (now after)
+        × ((0 < room → Counted l (now y) heavy (now z) (shape .size) (now before) (now after))
+        × ((l .l2 + 1) * shape .states ≤ length (now marks))))) ⌝ }
+    ensures { λ r. ⌜ (r .shape ≡ shape) × ((row vs : List ℕ) (own : ℕ → ℕ → ℕ) → Light l heavy row (now (known .entry))
+        → Path l (now (y .entry)) (now (numbers .entry)) heavy row (each (shape .size)) vs own
+        → room ≤ apartFrom l heavy (now (z .entry)) vs 0 → (r .none ≡ true → ⊥)
+        × ((r .near ≡ true → apartFrom l heavy (now (z .entry)) vs 0 < room)
+        × (r .kept ≡ true → Through l shape (now (marks .exit)) own (apartFrom l heavy (now (z .entry)) vs)))) ⌝ }
+{
+    let mut digits: [u8; 4374] = [0; 4374];
+    fill_digits(shape, &mut digits);
+    if !complete(
+        l,
+        y,
+        totals,
+        counts,
+        numbers,
+        heavy,
+        known,
+        z,
+        shape,
+        &digits,
+        before,
+        after,
+        room,
+        marks,
+    ) {
+        return Prepared {
+            shape,
+            kept: false,
+            none: true,
+            near: false,
+        };
+    }
+    count_marks(
+        l,
+        y,
+        totals,
+        counts,
+        numbers,
+        heavy,
+        known,
+        z,
+        shape,
+        &digits,
+        room,
+        marks,
+    )
+}
+
+// The bytes of a table of counts: enough for every layout.
+const COUNTS: usize = 3393;
+
+// The marks of the loss states, in three passes. Where the heavy blocks lost more bits than are told apart none are kept.
 fn fill_marks(
     l: Layout,
     y: &[u8],
@@ -1323,33 +1335,31 @@ fn fill_marks(
         × (Kept heavy shape × ((l .l2 + 1) * shape .states ≤ length (now marks))) ⌝ }
     ensures { λ r. ⌜ (r .shape ≡ shape) × ((row vs : List ℕ) (own : ℕ → ℕ → ℕ) → Light l heavy row (now (known .entry))
         → Path l (now (y .entry)) (now (numbers .entry)) heavy row (each (shape .size)) vs own
-        → room ≤ apartFrom l heavy (now (z .entry)) vs 0 → (r .none ≡ true → ⊥) × ((r .near ≡ true → apartFrom l heavy (now (z .entry)) vs 0 < room)
+        → room ≤ apartFrom l heavy (now (z .entry)) vs 0 → (r .none ≡ true → ⊥)
+        × ((r .near ≡ true → apartFrom l heavy (now (z .entry)) vs 0 < room)
         × (r .kept ≡ true → Through l shape (now (marks .exit)) own (apartFrom l heavy (now (z .entry)) vs)))) ⌝ }
 {
-    let mut digits: [u8; 4374] = [0; 4374];
-    fill_digits(shape, &mut digits);
-    if !complete(
-        l,
-        y,
-        totals,
-        counts,
-        numbers,
-        heavy,
-        known,
-        z,
-        shape,
-        &digits,
-        marks,
-    ) {
+    if !few_losses(shape) {
         return Prepared {
             shape,
             kept: false,
-            none: true,
+            none: false,
             near: false,
         };
     }
-    leave_out(l, y, numbers, heavy, z, shape, &digits, room, marks);
-    count_marks(
+    if COUNTS < shape.n * ((l.l2 + 1) * far::LEFTS) {
+        return Prepared {
+            shape,
+            kept: false,
+            none: false,
+            near: false,
+        };
+    }
+    let size = shape.size;
+    let mut before: [u8; COUNTS] = [0; COUNTS];
+    let mut after: [u8; COUNTS] = [0; COUNTS];
+    count_blocks(l, y, numbers, heavy, z, size, room, &mut before, &mut after);
+    make_marks(
         l,
         y,
         totals,
@@ -1359,7 +1369,8 @@ fn fill_marks(
         known,
         z,
         shape,
-        &digits,
+        &before,
+        &after,
         room,
         marks,
     )

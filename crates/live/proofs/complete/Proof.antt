@@ -11,6 +11,7 @@ use lib.ListN.{length, getD}
 use Rattle.states.specs.States.{each}
 use Rattle.column.specs.Column.{Light}
 use Rattle.live.specs.Live.{Path, markAt}
+use Rattle.live.specs.Near.{most}
 use Rattle.live.specs.Passes.{numberOf}
 use Rattle.live.proofs.Columns.{two-columns}
 use Rattle.live.proofs.Paths.{first-next, last-let, lets-through, own-first, own-low}
@@ -19,17 +20,18 @@ use Rattle.live.proofs.complete.Statement.{statement}
 use Rattle.live.proofs.complete.Tie as tie
 
 abbrev Inv-loop : tie.InvT-loop
-Inv-loop l y totals counts numbers heavy known z shape digits marks₀ states j₀ marks j =
+Inv-loop l y totals counts numbers heavy known z shape digits before after room marks₀ states j₀ marks j =
     ((j ≤ l .l2) × (length marks ≡ length marks₀)) × ((row vs : List ℕ) (own : ℕ → ℕ → ℕ) → Light l heavy row known
     → Path l y numbers heavy row (each (shape .size)) vs own
+    → ((i : ℕ) → i ≤ l .l2 → room ≤ most (l .l2) before after (each (shape .size)) (own i) i (shape .n))
     → (i : ℕ) → j ≤ i → i ≤ l .l2 → 0 < getD marks (markAt shape i (own i)) 0)
 
 abbrev μ-loop : tie.MeasureT-loop
-μ-loop l y totals counts numbers heavy known z shape digits marks₀ states j₀ marks j = j
+μ-loop l y totals counts numbers heavy known z shape digits before after room marks₀ states j₀ marks j = j
 
 -- the arguments
 abbrev begin : tie.At-loop Inv-loop μ-loop → tie.Start Inv-loop μ-loop
-begin c = c .before .before .before .before .before .before .before .before .before .before .before .before .before
+begin c = c .before .before .before .before .before .before .before .before .before .before .before .before .before .before .before
 
 -- the column of the turn and the next one stand in the slice
 places : (c : tie.In-loop Inv-loop μ-loop)
@@ -42,7 +44,7 @@ places c =
       c .loop-test .taken,
       c .before .loop .inv .0 .0,
     ))
-    (s .pre .1 .1 .1)
+    (s .pre .1 .1 .1 .1)
 
 -- the marks keep their length
 long : (c : tie.At-loop Inv-loop μ-loop) → length (c .loop .marks) ≡ length (begin c .args .marks .now)
@@ -50,20 +52,20 @@ long c = c .loop .inv .0 .1 ∙ c .before .before .before .only .ensures .0 .lon
 
 mul-only : tie.Need-mul-only Inv-loop μ-loop
 mul-only c =
-    let s = c .before .before .before .before .before .before .before .before in
-    record { fits = omega (arith, s .pre .1 .1 .1, s .good .1 .1 .1 .1 .1 .1 .1 .1 .1 .1 .0) }
+    let s = c .before .before .before .before .before .before .before .before .before .before in
+    record { fits = omega (arith, s .pre .1 .1 .1 .1, s .good .1 .1 .1 .1 .1 .1 .1 .1 .1 .1 .1 .1 .1 .0) }
 
 only-requires : tie.Need-only-requires Inv-loop μ-loop
 only-requires c κs =
-    let s = c .before .before .before .before .before .before .before .before .before in
-    (some-state (s .pre .1 .0), omega (arith, s .pre .1 .1 .1))
+    let s = c .before .before .before .before .before .before .before .before .before .before .before in
+    (some-state (s .pre .1 .0), omega (arith, s .pre .1 .1 .1 .1))
 
 loop-holds : tie.Need-loop-holds Inv-loop μ-loop
 loop-holds c = (
   (omega arith, refl),
-  λ row vs own light path.
+  λ row vs own light path far.
       let o = c .before .before in
-      let s = o .before .before .before .before .before .before .before .before .before .before in
+      let s = o .before .before .before .before .before .before .before .before .before .before .before .before in
       let a = s .args in
       last-let (a .l) (a .y .now) (a .numbers .now) (a .heavy) row (a .shape) vs own (s .pre .1 .0) path (a .marks
       .now) _ (o .only .ensures .0)
@@ -78,7 +80,7 @@ mul-complete-column c = record {
   fits = omega (
     arith,
     places c,
-    begin (c .before) .good .1 .1 .1 .1 .1 .1 .1 .1 .1 .1
+    begin (c .before) .good .1 .1 .1 .1 .1 .1 .1 .1 .1 .1 .1 .1 .1
         .0,
   );
 }
@@ -91,7 +93,7 @@ mul-complete-column-2 c = record {
   fits = omega (
     arith,
     places c,
-    begin (c .before) .good .1 .1 .1 .1 .1 .1 .1 .1 .1 .1
+    begin (c .before) .good .1 .1 .1 .1 .1 .1 .1 .1 .1 .1 .1 .1 .1
         .0,
   );
 }
@@ -107,14 +109,7 @@ complete-column-requires c κs =
         omega (arith, c .before .loop-test .taken, i .loop .inv .0 .0),
         (
           p .1 .0,
-          (
-            p .1 .1 .0,
-            (
-              omega arith,
-              omega
-                  arith,
-            ),
-          ),
+          (p .1 .1 .0, (p .1 .1 .1 .0, (omega arith, omega arith))),
         ),
       ),
     )
@@ -136,7 +131,7 @@ returns c =
     let e : j + 1 ≡ i .loop .j = omega (arith, k) in
     let f = r .complete-column .ensures in (
       f .0 .long ∙ long i,
-      λ row vs own light path.
+      λ row vs own light path far.
           absurd (omega (
             arith,
             c .if1 .taken,
@@ -145,8 +140,8 @@ returns c =
                 (omega (arith, k, h))),
             first-next (a .l) (a .y .now) (a .numbers .now) (a .heavy) row (a .shape) vs own (s .pre .1 .0) path (a
                 .known .now) light j
-                (i .loop .marks) _ (omega (arith, k, h)) (f .0) (f .1 .1) (rw e (i .loop .inv .1 row vs own light
-                path)) j (omega arith)
+                (i .loop .marks) _ _ (omega (arith, k, h)) (far j (omega (arith, k, h))) (f .0) (f .1 .1)
+                (rw e (i .loop .inv .1 row vs own light path far)) j (omega arith)
                 (omega (arith, k, h)),
           )),
     )
@@ -166,10 +161,11 @@ loop-again c =
     let e : j + 1 ≡ i .loop .j = omega (arith, k) in
     let f = r .complete-column .ensures in (
       (omega (arith, k, h), f .0 .long ∙ i .loop .inv .0 .1),
-      λ row vs own light path.
+      λ row vs own light path far.
           first-next (a .l) (a .y .now) (a .numbers .now) (a .heavy) row (a .shape) vs own (s .pre .1 .0) path (a
           .known .now) light j
-          (i .loop .marks) _ (omega (arith, k, h)) (f .0) (f .1 .1) (rw e (i .loop .inv .1 row vs own light path)),
+          (i .loop .marks) _ _ (omega (arith, k, h)) (far j (omega (arith, k, h))) (f .0) (f .1 .1)
+          (rw e (i .loop .inv .1 row vs own light path far)),
     )
 
 sub-result : tie.Need-sub-result Inv-loop μ-loop
@@ -183,7 +179,7 @@ slice-read-result c =
       arith,
       some-state (s .pre .1 .0),
       long i,
-      s .pre .1 .1 .1,
+      s .pre .1 .1 .1 .1,
       mul-le-mul-right {m = 1} {n = s .args .l .l2 + 1} (s .args .shape
           .states) (omega arith),
     )
@@ -198,9 +194,9 @@ returns-2 c =
     let a = s .args in
     let z : i .loop .j ≡ 0 = omega (arith, c .before .loop-test .left) in (
       long i,
-      λ row vs own light path.
+      λ row vs own light path far.
           let t : (u : ℕ) → u ≤ a .l .l2 → 0 < getD (i .loop .marks) (markAt (a .shape) u (own u)) 0 =
-          λ u h. i .loop .inv .1 row vs own light path u (omega arith) h
+          λ u h. i .loop .inv .1 row vs own light path far u (omega arith) h
           in
           let f = own-first (a .l) (a .y .now) (a .numbers .now) (a .heavy) row (a .shape) vs own (s .pre .1 .0) path in
           let e : markAt (a .shape) 0 (own 0) ≡ a .shape .states - 1 = omega (arith, zero-mul (a .shape .states)) in (

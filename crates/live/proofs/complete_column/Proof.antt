@@ -1,9 +1,11 @@
 -- `live::complete_column` meets its contract. The loop's invariant: the states passed have their marks and levels. The
 -- measure is what is left of the states. Assumes nothing.
-use Prim.Native.Nat.{_-_}
+use Prim.Native.Nat.{_-_, _≤_}
 use mathlib.Core.Path.{refl}
 use native.Mathlib.Omega.{arith}
 use borrow.Author.Needs.{needs}
+use Rattle.states.specs.States.{each}
+use Rattle.live.specs.Near.{most}
 use Rattle.live.specs.Passes.{entryOf}
 use Rattle.live.proofs.Steps.{number-low, entry-is}
 use Rattle.live.proofs.First.{Completing, completing-starts, completing-next}
@@ -11,30 +13,31 @@ use Rattle.live.proofs.complete_column.Statement.{statement}
 use Rattle.live.proofs.complete_column.Tie as tie
 
 abbrev Inv-loop : tie.InvT-loop
-Inv-loop l y totals counts numbers heavy known z shape digits j at base marks₀ n states strides levels₀ most₀ q₀ marks
-    levels most q =
-    Completing l y numbers heavy known shape j at base marks₀ marks levels most q
+Inv-loop l y totals counts numbers heavy known z shape digits before after room j at base marks₀ columns n states strides levels₀
+    most₀ q₀ marks levels highest q =
+    Completing l y numbers heavy known shape j at base marks₀
+    (λ left. room ≤ most columns before after (each (shape .size)) left j (shape .n)) marks levels highest q
 
 abbrev μ-loop : tie.MeasureT-loop
-μ-loop l y totals counts numbers heavy known z shape digits j at base marks₀ n states strides levels₀ most₀ q₀ marks
-    levels most q = states - q
+μ-loop l y totals counts numbers heavy known z shape digits before after room j at base marks₀ columns n states strides levels₀
+    most₀ q₀ marks levels highest q = states - q
 
 -- the arguments
 abbrev begin : tie.At-loop Inv-loop μ-loop → tie.Start Inv-loop μ-loop
-begin c = c .before .before .before .before .before .before .before .before .before .before
+begin c = c .before .before .before .before .before .before .before .before .before .before .before .before
 
 loop-holds : tie.Need-loop-holds Inv-loop μ-loop
-loop-holds c = completing-starts _ _ _ _ _ _ _ _ _ _ _ refl
+loop-holds c = completing-starts _ _ _ _ _ _ _ _ _ _ _ _ refl
 
 add-level-of : tie.Need-add-level-of Inv-loop μ-loop
 add-level-of c =
     let s = begin (c .before .before .before) in
-    record { fits = omega (arith, s .pre .1 .1 .1 .1 .1, s .good .1 .1 .1 .1 .1 .1 .1 .1 .1 .1 .1 .1 .1 .0) }
+    record { fits = omega (arith, s .pre .1 .1 .1 .1 .1 .1, s .good .1 .1 .1 .1 .1 .1 .1 .1 .1 .1 .1 .1 .1 .1 .1 .1 .0) }
 
 slice-read-level-of : tie.Need-slice-read-level-of Inv-loop μ-loop
 slice-read-level-of c =
     let i = c .before .before .before .before in
-    omega (arith, begin i .pre .1 .1 .1 .1 .1, i .loop .inv .column .long)
+    omega (arith, begin i .pre .1 .1 .1 .1 .1 .1, i .loop .inv .column .long)
 
 level-of-requires : tie.Need-level-of-requires Inv-loop μ-loop
 level-of-requires c κs =
@@ -53,9 +56,15 @@ level-of-requires c κs =
       ),
     )
 
+far-level-requires : tie.Need-far-level-requires Inv-loop μ-loop
+far-level-requires c κs =
+    let t = c .before .before .before .before in
+    let p = begin (t .before) .pre in
+    (p .1 .1 .1 .1 .0, (omega (arith, p .1 .0), (p .1 .1 .1 .0, t .loop-test .taken)))
+
 first-mark-requires : tie.Need-first-mark-requires Inv-loop μ-loop
 first-mark-requires c κs =
-    let i = c .before .before .before .before .before .before in
+    let i = c .before .before .before .before .before .before .before in
     let p = begin i .pre in (
       p .0,
       (
@@ -65,8 +74,8 @@ first-mark-requires c κs =
           (
             p .1 .1 .1 .0,
             (
-              c .before .before .before .before .before .loop-test .taken,
-              omega (arith, p .1 .1 .1 .1 .1, i .loop .inv .column .long),
+              c .before .before .before .before .before .before .loop-test .taken,
+              omega (arith, p .1 .1 .1 .1 .1 .1, i .loop .inv .column .long),
             ),
           ),
         ),
@@ -75,26 +84,27 @@ first-mark-requires c κs =
 
 array-write-levels : tie.Need-array-write-levels Inv-loop μ-loop
 array-write-levels c =
-    let i = c .before .before .before .before .before .before .before in
+    let i = c .before .before .before .before .before .before .before .before in
     omega (arith, i .loop .inv .long, begin i .pre .1 .1 .0 .few)
 
 add-marks : tie.Need-add-marks Inv-loop μ-loop
 add-marks c =
-    let s = begin (c .before .before .before .before .before .before .before) in
+    let s = begin (c .before .before .before .before .before .before .before .before) in
     record {
       fits = omega (
         arith,
-        s .pre .1 .1 .1 .1 .0,
-        s .pre .1 .1 .1 .1 .1,
+        c .before .before .before .before .before .before .before .loop-test .taken,
+        s .pre .1 .1 .1 .1 .1 .0,
+        s .pre .1 .1 .1 .1 .1 .1,
         s .good .1 .1 .1 .1 .1 .1 .1 .1 .1 .1
-            .1 .1 .1 .0,
+            .1 .1 .1 .1 .1 .1 .0,
       );
     }
 
 slice-write-marks : tie.Need-slice-write-marks Inv-loop μ-loop
 slice-write-marks c =
-    let i = c .before .before .before .before .before .before .before in
-    let p = begin i .pre .1 .1 .1 .1 in
+    let i = c .before .before .before .before .before .before .before .before in
+    let p = begin i .pre .1 .1 .1 .1 .1 in
     omega (arith, p .0, p .1, i .loop .inv .column .long)
 
 higher-requires : tie.Need-higher-requires Inv-loop μ-loop
@@ -102,12 +112,12 @@ higher-requires c κs = search needs
 
 add-q : tie.Need-add-q Inv-loop μ-loop
 add-q c =
-    let i = c .before .before .before .before .before .before .before .before in
+    let i = c .before .before .before .before .before .before .before .before .before in
     record {
       fits = omega (
         arith,
         begin i .pre .1 .1 .0 .few,
-        c .before .before .before .before .before .before .before
+        c .before .before .before .before .before .before .before .before
             .loop-test .taken,
       );
     }
@@ -118,20 +128,22 @@ loop-less c = search needs
 loop-again : tie.Need-loop-again Inv-loop μ-loop
 loop-again c =
     let f = c .before in
-    let v = f .before .before in
+    let d = f .before .before in
+    let v = d .before in
     let t = v .before .before .before .before in
     let i = t .before in
     let s = begin i in
     let p = s .pre in
     let found = entryOf (s .args .digits .now) (i .loop .q) in
-    completing-next _ _ _ _ _ _ _ _ _ _ (p .1 .1 .0) (p .1 .1 .1 .1 .0) (p .1 .1 .1 .1 .1) (i .loop .marks) (i .loop
+    completing-next _ _ _ _ _ _ _ _ _ _ _ (p .1 .1 .0) (p .1 .1 .1 .1 .1 .0) (p .1 .1 .1 .1 .1 .1) (i .loop .marks) (i .loop
     .levels)
-    (i .loop .most) (i .loop .q) found (v .level-of .result) (f .first-mark .result) (c .higher .result)
+    (i .loop .highest) (i .loop .q) found (v .level-of .result) (d .far-level .result) (f .first-mark .result) (c .higher .result)
     (i .loop .inv) (t .loop-test .taken)
     record {
       digits = λ own w e. entry-is (p .1 .1 .0) (p .1 .1 .1 .0) own w (i .loop .q) e;
       own = v .level-of .ensures .0;
       down = v .level-of .ensures .1;
+      tested = d .far-level .ensures;
       first = f .first-mark .ensures;
       most-more = c .higher .ensures .0;
       mark-more = c .higher .ensures .1;
@@ -147,7 +159,7 @@ returns c =
       i .loop .inv .column,
       (
         λ p h. i .loop .inv .most-of p (omega arith),
-        λ left w. i .loop .inv .goes left w (omega (arith, number-low kept left w)),
+        λ left w u. i .loop .inv .goes left w u (omega (arith, number-low kept left w)),
       ),
     )
 
@@ -161,6 +173,7 @@ complete-column-spec =
     add-level-of
     slice-read-level-of
     level-of-requires
+    far-level-requires
     first-mark-requires
     array-write-levels
     add-marks

@@ -1,94 +1,121 @@
 -- `live::fill_marks` meets its contract. Assumes nothing.
-use mathlib.Core.Path.{refl, sym, _∙_}
+use Prim.Native.Nat.{ℕ, _+_, _*_, _<_, _≤_}
+use mathlib.Core.Path.{refl}
 use mathlib.Core.Bool.{false≢true}
+use native.Mathlib.Nat.{mul-le-mul}
 use native.Mathlib.Omega.{arith}
 use borrow.Author.Needs.{needs}
-use borrow.Author.Tests.{not-true}
+use borrow.Author.Tests.{not-false}
+use lib.ListN.{getD}
+use Rattle.message.proofs.Legal.{legal-bounds, sizes}
+use Rattle.far.specs.Far.{lefts}
 use Rattle.live.proofs.fill_marks.Statement.{statement}
 use Rattle.live.proofs.fill_marks.Tie as tie
 
--- the arguments
-abbrev begin : tie.After-fill-digits → tie.Start
-begin c = c .before .before .before .before .before .before .before .before .before
+-- a layout has few columns
+narrow : (s : tie.Start) → s .args .l .l2 ≤ 255
+narrow s = sizes (s .args .l) (legal-bounds (s .args .l) (s .pre .0 .fit .allowed)) .l2-high
 
-slice-aggregate-fill-digits : tie.Need-slice-aggregate-fill-digits
-slice-aggregate-fill-digits c = refl
+-- the function's entry, seen from where the tables of counts are lent
+abbrev begin : tie.After-after → tie.Start
+begin c = c .before .before .before .before .before .before .before .before .before .before .before .before .before .before .before
 
-fill-digits-requires : tie.Need-fill-digits-requires
-fill-digits-requires c κs =
-    let p = c .before .before .before .before .before .before .before .before .pre in
-    (omega (arith, p .0 .fit .few, p .1 .0 .blocks), (p .1 .0 .shaped, omega (arith, p .1 .0 .few)))
+-- the heavy blocks have few losses
+small : (c : tie.After-after) → (s : ℕ) → s < begin c .args .shape .n → getD (begin c .args .shape .size) s 0 < lefts
+small c s h =
+    let f = c .before .before .before .before .before .before in
+    f .before .few-losses .ensures (not-false _ (f .if1 .left)) s h
 
-slice-aggregate-complete : tie.Need-slice-aggregate-complete
-slice-aggregate-complete c = search needs
-
-complete-requires : tie.Need-complete-requires
-complete-requires c κs =
-    let d = c .before .before .before in
-    let p = begin d .pre in
-    (p .0, (p .1 .0, (d .fill-digits .ensures, p .1 .1)))
-
-same-length : tie.Need-same-length
-same-length c = c .before .before .before .complete .ensures .0
+few-losses-requires : tie.Need-few-losses-requires
+few-losses-requires c κs = search needs
 
 returns : tie.Need-returns
-returns c = (
-  refl,
-  λ row vs own light path far.
-      let e = c .before .before .before .complete .ensures .1 row vs own light path in
-      absurd (false≢true (sym (not-true _ (c .if1 .taken)) ∙ e .0)),
-)
+returns c = (refl, λ row vs own light path far. (λ e. false≢true e, (λ e. absurd (false≢true e), λ e. absurd (false≢true e))))
 
-slice-aggregate-leave-out : tie.Need-slice-aggregate-leave-out
-slice-aggregate-leave-out c = search needs
+add-if2 : tie.Need-add-if2
+add-if2 c = search needs
 
-leave-out-requires : tie.Need-leave-out-requires
-leave-out-requires c κs =
-    let m = c .before .before .before .before .before in
-    let d = m .before .before .before .before in
-    let p = begin d .pre in
-    ((p .0 .fit, p .0 .all), (p .1 .0, (d .fill-digits .ensures, omega (arith, p .1 .1, m .complete .ensures .0))))
+mul-if2 : tie.Need-mul-if2
+mul-if2 c = record { fits = omega (arith, narrow (c .before .before .before .before .before .before .before .before .before .before)) }
 
-slice-aggregate-count-marks : tie.Need-slice-aggregate-count-marks
-slice-aggregate-count-marks c = search needs
-
-count-marks-requires : tie.Need-count-marks-requires
-count-marks-requires c κs =
-    let o = c .before .before .before .before in
-    let m = o .before .before .before .before .before .before in
-    let d = m .before .before .before .before in
-    let p = begin d .pre in (
-      p .0,
-      (p .1 .0, (d .fill-digits .ensures, omega (arith, p .1 .1, m .complete .ensures .0, o .leave-out .ensures .0))),
-    )
-
-same-length-2 : tie.Need-same-length-2
-same-length-2 c = search needs
+mul-if2-2 : tie.Need-mul-if2-2
+mul-if2-2 c =
+    let s = c .before .before .before .before .before .before .before .before .before .before .before in
+    record {
+      fits = omega (
+        arith,
+        mul-le-mul {n₁ = s .args .shape .n} {m₁ = (s .args .l .l2 + 1) * 13} {n₂ = 6} {m₂ = 3328}
+            (omega (arith, s .pre .0 .fit .few, s .pre .1 .0 .blocks)) (omega (arith, narrow s)),
+      );
+    }
 
 returns-2 : tie.Need-returns-2
-returns-2 c =
-    let t = c .before .before in
-    let o = t .before .before .before .before .before in
-    let m = o .before .before .before .before .before .before in (
-      t .count-marks .ensures .0,
-      λ row vs own light path far.
-          t .count-marks .ensures .1 row vs own light path
-          (o .leave-out .ensures .1 row vs own path far (m .complete .ensures .1 row vs own light path .1)),
+returns-2 c = (refl, λ row vs own light path far. (λ e. false≢true e, (λ e. absurd (false≢true e), λ e. absurd (false≢true e))))
+
+slice-aggregate-count-blocks : tie.Need-slice-aggregate-count-blocks
+slice-aggregate-count-blocks c = search needs
+
+slice-aggregate-count-blocks-2 : tie.Need-slice-aggregate-count-blocks-2
+slice-aggregate-count-blocks-2 c = search needs
+
+count-blocks-requires : tie.Need-count-blocks-requires
+count-blocks-requires c κs =
+    let s = begin c in
+    let blocks = s .pre .1 .0 .blocks in
+    let room = c .before .before .before .if2 .left in (
+      (s .pre .0 .fit, s .pre .0 .all),
+      (λ k h. small c k (omega (arith, blocks, h)), (rw (← blocks) (omega (arith, room)), rw (← blocks) (omega (arith, room)))),
     )
+
+slice-aggregate-make-marks : tie.Need-slice-aggregate-make-marks
+slice-aggregate-make-marks c = search needs
+
+slice-aggregate-make-marks-2 : tie.Need-slice-aggregate-make-marks-2
+slice-aggregate-make-marks-2 c = search needs
+
+make-marks-requires : tie.Need-make-marks-requires
+make-marks-requires c κs =
+    let t = c .before .before .before .before .before in
+    let b = t .before in
+    let s = begin b in
+    let room = b .before .before .before .if2 .left in (
+      s .pre .0,
+      (
+        s .pre .1 .0,
+        (
+          record {
+            narrow = narrow s;
+            few = omega (arith, s .pre .0 .fit .few, s .pre .1 .0 .blocks);
+            small = small b;
+            long-before = omega (arith, room, t .count-blocks .ensures .0 .0);
+            long-after = omega (arith, room, t .count-blocks .ensures .0 .1);
+          },
+          (t .count-blocks .ensures .1, s .pre .1 .1),
+        ),
+      ),
+    )
+
+same-length : tie.Need-same-length
+same-length c = search needs
+
+returns-3 : tie.Need-returns-3
+returns-3 c = search needs
 
 pub fill-marks-spec : {M : Type 1} → statement M
 fill-marks-spec =
     tie.close
     (tie.spec
-    slice-aggregate-fill-digits
-    fill-digits-requires
-    slice-aggregate-complete
-    complete-requires
-    same-length
+    few-losses-requires
     returns
-    slice-aggregate-leave-out
-    leave-out-requires
-    slice-aggregate-count-marks
-    count-marks-requires
-    same-length-2
-    returns-2)
+    add-if2
+    mul-if2
+    mul-if2-2
+    returns-2
+    slice-aggregate-count-blocks
+    slice-aggregate-count-blocks-2
+    count-blocks-requires
+    slice-aggregate-make-marks
+    slice-aggregate-make-marks-2
+    make-marks-requires
+    same-length
+    returns-3)

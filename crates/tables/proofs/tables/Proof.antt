@@ -207,10 +207,10 @@ returns-4 c =
     (λ x sent u.
     ⊎-elim
     {C = Near q x
-        ⊎ (Under (a .l) (a .y .now) (a .heavy) 0 0 (a .t) x
-        × Comes (a .l) (a .y .now) (a .numbers .now) (a .heavy) (q .prepare .result .shape)
-        (summed q .light-sums .last .1 .1 .1 .1 .1 .0) (q .prepare .last .1 .1 .1 .1 .1 .1 .1 .1 .1 .1 .0) (a .z .now)
-        (q .before .before .before .before .apart-light .result) 0 x)}
+    ⊎ (Under (a .l) (a .y .now) (a .heavy) 0 0 (a .t) x
+    × Comes (a .l) (a .y .now) (a .numbers .now) (a .heavy) (q .prepare .result .shape)
+    (summed q .light-sums .last .1 .1 .1 .1 .1 .0) (q .prepare .last .1 .1 .1 .1 .1 .1 .1 .1 .1 .1 .0) (a .z .now)
+    (q .before .before .before .before .apart-light .result) 0 x)}
     (λ near. inl (u, near))
     (λ far.
     inr (u, comes q _ x sent u (g _ _ _ (summed q .light-sums .ensures) (path (start q) x sent u) far .1 .1 kept)))

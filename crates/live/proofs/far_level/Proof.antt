@@ -1,4 +1,4 @@
--- `live::far_mark` meets its contract. Assumes nothing.
+-- `live::far_level` meets its contract. Assumes nothing.
 use Prim.Native.Nat.{ℕ, _<_, _≤_}
 use mathlib.Core.Path.{_≡_, _∙_}
 use native.Mathlib.Omega.{arith}
@@ -6,8 +6,8 @@ use borrow.Author.Needs.{needs}
 use lib.ListN.{getD}
 use Rattle.states.specs.States.{each}
 use Rattle.live.proofs.Near.{most-same}
-use Rattle.live.proofs.far_mark.Statement.{statement}
-use Rattle.live.proofs.far_mark.Tie as tie
+use Rattle.live.proofs.far_level.Statement.{statement}
+use Rattle.live.proofs.far_level.Tie as tie
 
 returns : tie.Need-returns
 returns c = search needs
@@ -39,6 +39,6 @@ returns-2 c left w e room =
 returns-3 : tie.Need-returns-3
 returns-3 c = search needs
 
-pub far-mark-spec : {M : Type 1} → statement M
-far-mark-spec =
+pub far-level-spec : {M : Type 1} → statement M
+far-level-spec =
     tie.close (tie.spec returns digits-of-requires most-apart-requires returns-2 returns-3)
