@@ -13,7 +13,8 @@ use Rattle.message.specs.declared.Layout.{Layout}
 use Rattle.column.specs.declared.Heavy.{Heavy}
 use Rattle.far.specs.Far.{lefts, columnOf, leftOf, Reads, readApart, Walk, stepAt, Covered, Stepped}
 
-module _ (l : Layout) (y : List ℕ) (heavy : Heavy) (z : List ℕ) (s size : ℕ) (ahead : Bool) (at : ℕ) (small : size < lefts) where
+module _ (l : Layout) (y : List ℕ) (heavy : Heavy) (z : List ℕ) (s size : ℕ) (ahead : Bool) (at : ℕ)
+    (small : size < lefts) where
   -- an entry of an earlier step stands before those of a later one
   pub earlier : (i t w : ℕ) → i < t → w ≤ size → stepAt at i + w < stepAt at t
   earlier i t w h k = omega (arith, small, mul-le-mul-right {m = i + 1} {n = t} lefts (omega arith))
@@ -26,7 +27,8 @@ module _ (l : Layout) (y : List ℕ) (heavy : Heavy) (z : List ℕ) (s size : �
       omega (arith, none)
 
   -- what is changed after a step leaves the steps up to it
-  pub covered-kept : (t : ℕ) → t ≤ l .l2 → (entry exit : List ℕ) → ((i : ℕ) → i < stepAt at (t + 1) → getD exit i 0 ≡ getD entry i 0)
+  pub covered-kept : (t : ℕ) → t ≤ l .l2 → (entry exit : List ℕ)
+      → ((i : ℕ) → i < stepAt at (t + 1) → getD exit i 0 ≡ getD entry i 0)
       → Covered l y heavy z s size ahead at t entry → Covered l y heavy z s size ahead at t exit
   covered-kept t u entry exit k c w n walk i h =
       rw (k (stepAt at i + w i) (earlier i (t + 1) (w i) (omega arith) (walk .within i (omega arith)))) (c w n walk i h)
@@ -56,7 +58,8 @@ module _ (l : Layout) (y : List ℕ) (heavy : Heavy) (z : List ℕ) (s size : �
           covered-kept t (omega arith) entry exit (d .before) c w n walk i (omega arith)
 
 -- ---- the entries of one step more, one by one
-module _ (l : Layout) (y : List ℕ) (heavy : Heavy) (z : List ℕ) (s size : ℕ) (ahead : Bool) (at t : ℕ) (entry : List ℕ) where
+module _ (l : Layout) (y : List ℕ) (heavy : Heavy) (z : List ℕ) (s size : ℕ) (ahead : Bool) (at t : ℕ)
+    (entry : List ℕ) where
   -- the entries below w are made; most is above each entry of the step before below w
   pub record Stepping (table : List ℕ) (most w : ℕ) : Type 0 where
     pub high : w ≤ size + 1
@@ -65,7 +68,8 @@ module _ (l : Layout) (y : List ℕ) (heavy : Heavy) (z : List ℕ) (s size : �
     pub few : most ≤ t + 1
     pub above : (v : ℕ) → v < w → getD entry (stepAt at t + v) 0 + 1 ≤ most
     pub low : (v : ℕ) → v < w → getD table (stepAt at (t + 1) + v) 0 ≤ t + 1
-    pub lost : (v : ℕ) → v < w → (u : ℕ) → u < v → getD entry (stepAt at t + u) 0 + 1 ≤ getD table (stepAt at (t + 1) + v) 0
+    pub lost : (v : ℕ) → v < w → (u : ℕ) → u < v
+        → getD entry (stepAt at t + u) 0 + 1 ≤ getD table (stepAt at (t + 1) + v) 0
     pub whole : (v : ℕ) → v < w → Reads l y heavy s (columnOf ahead (l .l2) t) (leftOf ahead size v)
         → getD entry (stepAt at t + v) 0 + readApart l y heavy z s (columnOf ahead (l .l2) t) (leftOf ahead size v)
         ≤ getD table (stepAt at (t + 1) + v) 0
@@ -83,8 +87,9 @@ module _ (l : Layout) (y : List ℕ) (heavy : Heavy) (z : List ℕ) (s size : �
         whole = λ v h. absurd (omega arith);
       }
 
-  -- one entry more: e is that of the step before, a says whether the chunk as read is another, and new and more are the greater ones
-  pub stepping-next : (table : List ℕ) (most w a new more : ℕ) → size < lefts → stepAt at (t + 2) ≤ length table → w ≤ size
+  -- one entry more: a says whether the chunk as read is another, and new and more are the greater ones
+  pub stepping-next : (table : List ℕ) (most w a new more : ℕ) → size < lefts → stepAt at (t + 2) ≤ length table
+      → w ≤ size
       → Stepping table most w → getD entry (stepAt at t + w) 0 ≤ t → a ≤ 1
       → (Reads l y heavy s (columnOf ahead (l .l2) t) (leftOf ahead size w)
       → readApart l y heavy z s (columnOf ahead (l .l2) t) (leftOf ahead size w) ≤ a)
@@ -103,7 +108,8 @@ module _ (l : Layout) (y : List ℕ) (heavy : Heavy) (z : List ℕ) (s size : �
         low = below-more _ _ (λ v k. rw (other v k) (c .low v k)) (rw same (up .1 (t + 1) (c .few) (omega arith)));
         lost = below-more _ _ (λ v k u r. rw (other v k) (c .lost v k u r))
             (λ u r. rw same (omega (arith, c .above u r, up .0 .0)));
-        whole = below-more _ _ (λ v k r. rw (other v k) (c .whole v k r)) (λ r. rw same (omega (arith, reads r, up .0 .1)));
+        whole = below-more _ _ (λ v k r. rw (other v k) (c .whole v k r))
+            (λ r. rw same (omega (arith, reads r, up .0 .1)));
       }
     where
       place : ℕ
@@ -112,7 +118,8 @@ module _ (l : Layout) (y : List ℕ) (heavy : Heavy) (z : List ℕ) (s size : �
       same : getD (set table place new) place 0 ≡ new
       same = getD-set-same table place new 0 (omega (arith, small))
 
-      other : (v : ℕ) → v < w → getD (set table place new) (stepAt at (t + 1) + v) 0 ≡ getD table (stepAt at (t + 1) + v) 0
+      other : (v : ℕ) → v < w
+          → getD (set table place new) (stepAt at (t + 1) + v) 0 ≡ getD table (stepAt at (t + 1) + v) 0
       other v k = getD-set-other table place (stepAt at (t + 1) + v) new 0 (λ e. omega arith)
 
   pub stepping-last : (table : List ℕ) (most w : ℕ) → size < w → Stepping table most w

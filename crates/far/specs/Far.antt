@@ -1,5 +1,6 @@
--- In how many chunks of a heavy block a row can differ from another one, z, as its losses are shared among its columns. The block's
--- columns are walked ahead, counting the losses used, or back, counting the losses left: so what is counted only rises.
+-- In how many chunks of a heavy block a row can differ from another one, z, as its losses are shared among its
+-- columns. The block's columns are walked ahead, counting the losses used, or back, counting the losses left: so what is
+-- counted only rises.
 use Prim.Native.Nat.{ℕ, _+_, _-_, _*_, _<_, _≤_}
 use mathlib.Core.Path.{_≡_}
 use mathlib.Core.Bool.{Bool, true, cond}
@@ -48,14 +49,16 @@ pub record Asked (l : Layout) (y : List ℕ) (heavy : Heavy) (z : List ℕ) (s s
   pub others : l .l1 * l .l2 ≤ length z
   pub small : size < lefts
 
--- a row walks the columns of heavy block s: after t steps it has counted w t losses, of size in all, and n t chunks at most are
--- others than in z; a chunk that loses a bit can be another, one that does not is as it is read
-pub record Walk (l : Layout) (y : List ℕ) (heavy : Heavy) (z : List ℕ) (s size : ℕ) (ahead : Bool) (w n : ℕ → ℕ) : Type 0 where
+-- a row walks the columns of heavy block s: after t steps it has counted w t losses, of size in all, and n t chunks at
+-- most are others than in z; a chunk that loses a bit can be another, one that does not is as it is read
+pub record Walk (l : Layout) (y : List ℕ) (heavy : Heavy) (z : List ℕ) (s size : ℕ) (ahead : Bool) (w n : ℕ → ℕ)
+    : Type 0 where
   pub starts : n 0 ≡ 0
   pub within : (t : ℕ) → t ≤ l .l2 → w t ≤ size
   pub rises : (t : ℕ) → t < l .l2 → w t ≤ w (t + 1)
   pub more : (t : ℕ) → t < l .l2 → n (t + 1) ≤ n t + 1
-  pub reads : (t : ℕ) → t < l .l2 → w (t + 1) ≡ w t → Reads l y heavy s (columnOf ahead (l .l2) t) (leftOf ahead size (w t))
+  pub reads : (t : ℕ) → t < l .l2 → w (t + 1) ≡ w t
+      → Reads l y heavy s (columnOf ahead (l .l2) t) (leftOf ahead size (w t))
   pub same : (t : ℕ) → t < l .l2 → w (t + 1) ≡ w t
       → n (t + 1) ≤ n t + readApart l y heavy z s (columnOf ahead (l .l2) t) (leftOf ahead size (w t))
 
@@ -64,13 +67,14 @@ abbrev pub stepAt : (at t : ℕ) → ℕ
 stepAt at t = at + t * lefts
 
 -- entries of the first t steps of all walks: each is at least what a walk counts there
-abbrev pub Covered : Layout → (y : List ℕ) → Heavy → (z : List ℕ) → (s size : ℕ) (ahead : Bool) (at t : ℕ) (table : List ℕ) → Type 0
+abbrev pub Covered : Layout → (y : List ℕ) → Heavy → (z : List ℕ) → (s size : ℕ) (ahead : Bool) (at t : ℕ)
+    (table : List ℕ) → Type 0
 Covered l y heavy z s size ahead at t table =
     (w n : ℕ → ℕ) → Walk l y heavy z s size ahead w n → (i : ℕ) → i ≤ t → n i ≤ getD table (stepAt at i + w i) 0
 
 -- the entries of step t + 1 are made of those of step t; nothing before them is changed
-pub record Stepped (l : Layout) (y : List ℕ) (heavy : Heavy) (z : List ℕ) (s size : ℕ) (ahead : Bool) (at t : ℕ) (entry exit : List ℕ)
-    : Type 0 where
+pub record Stepped (l : Layout) (y : List ℕ) (heavy : Heavy) (z : List ℕ) (s size : ℕ) (ahead : Bool) (at t : ℕ)
+    (entry exit : List ℕ) : Type 0 where
   pub long : length exit ≡ length entry
   pub before : (i : ℕ) → i < stepAt at (t + 1) → getD exit i 0 ≡ getD entry i 0
   pub low : (w : ℕ) → w ≤ size → getD exit (stepAt at (t + 1) + w) 0 ≤ t + 1
@@ -80,8 +84,8 @@ pub record Stepped (l : Layout) (y : List ℕ) (heavy : Heavy) (z : List ℕ) (s
       ≤ getD exit (stepAt at (t + 1) + w) 0
 
 -- a table of all steps of heavy block s, from a place on; nothing before it is changed
-pub record Swept (l : Layout) (y : List ℕ) (heavy : Heavy) (z : List ℕ) (s size : ℕ) (ahead : Bool) (at : ℕ) (entry exit : List ℕ)
-    : Type 0 where
+pub record Swept (l : Layout) (y : List ℕ) (heavy : Heavy) (z : List ℕ) (s size : ℕ) (ahead : Bool) (at : ℕ)
+    (entry exit : List ℕ) : Type 0 where
   pub long : length exit ≡ length entry
   pub before : (i : ℕ) → i < at → getD exit i 0 ≡ getD entry i 0
   pub covered : Covered l y heavy z s size ahead at (l .l2) exit

@@ -1,12 +1,13 @@
-// In how many chunks of a heavy block a row can differ from another one, as its losses are shared among its columns. Contracts cite
-// specs/Far.antt.
+// In how many chunks of a heavy block a row can differ from another one, as its losses are shared among its columns.
+// Contracts cite specs/Far.antt.
 use column::Heavy;
 use message::Layout;
 ghost use mathlib.Core.Path.{_≡_};
 ghost use Prim.Native.Nat.{ℕ, _+_, _*_, _<_, _≤_};
 ghost use lib.ListN.{length, getD};
 ghost use Rattle.column.specs.Column.{Fit};
-ghost use Rattle.far.specs.Far.{lefts, columnOf, leftOf, Reads, readApart, Asked, stepAt, Stepped, Swept, Covered, blockAt};
+ghost use Rattle.far.specs.Far.{lefts, columnOf, leftOf, Reads, readApart, Asked};
+ghost use Rattle.far.specs.Far.{stepAt, Stepped, Swept, Covered, blockAt};
 
 // The numbers of losses that are told apart, none to twelve.
 pub const LEFTS: usize = 13;
@@ -23,7 +24,8 @@ fn read_apart(
     e: usize,
 ) -> u8
     requires { ⌜ Asked l (now y) heavy (now z) s size × ((j < l .l2) × (e ≤ size)) ⌝ }
-    ensures { λ r. ⌜ (r ≤ 1) × (Reads l (now (y .entry)) heavy s j e → readApart l (now (y .entry)) heavy (now (z .entry)) s j e ≤ r) ⌝ }
+    ensures { λ r. ⌜ (r ≤ 1) × (Reads l (now (y .entry)) heavy s j e
+        → readApart l (now (y .entry)) heavy (now (z .entry)) s j e ≤ r) ⌝ }
 {
     let c = bits::wide(heavy.block[s]) * l.l2 + j;
     let from = c * l.nc + e;
@@ -73,7 +75,8 @@ fn higher(a: u8, b: u8) -> u8
     a
 }
 
-// The entries of step t + 1: as many as those of step t where the chunk is read, and one more than those with fewer losses counted.
+// The entries of step t + 1: as many as those of step t where the chunk is read, and one more than those with fewer
+// losses counted.
 fn next_step(
     l: Layout,
     y: &[u8],
@@ -88,7 +91,8 @@ fn next_step(
 )
     requires { ⌜ Asked l (now y) heavy (now z) s size × ((t < l .l2) × ((stepAt at (t + 2) ≤ length (now table))
         × ((w : ℕ) → w ≤ size → getD (now table) (stepAt at t + w) 0 ≤ t))) ⌝ }
-    ensures { λ _. ⌜ Stepped l (now (y .entry)) heavy (now (z .entry)) s size ahead at t (now (table .entry)) (now (table .exit)) ⌝ }
+    ensures { λ _. ⌜ Stepped l (now (y .entry)) heavy (now (z .entry)) s size ahead at t
+        (now (table .entry)) (now (table .exit)) ⌝ }
 {
     let from = at + t * LEFTS;
     let to = from + LEFTS;
@@ -130,7 +134,8 @@ fn sweep(
     table: &mut [u8],
 )
     requires { ⌜ Asked l (now y) heavy (now z) s size × (stepAt at (l .l2 + 1) ≤ length (now table)) ⌝ }
-    ensures { λ _. ⌜ Swept l (now (y .entry)) heavy (now (z .entry)) s size ahead at (now (table .entry)) (now (table .exit)) ⌝ }
+    ensures { λ _. ⌜ Swept l (now (y .entry)) heavy (now (z .entry)) s size ahead at
+        (now (table .entry)) (now (table .exit)) ⌝ }
 {
     first_step(size, at, table);
     let columns = l.l2;
@@ -155,7 +160,8 @@ pub fn fill(
     requires { ⌜ Fit l (now y) (now numbers) heavy × ((l .l1 * l .l2 ≤ length (now z))
         × (((s : ℕ) → s < heavy .n → getD size s 0 < lefts) × (blockAt (l .l2) (heavy .n) ≤ length (now table)))) ⌝ }
     ensures { λ _. ⌜ ((s : ℕ) → s < heavy .n
-        → Covered l (now (y .entry)) heavy (now (z .entry)) s (getD size s 0) ahead (blockAt (l .l2) s) (l .l2) (now (table .exit)))
+        → Covered l (now (y .entry)) heavy (now (z .entry)) s (getD size s 0) ahead (blockAt (l .l2) s) (l .l2)
+        (now (table .exit)))
         × (length (now (table .exit)) ≡ length (now (table .entry))) ⌝ }
 {
     let n = heavy.n;

@@ -1,5 +1,6 @@
--- A row walks the columns of each heavy block through its loss states; so what the tables say of a state it comes through is at least the
--- number of chunks in which it differs. Rests on greedy matching, by the crate column. Assumes nothing.
+-- A row walks the columns of each heavy block through its loss states; so what the tables say of a state it comes
+-- through is at least the number of chunks in which it differs. Rests on greedy matching, by the crate column.
+-- Assumes nothing.
 use Prim.Native.Nat.{ℕ, zero, suc, _+_, _-_, _*_, _<_, _≤_}
 use mathlib.Core.Path.{_≡_, refl, sym, ap, _∙_}
 use mathlib.Core.Bool.{Bool, true, false, cond}
@@ -81,7 +82,8 @@ module _ (l : Layout) (y numbers : List ℕ) (heavy : Heavy) (row : List ℕ) (s
   within s h t k = own-within l y numbers heavy row shape vs own kept path t k s (omega (arith, kept .blocks))
 
   -- ahead, counting the losses used
-  walks-ahead : (s : ℕ) → s < heavy .n → Walk l y heavy z s (size s) true (λ t. size s - own t s) (inBlock l heavy z vs s)
+  walks-ahead : (s : ℕ) → s < heavy .n
+      → Walk l y heavy z s (size s) true (λ t. size s - own t s) (inBlock l heavy z vs s)
   unfolding inBlock
   walks-ahead s h =
       record {
@@ -127,7 +129,8 @@ module _ (l : Layout) (y numbers : List ℕ) (heavy : Heavy) (row : List ℕ) (s
       to : (t : ℕ) → t < l .l2 → l .l2 - t ≡ l .l2 - 1 - t + 1
       to t k = omega arith
 
-      left-is : (t : ℕ) → t < l .l2 → own (l .l2 - (t + 1)) s ≡ own (l .l2 - t) s → own (l .l2 - t) s ≡ own (l .l2 - 1 - t) s
+      left-is : (t : ℕ) → t < l .l2 → own (l .l2 - (t + 1)) s ≡ own (l .l2 - t) s
+          → own (l .l2 - t) s ≡ own (l .l2 - 1 - t) s
       left-is t k e = sym e ∙ ap (λ (v : ℕ). own v s) (from t k)
 
       stays : (t : ℕ) → t < l .l2 → own (l .l2 - (t + 1)) s ≡ own (l .l2 - t) s
@@ -135,7 +138,8 @@ module _ (l : Layout) (y numbers : List ℕ) (heavy : Heavy) (row : List ℕ) (s
       stays t k e = ap (λ (v : ℕ). own v s) (sym (to t k)) ∙ left-is t k e
 
   -- what the tables say of a state that the row comes through is at least the number of chunks in which it differs
-  module _ (before after : List ℕ) (counted : Counted l y heavy z (shape .size) before after) (j : ℕ) (inside : j ≤ l .l2) where
+  module _ (before after : List ℕ) (counted : Counted l y heavy z (shape .size) before after) (j : ℕ)
+      (inside : j ≤ l .l2) where
     most-block : (s : ℕ) → s < heavy .n
         → inBlock l heavy z vs s (l .l2) ≤ mostIn (l .l2) before after s (size s) (own j s) j
     most-block s h =

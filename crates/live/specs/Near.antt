@@ -1,4 +1,5 @@
--- In how many chunks of the heavy blocks a row that comes through a loss state can differ from another one at most, block by block.
+-- In how many chunks of the heavy blocks a row that comes through a loss state can differ from another one at most,
+-- block by block.
 use Prim.Native.Nat.{ℕ, zero, suc, _+_, _-_, _*_, _<_, _≤_}
 use mathlib.Core.Path.{_≡_}
 use mathlib.Core.Bool.{true, false}
@@ -28,7 +29,8 @@ pub record Sized (columns : ℕ) (shape : Shape) (before after : List ℕ) : Typ
 -- what the tables say of block s, which has so many losses, where at column j so many are left
 abbrev pub mostIn : (columns : ℕ) (before after : List ℕ) (s size left j : ℕ) → ℕ
 mostIn columns before after s size left j =
-    getD before (stepAt (blockAt columns s) j + (size - left)) 0 + getD after (stepAt (blockAt columns s) (columns - j) + left) 0
+    getD before (stepAt (blockAt columns s) j + (size - left)) 0
+    + getD after (stepAt (blockAt columns s) (columns - j) + left) 0
 
 -- and of the first n blocks together
 unfoldable pub most : (columns : ℕ) (before after : List ℕ) (size left : ℕ → ℕ) (j n : ℕ) → ℕ

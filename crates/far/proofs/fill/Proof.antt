@@ -1,5 +1,5 @@
--- `far::fill` meets its contract. The loop's invariant: the tables of the blocks passed cover every walk. The measure is what is left
--- of the blocks. Assumes nothing.
+-- `far::fill` meets its contract. The loop's invariant: the tables of the blocks passed cover every walk. The measure
+-- is what is left of the blocks. Assumes nothing.
 use Prim.Native.Nat.{ℕ, _+_, _-_, _*_, _<_, _≤_}
 use mathlib.Core.Path.{_≡_, refl, _∙_}
 use native.Mathlib.Nat.{mul-le-mul-right}

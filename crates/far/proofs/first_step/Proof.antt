@@ -1,5 +1,5 @@
--- `far::first_step` meets its contract. The loop's invariant: the entries passed are cleared, and what comes before them is unchanged.
--- The measure is what is left of the entries. Assumes nothing.
+-- `far::first_step` meets its contract. The loop's invariant: the entries passed are cleared, and what comes before
+-- them is unchanged. The measure is what is left of the entries. Assumes nothing.
 use Prim.Native.Nat.{ℕ, _+_, _-_, _<_, _≤_}
 use mathlib.Core.Path.{_≡_, refl, _∙_}
 use native.Mathlib.Omega.{arith}

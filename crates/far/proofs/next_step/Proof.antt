@@ -1,5 +1,6 @@
--- `far::next_step` meets its contract. The loop's invariant: the entries passed are those of the next step, one more than each entry
--- passed is at most the count kept, and what comes before them is unchanged. The measure is what is left of the entries. Assumes nothing.
+-- `far::next_step` meets its contract. The loop's invariant: the entries passed are those of the next step, one more
+-- than each entry passed is at most the count kept, and what comes before them is unchanged. The measure is what is
+-- left of the entries. Assumes nothing.
 use Prim.Native.Nat.{ℕ, _+_, _-_, _*_, _<_, _≤_}
 use mathlib.Core.Path.{_≡_, refl, _∙_}
 use mathlib.Core.List.{List}
@@ -13,7 +14,8 @@ use Rattle.far.proofs.next_step.Statement.{statement}
 use Rattle.far.proofs.next_step.Tie as tie
 
 abbrev Inv-loop : tie.InvT-loop
-Inv-loop l y heavy z s size ahead t at table₀ from to most₀ w₀ table most w = Stepping l y heavy z s size ahead at t table₀ table most w
+Inv-loop l y heavy z s size ahead t at table₀ from to most₀ w₀ table most w =
+    Stepping l y heavy z s size ahead at t table₀ table most w
 
 abbrev μ-loop : tie.MeasureT-loop
 μ-loop l y heavy z s size ahead t at table₀ from to most₀ w₀ table most w = size + 1 - w
@@ -85,7 +87,8 @@ loop-again c =
     let p = d .before .before .before in
     let s = p .before .before .before .before in
     let k = here-is d in
-    let next : stepAt (s .args .at) (s .args .t + 1) + p .loop .w ≡ s .args .at + s .args .t * 13 + 13 + p .loop .w = omega arith in
+    let next : stepAt (s .args .at) (s .args .t + 1) + p .loop .w
+    ≡ s .args .at + s .args .t * 13 + 13 + p .loop .w = omega arith in
     rw (← next)
     (stepping-next _ _ _ _ _ _ _ _ _ _ (p .loop .table) (p .loop .most) (p .loop .w) (d .step-apart .result) _ _ (s .pre .0 .small)
     (omega (arith, s .pre .1 .1 .0, p .loop .inv .long)) (d .before .before .loop-test .taken) (p .loop .inv) (k .1 .0)

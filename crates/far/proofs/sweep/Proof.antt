@@ -1,5 +1,5 @@
--- `far::sweep` meets its contract. The loop's invariant: the entries of the steps passed cover every walk. The measure is what is
--- left of the steps. Assumes nothing.
+-- `far::sweep` meets its contract. The loop's invariant: the entries of the steps passed cover every walk. The
+-- measure is what is left of the steps. Assumes nothing.
 use Prim.Native.Nat.{ℕ, _+_, _-_, _*_, _<_, _≤_}
 use mathlib.Core.Path.{_≡_, refl, _∙_}
 use native.Mathlib.Nat.{mul-le-mul-right}

@@ -1,5 +1,5 @@
--- `live::few_losses` meets its contract. The loop's invariant: each block passed has few losses. The measure is what is left of the
--- blocks. Assumes nothing.
+-- `live::few_losses` meets its contract. The loop's invariant: each block passed has few losses. The measure is what
+-- is left of the blocks. Assumes nothing.
 use Prim.Native.Nat.{ℕ, _-_, _<_, _≤_}
 use mathlib.Core.Bool.{false≢true}
 use native.Mathlib.Omega.{arith}

@@ -1,5 +1,5 @@
--- `live::most_apart` meets its contract. The loop's invariant: the blocks passed are summed up. The measure is what is left of the
--- blocks. Assumes nothing.
+-- `live::most_apart` meets its contract. The loop's invariant: the blocks passed are summed up. The measure is what
+-- is left of the blocks. Assumes nothing.
 use Prim.Native.Nat.{ℕ, _+_, _-_, _*_, _<_, _≤_}
 use mathlib.Core.Path.{_≡_, refl, ap, _∙_}
 use native.Mathlib.Nat.{mul-le-mul-right}
