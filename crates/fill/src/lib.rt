@@ -19,7 +19,7 @@ ghost use Rattle.found.specs.Found.{Given, Sent, Holding, Grown};
 ghost use Rattle.cells.specs.Cells.{share, NoSingle, chunkOf, Open, Placed, Under};
 ghost use Rattle.contents.specs.Asks.{Small};
 ghost use Rattle.contents.specs.Contents.{Among};
-ghost use Rattle.recover.specs.Recover.{Collected};
+ghost use Rattle.recover.specs.Recover.{OpenInside, Collected};
 ghost use Rattle.fill.specs.Fill.{Asks, AllLose, With};
 
 // A number of a message as a number of any size.
@@ -179,6 +179,36 @@ fn add_recovered(
     found::add_row(l, y, numbers, whole, cap, list, kept)
 }
 
+// How many cells are open.
+fn open_cells(lost: [u8; 12]) -> usize
+    ensures { λ r. ⌜ r ≤ 12 ⌝ }
+{
+    let mut n: usize = 0;
+    let mut z: usize = 0;
+    while z < 12 {
+        if 0 < lost[z] {
+            n += 1;
+        }
+        z += 1;
+    }
+    n
+}
+
+// The open cells as erased chunks, or more of them than there are checks, where their places are not needed.
+fn few_erased(l: Layout, cells: Cells) -> Erased
+    requires { ⌜ ((legal l ≡ true) × OpenInside l cells) ⌝ }
+    ensures { λ r. ⌜ (r .n ≤ l .r → Collected l cells 12 (r .n) (r .places)) ⌝ }
+{
+    let lost = cells.lost;
+    if l.r < open_cells(lost) {
+        return Erased {
+            n: l.r + 1,
+            places: [0; 12],
+        };
+    }
+    recover::collect(l, cells)
+}
+
 // The rows in which cell z, which is open, has the content v.
 fn try_content(
     l: Layout,
@@ -254,7 +284,7 @@ fn try_contents(
     if z == 12 {
         return found::add_row(l, y, numbers, row, cap, list, kept);
     }
-    let erased = recover::collect(l, cells);
+    let erased = few_erased(l, cells);
     if erased.n <= l.r {
         return add_recovered(l, y, numbers, cells, erased, row, cap, list, kept);
     }

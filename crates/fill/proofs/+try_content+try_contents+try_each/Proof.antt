@@ -31,7 +31,7 @@ use Rattle.fill.proofs.list_contents.Reads as list-contents-reads
 use Rattle.fill.proofs.choose.Reads as choose-reads
 use Rattle.found.proofs.add_row.Reads as add-row-reads
 use Rattle.recover.proofs.chunk_of.Reads as chunk-of-reads
-use Rattle.recover.proofs.collect.Reads as collect-reads
+use Rattle.fill.proofs.few_erased.Reads as few-erased-reads
 use Rattle.fill.proofs.+try_content+try_contents+try_each.{statement}
 use Rattle.fill.proofs.+try_content+try_contents+try_each.Tie.{close}
 
@@ -86,8 +86,8 @@ try-contents-claims t = (
   choose-reads.Learnt,
   add-row-reads.Asked,
   add-row-reads.Learnt,
-  collect-reads.Asked,
-  collect-reads.Learnt,
+  few-erased-reads.Asked,
+  few-erased-reads.Learnt,
   add-recovered-reads.Asked,
   add-recovered-reads.Learnt,
   try-each-below t,
@@ -173,9 +173,9 @@ try-contents-returns t c =
     grown-weaken (λ x r u. none-open (s .pre .1 .0) r u (o .before .choose .ensures .1 .1 (o .if1 .taken)))
     (c .before .before .add-row .ensures)
 
-try-contents-collect-requires : (t : ℕ)
-    → try-contents-lts.Need-collect-requires (try-contents-claims t) (try-contents-at t) try-contents.Post
-try-contents-collect-requires t c κs =
+try-contents-few-erased-requires : (t : ℕ)
+    → try-contents-lts.Need-few-erased-requires (try-contents-claims t) (try-contents-at t) try-contents.Post
+try-contents-few-erased-requires t c κs =
     let s = c .before .before .before .before .before in
     (s .pre .1 .0 .is-legal, λ z o. let q = s .pre .1 .1 .1 z o in (q .0, q .1 .0))
 
@@ -184,7 +184,7 @@ try-contents-add-recovered-requires : (t : ℕ)
 try-contents-add-recovered-requires t c κs =
     let k = c .before .before .before .before in
     let s = k .before .before .before .before .before .before in
-    (s .pre .1 .0, (s .pre .1 .1 .0, (s .pre .1 .1 .1, (k .collect .ensures, c .before .if2 .taken))))
+    (s .pre .1 .0, (s .pre .1 .1 .0, (s .pre .1 .1 .1, (k .few-erased .ensures (c .before .if2 .taken), c .before .if2 .taken))))
 
 try-contents-same-length-2 : (t : ℕ)
     → try-contents-lts.Need-same-length-2 (try-contents-claims t) (try-contents-at t) try-contents.Post
@@ -297,7 +297,7 @@ pub +try-content+try-contents+try-each-spec : {M : Type 1} → statement M
     (try-contents-add-row-requires t)
     (try-contents-same-length t)
     (try-contents-returns t)
-    (try-contents-collect-requires t)
+    (try-contents-few-erased-requires t)
     (try-contents-add-recovered-requires t)
     (try-contents-same-length-2 t)
     (try-contents-returns-2 t)

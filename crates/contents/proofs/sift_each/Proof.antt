@@ -1,4 +1,4 @@
--- `contents::sift` meets its contract. The loop's invariant: the entries passed are sifted. Assumes nothing.
+-- `contents::sift_each` meets its contract. The loop's invariant: the entries passed are sifted. Assumes nothing.
 use borrow.Author.Needs.{needs}
 use Prim.Native.Nat.{ℕ, _+_, _-_, _%_, _<_, _≤_}
 use mathlib.Core.Path.{ap, _∙_}
@@ -6,8 +6,8 @@ use mathlib.Core.Logic.{⊎-elim}
 use native.Mathlib.Omega.{arith}
 use lib.ListN.{length}
 use Rattle.contents.proofs.Sifted.{Sifted, sifted-none, sifted-kept, sifted-left}
-use Rattle.contents.proofs.sift.Statement.{statement}
-use Rattle.contents.proofs.sift.Tie as tie
+use Rattle.contents.proofs.sift_each.Statement.{statement}
+use Rattle.contents.proofs.sift_each.Tie as tie
 
 abbrev Inv-loop : tie.InvT-loop
 Inv-loop nc a out₀ n k₀ i₀ out k i = (i ≤ n) × Sifted nc a out₀ i out k
@@ -70,8 +70,8 @@ returns c =
     let v = c .before .loop in
     (omega (arith, v .inv .1 .few), λ w m h. v .inv .1 .all w (m .0, (m .1 .0, (omega (arith, m .1 .1 .0), m .1 .1 .1))) h)
 
-pub sift-spec : {M : Type 1} → statement M
-sift-spec =
+pub sift-each-spec : {M : Type 1} → statement M
+sift-each-spec =
     tie.close
     (tie.spec
     Inv-loop

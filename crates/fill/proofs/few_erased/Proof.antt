@@ -1,0 +1,24 @@
+-- `fill::few_erased` meets its contract: one more than there are checks is not as few. Assumes nothing.
+use native.Mathlib.Omega.{arith}
+use borrow.Author.Needs.{needs}
+use Rattle.fill.proofs.few_erased.Statement.{statement}
+use Rattle.fill.proofs.few_erased.Tie as tie
+
+open-cells-requires : tie.Need-open-cells-requires
+open-cells-requires c κs = search needs
+
+add-t6 : tie.Need-add-t6
+add-t6 c = search needs
+
+returns : tie.Need-returns
+returns c few = absurd (omega (arith, few))
+
+collect-requires : tie.Need-collect-requires
+collect-requires c κs = search needs
+
+returns-2 : tie.Need-returns-2
+returns-2 c = search needs
+
+pub few-erased-spec : {M : Type 1} → statement M
+few-erased-spec =
+    tie.close (tie.spec open-cells-requires add-t6 returns collect-requires returns-2)
