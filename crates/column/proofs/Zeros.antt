@@ -29,7 +29,7 @@ set-zero (x ∷ xs) zero = refl
 set-zero (x ∷ xs) (suc c) = set-zero xs c
 
 -- the sum of a line is its total, modulo its length and one
-line-sum : (nc start stride count : ℕ) (us : List ℕ)
+pub line-sum : (nc start stride count : ℕ) (us : List ℕ)
     → sum (line nc start stride count us) ≡ total 1 (line nc start stride count us) % (count * nc + 1)
 unfolding sum
 line-sum nc start stride count us =

@@ -150,7 +150,7 @@ fn find_chunks(
 }
 
 // What is still to be brought to a sum, modulo the modulus, where a part of it is there.
-fn missing(whole: usize, part: usize, modulus: usize) -> usize
+pub fn missing(whole: usize, part: usize, modulus: usize) -> usize
     requires { ⌜ (whole < modulus) × (modulus ≤ longest + 1) ⌝ }
     ensures { λ r. ⌜ (r < modulus) × ((b : ℕ) → part < modulus → (part + b) % modulus ≡ whole → b % modulus ≡ r) ⌝ }
 {

@@ -7,3 +7,4 @@ pub mod Coming
 pub mod Going
 pub mod Own
 pub mod Light
+pub mod Ending

@@ -9,7 +9,7 @@ ghost use Rattle.rows.specs.Slice.{rowsIn};
 ghost use Rattle.message.specs.Layout.{legal, rowBits};
 ghost use Rattle.windows.specs.Windows.{Tables};
 ghost use Rattle.lines.specs.Lines.{unlike};
-ghost use Rattle.found.specs.Found.{Given, Holding, Grown};
+ghost use Rattle.found.specs.Found.{Given, Sent, Holding, Grown};
 ghost use Rattle.anchor.specs.Anchor.{over};
 ghost use Rattle.cells.specs.Cells.{NoSingle, Placed};
 ghost use Rattle.states.specs.States.{each};
@@ -207,6 +207,74 @@ fn step(l: Layout, y: &[u8], heavy: Heavy, j: usize, next: [u8; 6], t: Table) ->
         h += 1;
     }
     r
+}
+
+// Whether heavy block h can have its sum after column j, where its losses ended there: it had some left before. Otherwise nothing is asked.
+fn ends(
+    l: Layout,
+    y: &[u8],
+    totals: &[u32],
+    counts: &[u16],
+    numbers: &[u16],
+    heavy: Heavy,
+    j: usize,
+    h: usize,
+    before: u8,
+    t: Table,
+) -> bool
+    requires { ⌜ Given l (now numbers) (now y) × (Tables (now y) 0 (now totals) (now counts)
+        × (Sound l (length (now y)) heavy t × ((j < l .l2) × (h < heavy .n)))) ⌝ }
+    ensures { λ r. ⌜ ((x : List ℕ) → Sent l (now (numbers .entry)) (now (y .entry)) x → Under l (now (y .entry)) heavy (j + 1) 0 t x
+        → r ≡ true) ⌝ }
+{
+    if before == 0 {
+        return true;
+    }
+    if 0 < t.left[h] {
+        return true;
+    }
+    let cells = t.cells;
+    let row = t.row;
+    blocks::can_end(
+        l,
+        y,
+        totals,
+        counts,
+        numbers,
+        cells,
+        row,
+        bits::wide(heavy.block[h]),
+        heavy.end[h],
+        j + 1,
+    )
+}
+
+// Whether all heavy blocks whose losses ended in column j can have their sums; before it they had so much left.
+fn all_end(
+    l: Layout,
+    y: &[u8],
+    totals: &[u32],
+    counts: &[u16],
+    numbers: &[u16],
+    heavy: Heavy,
+    j: usize,
+    before: [u8; 6],
+    t: Table,
+) -> bool
+    requires { ⌜ Given l (now numbers) (now y) × (Tables (now y) 0 (now totals) (now counts)
+        × (Sound l (length (now y)) heavy t × (j < l .l2))) ⌝ }
+    ensures { λ r. ⌜ ((x : List ℕ) → Sent l (now (numbers .entry)) (now (y .entry)) x → Under l (now (y .entry)) heavy (j + 1) 0 t x
+        → r ≡ true) ⌝ }
+{
+    let n = heavy.n;
+    let mut h: usize = 0;
+    while h < n {
+        if !ends(l, y, totals, counts, numbers, heavy, j, h, before[h], t) {
+            return false;
+        }
+        h += 1;
+    }
+    true
 }
 
 // Whether a state with this mark can hold a row that is not known: one comes through it, and it can differ from z in room
@@ -435,6 +503,10 @@ fn losses_to(
     if !s.ok {
         return kept;
     }
+    let table = s.table;
+    if !all_end(l, y, totals, counts, numbers, heavy, j, left, table) {
+        return kept;
+    }
     columns(
         l,
         y,
@@ -448,7 +520,7 @@ fn losses_to(
         z,
         room,
         j + 1,
-        s.table,
+        table,
         apart,
         cap,
         list,

@@ -36,6 +36,7 @@ use Rattle.column.proofs.crossing.Reads as crossing-reads
 use Rattle.live.proofs.mark_at.Reads as mark-at-reads
 use Rattle.states.proofs.losses_left.Reads as losses-left-reads
 use Rattle.states.proofs.number_of.Reads as number-of-reads
+use Rattle.tables.proofs.all_end.Reads as all-end-reads
 use Rattle.tables.proofs.hopeful.Reads as hopeful-reads
 use Rattle.tables.proofs.mend_table.Reads as mend-table-reads
 use Rattle.tables.proofs.step.Reads as step-reads
@@ -115,6 +116,8 @@ losses-to-claims t = (
   hopeful-reads.Learnt,
   step-reads.Asked,
   step-reads.Learnt,
+  all-end-reads.Asked,
+  all-end-reads.Learnt,
   columns-below t,
   columns.Post,
 )
@@ -563,17 +566,36 @@ losses-to-returns-3 t c =
     (λ x sent u.
     false≢true (sym (not-true _ (c .if3 .taken)) ∙ q .step .ensures .under x (sent .0) (u .0 .0) (own-next t n x u) .0))
 
+losses-to-all-end-requires : (t : ℕ)
+    → losses-to-lts.Need-all-end-requires (losses-to-claims t) (losses-to-at t) losses-to.Post
+losses-to-all-end-requires t c κs =
+    let q = c .before .before .before in
+    let p = begin t (q .before .before .before .before .before .before) .pre .1 .0 in
+    (p .0, (p .1 .1 .1 .1 .1 .0 .tables, (q .step .ensures .sound, p .1 .1 .1 .0)))
+
+losses-to-returns-4 : (t : ℕ)
+    → losses-to-lts.Need-returns-4 (losses-to-claims t) (losses-to-at t) losses-to.Post
+losses-to-returns-4 t c =
+    let e = c .before in
+    let q = e .before .before .before .before in
+    let n = q .before .before .before .before .before .before in
+    let p = begin t n .pre .1 .0 in
+    grown-nothing (p .1 .0)
+    (λ x sent u.
+    let under = q .step .ensures .under x (sent .0) (u .0 .0) (own-next t n x u) .1 in
+    false≢true (sym (not-true _ (c .if4 .taken)) ∙ e .all-end .ensures x sent under))
+
 losses-to-add-columns : (t : ℕ)
     → losses-to-lts.Need-add-columns (losses-to-claims t) (losses-to-at t) losses-to.Post
 losses-to-add-columns t c =
-    let s = begin t (c .before .before .before .before .before .before .before .before) in
+    let s = begin t (c .before .before .before .before .before .before .before .before .before .before .before) in
     let size = sizes (s .args .l) (legal-bounds (s .args .l) (s .pre .1 .0 .0 .is-legal)) in
     omega (arith, size .l2-high, s .pre .1 .0 .1 .1 .1 .0)
 
 losses-to-columns-requires : (t : ℕ)
     → losses-to-lts.Need-columns-requires (losses-to-claims t) (losses-to-at t) losses-to.Post
 losses-to-columns-requires t c κs =
-    let e = c .before in
+    let e = c .before .before .before .before in
     let q = e .before .before in
     let w = q .before .before .before in
     let f = w .before .before in
@@ -596,11 +618,11 @@ losses-to-same-length : (t : ℕ)
     → losses-to-lts.Need-same-length (losses-to-claims t) (losses-to-at t) losses-to.Post
 losses-to-same-length t c = search needs
 
-losses-to-returns-4 : (t : ℕ)
-    → losses-to-lts.Need-returns-4 (losses-to-claims t) (losses-to-at t) losses-to.Post
-losses-to-returns-4 t c =
+losses-to-returns-5 : (t : ℕ)
+    → losses-to-lts.Need-returns-5 (losses-to-claims t) (losses-to-at t) losses-to.Post
+losses-to-returns-5 t c =
     let d = c .before .before in
-    let q = d .before .before .before .before in
+    let q = d .before .before .before .before .before .before .before in
     let w = q .before .before .before in
     let f = w .before .before in
     let n = f .before in
@@ -666,7 +688,9 @@ pub +columns+losses-here+losses-to-spec : {M : Type 1} → statement M
     (losses-to-returns-2 t)
     (losses-to-step-requires t)
     (losses-to-returns-3 t)
+    (losses-to-all-end-requires t)
+    (losses-to-returns-4 t)
     (losses-to-add-columns t)
     (losses-to-columns-requires t)
     (losses-to-same-length t)
-    (losses-to-returns-4 t)
+    (losses-to-returns-5 t)

@@ -1,0 +1,115 @@
+-- `blocks::cut_cell` meets its contract. Rests on Cutting.antt. Assumes nothing.
+use borrow.Author.Needs.{needs}
+use Prim.Native.Nat.{ℕ, _+_, _-_, _*_, _<_, _≤_}
+use mathlib.Core.Path.{_≡_, refl, sym, ap, _∙_}
+use mathlib.Core.Bool.{true}
+use mathlib.Core.List.{List}
+use native.Mathlib.Omega.{arith}
+use borrow.Author.Tests.{not-true, not-false}
+use lib.ListN.{length, getD, set, length-set}
+use Rattle.column.proofs.Rows.{chunk-stands}
+use Rattle.blocks.specs.Blocks.{isIn}
+use Rattle.blocks.proofs.Cutting.{bare-in, bare-out, in-open, cut-skip, cut-next}
+use borrow.Author.Needs.{needs}
+use Rattle.blocks.proofs.cut_cell.Statement.{statement}
+use Rattle.blocks.proofs.cut_cell.Tie as tie
+
+-- a cell that is passed over, and the start of the function seen from there
+returns : tie.Need-returns
+returns c =
+    let a = c .before .before .before .before .args in
+    let out = sym (c .before .is-in .ensures) ∙ not-true (c .before .is-in .result) (c .if1 .taken) in (
+      refl,
+      λ e cut. (
+        cut-skip (a .l) (a .t3) (a .i) (a .y .now) (a .z) (a .cut) out cut,
+        λ vs was. was ∙ sym (bare-out (a .l) (a .t3) (a .i) (a .z) vs out),
+      ),
+    )
+
+is-in-requires : tie.Need-is-in-requires
+is-in-requires c κs = search needs
+
+element-copy-out-j : tie.Need-element-copy-out-j
+element-copy-out-j c = search needs
+
+mul-with-chunk : tie.Need-mul-with-chunk
+mul-with-chunk c = search needs
+
+element-copy-out-with-chunk : tie.Need-element-copy-out-with-chunk
+element-copy-out-with-chunk c = search needs
+
+element-copy-out-with-chunk-2 : tie.Need-element-copy-out-with-chunk-2
+element-copy-out-with-chunk-2 c = search needs
+
+with-chunk-requires : tie.Need-with-chunk-requires
+with-chunk-requires c κs = search needs
+
+-- where a cell is cut out: it is open in the block, and its chunk stands in the row
+abbrev begin : tie.After-with-chunk → tie.Start
+begin c = c .before .before .before .before .before .before .before .before
+
+is-in : (c : tie.After-with-chunk) → let a = begin c .args in isIn (a .t3) (a .i) (a .z) ≡ true
+is-in c =
+    let e = c .before .before .before .before .before in
+    sym (e .is-in .ensures) ∙ not-false (e .is-in .result) (c .before .before .before .before .if1 .left)
+
+stands : (c : tie.After-with-chunk) → let a = begin c .args in
+    (getD (a .t3 .column) (a .z) 0 < a .l .l2) × ((getD (a .t3 .place) (a .z) 0 ≤ length (a .y .now))
+    × (a .i * a .l .l2 + getD (a .t3 .column) (a .z) 0 < 255))
+stands c =
+    let s = begin c in
+    let a = s .args in
+    let o = in-open (a .l) (a .t3) (a .i) (a .z) (s .pre .1 .1 .0) (is-in c) in
+    let p = s .pre .1 .0 (a .z) (o .0) in
+    (p .1 .0, (p .1 .1, chunk-stands (a .l) (s .pre .0 .0) (a .i) (getD (a .t3 .column) (a .z) 0) (s .pre .0 .1) (p .1 .0) .1 .0))
+
+mul-row : tie.Need-mul-row
+mul-row c = record { fits = omega (arith, stands (c .before) .1 .1) }
+
+wide-requires : tie.Need-wide-requires
+wide-requires c κs = search needs
+
+add-row : tie.Need-add-row
+add-row c = record { fits = omega (arith, stands (c .before .before) .1 .1, c .wide .ensures) }
+
+slice-write-row : tie.Need-slice-write-row
+slice-write-row c =
+    omega (arith, stands (c .before .before) .1 .1, c .wide .ensures, begin (c .before .before) .pre .1 .1 .1)
+
+same-length : tie.Need-same-length
+same-length c = search needs
+
+returns-2 : tie.Need-returns-2
+returns-2 c =
+    let w = c .before .before in
+    let a = begin w .args in
+    let here = is-in w in
+    let j = getD (a .t3 .column) (a .z) 0 in
+    let at = ap (λ (k : ℕ). a .i * a .l .l2 + k) (c .wide .ensures) in (
+      length-set (a .row .now) (a .i * a .l .l2 + c .wide .result) 0,
+      λ e cut. (
+        cut-next (a .l) (a .t3) (a .i) (a .y .now) (a .z) (a .cut) (w .with-chunk .result) (begin w .pre .1 .1 .0) here
+            (stands w .0) (stands w .1 .0) (w .with-chunk .ensures e) cut,
+        λ vs was.
+            ap (λ (k : ℕ). set (a .row .now) k 0) at ∙ ap (λ (u : List ℕ). set u (a .i * a .l .l2 + j) 0) was
+            ∙ sym (bare-in (a .l) (a .t3) (a .i) (a .z) vs here),
+      ),
+    )
+
+pub cut-cell-spec : {M : Type 1} → statement M
+cut-cell-spec =
+    tie.close
+    (tie.spec
+    is-in-requires
+    returns
+    element-copy-out-j
+    mul-with-chunk
+    element-copy-out-with-chunk
+    element-copy-out-with-chunk-2
+    with-chunk-requires
+    mul-row
+    wide-requires
+    add-row
+    slice-write-row
+    same-length
+    returns-2)
