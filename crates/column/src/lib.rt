@@ -64,14 +64,14 @@ pub fn light_sums(
 }
 
 // A chunk that is matched against the received row: whether it can be, where its bits start, and how many it lost.
-struct Place {
-    ok: bool,
-    at: usize,
-    lost: u8,
+pub struct Place {
+    pub ok: bool,
+    pub at: usize,
+    pub lost: u8,
 }
 
 // The place of a chunk of nc bits in a received row of so many bits, from what is left at its start and after it.
-fn place_of(nc: usize, size: usize, from: usize, end: u8, left: u8, next: u8) -> Place
+pub fn place_of(nc: usize, size: usize, from: usize, end: u8, left: u8, next: u8) -> Place
     requires { ⌜ (nc ≤ 8) × ((size ≤ longest) × (from ≤ 4096)) ⌝ }
     ensures { λ r. ⌜ (Readable nc size from end left next → r .ok ≡ true)
         × (r .ok ≡ true → (r .at ≡ from - end) × ((r .lost ≡ left - next) × (r .at + nc ≤ size + r .lost))) ⌝ }
@@ -164,7 +164,7 @@ pub fn missing(whole: usize, part: usize, modulus: usize) -> usize
 }
 
 // One where a chunk can be another than the number v: where it lost bits, and where it is read so.
-fn other(nc: usize, y: &[u8], at: usize, lost: u8, v: u8) -> u8
+pub fn other(nc: usize, y: &[u8], at: usize, lost: u8, v: u8) -> u8
     requires { ⌜ (nc ≤ 8) × (AllBits (now y) × (at + nc ≤ length (now y) + lost)) ⌝ }
     ensures { λ r. ⌜ ((u : ℕ) → (lost ≡ 0 → u ≡ number nc (drop at (now (y .entry)))) → cond (eqb u v) 0 1 ≤ r)
         × (r ≤ 1) ⌝ }

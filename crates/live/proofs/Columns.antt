@@ -84,15 +84,13 @@ module _ (l : Layout) (y numbers : List ℕ) (heavy : Heavy) (known z : List ℕ
   pub remaking-starts : (fresh : List ℕ) → Remaking fresh 0
   remaking-starts fresh = record { gained = λ own w m other w' k. absurd (omega arith) }
 
-  pub remaking-next : Kept heavy shape → (digits : List ℕ) → Digits shape digits → (fresh more : List ℕ) (p states : ℕ)
-      → shape .states ≡ states
-      → SpreadBy l y numbers heavy known z digits j ahead p (getD marks (base + p) 0) marks at states fresh more
+  pub remaking-next : Kept heavy shape → (digits : List ℕ) → Digits shape digits → (fresh more : List ℕ) (p : ℕ)
+      → SpreadBy l y numbers heavy known z digits shape j ahead p (getD marks (base + p) 0) marks at fresh more
       → Remaking fresh p → Remaking more (p + 1)
-  remaking-next kept digits d fresh more p states e s r =
+  remaking-next kept digits d fresh more p s r =
       record {
-        gained = λ own w m. gained-next l y numbers heavy known z j ahead kept d marks base p at states fresh more
-            marks (sym e) s
-            own w m (r .gained own w m);
+        gained = λ own w m.
+            gained-next l y numbers heavy known z j ahead kept d marks base p at fresh more marks s own w m (r .gained own w m);
       }
 
 -- ---- the table of the losses left, for the states below q

@@ -14,10 +14,11 @@ use Rattle.message.specs.declared.Layout.{Layout}
 use Rattle.consistent.specs.Greedy.{losses}
 use Rattle.states.specs.States.{state, each}
 use Rattle.states.specs.declared.Shape.{Shape}
-use Rattle.states.proofs.States.{stride-pos, state-low, state-up}
+use Rattle.states.proofs.States.{stride-pos, state-low, state-up, digitsOf, state-of, digits-most}
 use Rattle.column.specs.Column.{Crosses, chunkAt}
 use Rattle.column.specs.declared.Heavy.{Heavy}
 use Rattle.live.specs.Live.{Covers}
+use Rattle.steps.specs.Steps.{Above}
 use Rattle.live.specs.Passes.{Within, numberOf, Digits, entryOf, Kept, Joined, Gains, SpreadBy, Gained, OneLess}
 
 -- a higher mark covers as much
@@ -27,6 +28,14 @@ covers-more a b n h c = (omega (arith, c .0), ⊎-elim (λ u. inl (omega arith))
 -- and a mark covers what is no more
 pub covers-less : (a m n : ℕ) → n ≤ m → Covers a m → Covers a n
 covers-less a m n h c = (c .0, ⊎-elim (λ u. inl (omega arith)) (λ u. inr u) (c .1))
+
+-- a mark that is above another one by so many chunks covers so many more
+pub above-covers : (there a mark n : ℕ) → Above there a mark → Covers there n → Covers mark (n + a)
+above-covers there a mark n u c =
+    ⊎-elim
+    (λ h. (omega (arith, c .0), ⊎-elim (λ k. inl (omega arith)) (λ k. inr (omega arith)) (c .1)))
+    (λ h. (omega arith, inr (omega arith)))
+    u
 
 -- a state with one loss less in block s, as a list of bytes has it
 pub one-less-set : (left : List ℕ) (next : ℕ → ℕ) (n s : ℕ) → s < length left → OneLess n (each left) next s
@@ -91,6 +100,15 @@ module _ {heavy : Heavy} {shape : Shape} (kept : Kept heavy shape) where
       → (s : ℕ) → s < heavy .n → own s ≡ entryOf table q s
   entry-is {table} d own w q e s h = rw (← e) (sym (d .entry own w s (omega (arith, kept .blocks))))
 
+  -- and no block has more left there than it has at most
+  pub entry-low : {table : List ℕ} → Digits shape table → (q : ℕ) → q < shape .states → (s : ℕ) → s < shape .n
+      → entryOf table q s ≤ each (shape .size) s
+  entry-low {table} d q low s h =
+      let size = each (shape .size) in
+      let most : Within shape (digitsOf size q) = λ t k. digits-most size q t in
+      let number = state-of size q (shape .n) (omega (arith, low, kept .shaped .all)) in
+      omega (arith, rw number at (d .entry (digitsOf size q) most s h), most s h)
+
   pub digits-are : {table : List ℕ} → Digits shape table → heavy .n ≤ 6 → (own : ℕ → ℕ) → Within shape own
       → (found : List ℕ) (q : ℕ) → numberOf shape own ≡ q → ((s : ℕ) → s < 6 → getD found s 0 ≡ entryOf table q s)
       → (s : ℕ) → s < heavy .n → own s ≡ each found s
@@ -114,12 +132,12 @@ module _ (l : Layout) (y numbers : List ℕ) (heavy : Heavy) (known z : List ℕ
 
   module _ {shape : Shape} (kept : Kept heavy shape) {table : List ℕ} (digits : Digits shape table) where
     -- one other state more
-    pub gained-next : (marks : List ℕ) (base p at states : ℕ) (entry exit column : List ℕ) → states ≡ shape .states
-        → SpreadBy l y numbers heavy known z table j ahead p (getD marks (base + p) 0) column at states entry exit
+    pub gained-next : (marks : List ℕ) (base p at : ℕ) (entry exit column : List ℕ)
+        → SpreadBy l y numbers heavy known z table shape j ahead p (getD marks (base + p) 0) column at entry exit
         → (own : ℕ → ℕ) → Within shape own → 0 < getD column (at + numberOf shape own) 0
         → Gained l y numbers heavy known z shape j ahead marks base p own (getD entry (numberOf shape own) 0)
         → Gained l y numbers heavy known z shape j ahead marks base (p + 1) own (getD exit (numberOf shape own) 0)
-    gained-next marks base p at states entry exit column all spread own w m before other w' h =
+    gained-next marks base p at entry exit column spread own w m before other w' h =
         go (ℕ-discrete (numberOf shape other) p)
       where
         go : Dec (numberOf shape other ≡ p)
@@ -127,12 +145,9 @@ module _ (l : Layout) (y numbers : List ℕ) (heavy : Heavy) (known z : List ℕ
             (numberOf shape own) 0)
         go (yes e) =
             λ vs n k c.
-            gains-same (entryOf table (numberOf shape own)) own (entryOf table p) other (getD marks (base + p) 0)
-            (getD exit (numberOf shape own) 0) (entry-is kept digits own w (numberOf shape own) refl) (entry-is kept
-            digits other w' p e)
-            (spread .gains (numberOf shape own) (omega (arith, number-low kept own w))
-            (λ a. omega (arith, number-up kept own other (k .forth a .falls)))
-            (λ a. omega (arith, number-up kept other own (k .back a .falls))) m)
+            gains-same own own (entryOf table p) other (getD marks (base + p) 0) (getD exit (numberOf shape own) 0) (λ t a. refl)
+            (entry-is kept digits other w' p e)
+            (spread .gains own w (λ a. omega (arith, number-up kept other own (k .back a .falls))) m)
             vs n k (rw e at c)
         go (no e) =
             gains-more own other (getD marks (base + numberOf shape other) 0) (getD entry (numberOf shape own) 0) _

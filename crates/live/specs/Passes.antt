@@ -89,13 +89,12 @@ pub record Spread (l : Layout) (y numbers : List ℕ) (heavy : Heavy) (known z d
 
 -- fresh marks are raised by the mark of the state with number p: those of all marked states of a column that a row can
 -- join with it
-pub record SpreadBy (l : Layout) (y numbers : List ℕ) (heavy : Heavy) (known z digits : List ℕ) (j : ℕ) (ahead : Bool)
-    (p there : ℕ)
-    (marks : List ℕ) (at states : ℕ) (entry exit : List ℕ) : Type 0 where
+pub record SpreadBy (l : Layout) (y numbers : List ℕ) (heavy : Heavy) (known z digits : List ℕ) (shape : Shape) (j : ℕ) (ahead : Bool)
+    (p there : ℕ) (marks : List ℕ) (at : ℕ) (entry exit : List ℕ) : Type 0 where
   pub long : length exit ≡ length entry
   pub grows : (q : ℕ) → getD entry q 0 ≤ getD exit q 0
-  pub gains : (q : ℕ) → q < states → (ahead ≡ true → q ≤ p) → (ahead ≡ false → p ≤ q) → 0 < getD marks (at + q) 0
-      → Gains l y numbers heavy known z j ahead (entryOf digits q) (entryOf digits p) there (getD exit q 0)
+  pub gains : (own : ℕ → ℕ) → Within shape own → (ahead ≡ false → p ≤ numberOf shape own) → 0 < getD marks (at + numberOf shape own) 0
+      → Gains l y numbers heavy known z j ahead own (entryOf digits p) there (getD exit (numberOf shape own) 0)
 
 -- the mark of the state own gains by the marks of the other states below number p, which stand at base
 abbrev pub Gained : Layout → (y numbers : List ℕ) → Heavy → (known z : List ℕ) → Shape → (j : ℕ) (ahead : Bool) (marks

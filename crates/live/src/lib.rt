@@ -15,12 +15,16 @@ ghost use Rattle.states.specs.States.{each, Shaped};
 ghost use Rattle.column.specs.Column.{Fit, Light, Crosses, apartIn};
 ghost use Rattle.live.specs.Live.{Path, apartBefore, apartFrom, Covers, Through};
 ghost use Rattle.live.specs.Passes.{Ready, Within, numberOf, PutAt, entryOf, Digits, Kept, Remade, Joined};
+ghost use Rattle.steps.specs.Steps.{Counts};
 ghost use Rattle.far.specs.Far.{lefts, blockAt};
 ghost use Rattle.live.specs.Near.{Counted, Sized, mostIn, most};
 ghost use Rattle.live.specs.Passes.{Gains, Spread, SpreadBy, Gained, Goes, OneLess, FirstMark, Pass};
 
 // The most loss states whose marks are kept.
 const MOST_STATES: usize = 729;
+
+// As many counts of marked states, one below each state and one of all.
+const MOST_COUNTS: usize = 730;
 
 // From here on a mark says nothing of a number.
 pub const MANY: u8 = 40;
@@ -137,56 +141,6 @@ fn between(
     )
 }
 
-// Crossing column j between two states, ahead from other to own and otherwise from own to other; as crossing says.
-fn crossed(
-    l: Layout,
-    y: &[u8],
-    totals: &[u32],
-    counts: &[u16],
-    numbers: &[u16],
-    heavy: Heavy,
-    known: &[u16],
-    z: &[u8],
-    j: usize,
-    ahead: bool,
-    own: [u8; states::MOST_HEAVY],
-    other: [u8; states::MOST_HEAVY],
-) -> u8
-    requires { ⌜ Ready l (now y) (now totals) (now counts) (now numbers) heavy (now known) (now z) × (j < l .l2) ⌝ }
-    ensures { λ r. ⌜ ((vs : List ℕ)
-        → Joined l (now (y .entry)) (now (numbers .entry)) heavy (now (known .entry)) j ahead (each own) (each other) vs
-        → apartIn l heavy (now (z .entry)) vs j (heavy .n) < r) ⌝ }
-{
-    if ahead {
-        return between(
-            l,
-            y,
-            totals,
-            counts,
-            numbers,
-            heavy,
-            known,
-            z,
-            j,
-            other,
-            own,
-        );
-    }
-    between(
-        l,
-        y,
-        totals,
-        counts,
-        numbers,
-        heavy,
-        known,
-        z,
-        j,
-        own,
-        other,
-    )
-}
-
 // A mark and what crossing a column answers together: the mark after crossing it.
 fn carried(mark: u8, cross: u8) -> u8
     ensures { λ r. ⌜ ((m a : ℕ) → Covers mark m → a < cross → Covers r (m + a)) ⌝ }
@@ -216,7 +170,6 @@ fn reached_by(
     z: &[u8],
     digits: &[u8],
     j: usize,
-    ahead: bool,
     other: [u8; states::MOST_HEAVY],
     there: u8,
     q: usize,
@@ -224,12 +177,12 @@ fn reached_by(
     requires { ⌜ Ready l (now y) (now totals) (now counts) (now numbers) heavy (now known) (now z) × ((j < l .l2)
         × (q * 6 + 6 ≤ length (now digits))) ⌝ }
     ensures { λ r. ⌜ Gains l (now (y .entry)) (now (numbers .entry)) heavy (now (known .entry)) (now
-        (z .entry)) j ahead (entryOf (now (digits .entry)) q) (each other) there r ⌝ }
+        (z .entry)) j false (entryOf (now (digits .entry)) q) (each other) there r ⌝ }
 {
     let own = digits_of(digits, q);
     carried(
         there,
-        crossed(
+        between(
             l,
             y,
             totals,
@@ -239,7 +192,6 @@ fn reached_by(
             known,
             z,
             j,
-            ahead,
             own,
             other,
         ),
@@ -258,7 +210,6 @@ fn reached(
     z: &[u8],
     digits: &[u8],
     j: usize,
-    ahead: bool,
     other: [u8; states::MOST_HEAVY],
     there: u8,
     q: usize,
@@ -267,7 +218,7 @@ fn reached(
     requires { ⌜ Ready l (now y) (now totals) (now counts) (now numbers) heavy (now known) (now z) × ((j < l .l2)
         × (q * 6 + 6 ≤ length (now digits))) ⌝ }
     ensures { λ r. ⌜ (0 < mark
-        → Gains l (now (y .entry)) (now (numbers .entry)) heavy (now (known .entry)) (now (z .entry)) j ahead (entryOf
+        → Gains l (now (y .entry)) (now (numbers .entry)) heavy (now (known .entry)) (now (z .entry)) j false (entryOf
         (now (digits .entry)) q) (each other) there r) ⌝ }
 {
     if mark == 0 {
@@ -284,7 +235,6 @@ fn reached(
         z,
         digits,
         j,
-        ahead,
         other,
         there,
         q,
@@ -305,7 +255,6 @@ fn spread_over(
     states: usize,
     digits: &[u8],
     j: usize,
-    ahead: bool,
     other: [u8; states::MOST_HEAVY],
     there: u8,
     marks: &[u8],
@@ -319,7 +268,7 @@ fn spread_over(
         × (((low ≤ high) × (high ≤ states)) × ((at + states ≤ length (now marks))
         × (states ≤ length (now fresh)))))) ⌝ }
     ensures { λ _. ⌜ Spread l (now (y .entry)) (now (numbers .entry)) heavy (now (known .entry)) (now (z .entry)) (now
-        (digits .entry)) j ahead (each other) there
+        (digits .entry)) j false (each other) there
         (now (marks .entry)) at low high (now (fresh .entry)) (now (fresh .exit)) ⌝ }
 {
     let mut q = low;
@@ -337,7 +286,6 @@ fn spread_over(
                 z,
                 digits,
                 j,
-                ahead,
                 other,
                 there,
                 q,
@@ -348,8 +296,8 @@ fn spread_over(
     }
 }
 
-// Raises the fresh marks of a column by the mark of the other state p: ahead of the states that have no more left,
-// otherwise of those that have no less.
+// Raises the fresh marks of a column by the mark of the other state p: ahead, of all that rows can come to from it; otherwise of those that
+// have no less left. The counts are those of the column's marked states.
 fn spread(
     l: Layout,
     y: &[u8],
@@ -359,7 +307,7 @@ fn spread(
     heavy: Heavy,
     known: &[u16],
     z: &[u8],
-    states: usize,
+    shape: Shape,
     digits: &[u8],
     j: usize,
     ahead: bool,
@@ -367,21 +315,22 @@ fn spread(
     there: u8,
     marks: &[u8],
     at: usize,
+    some: &[u16],
     fresh: &mut [u8],
 )
     requires { ⌜ Ready l (now y) (now totals) (now counts) (now numbers) heavy (now known) (now z) × ((j < l .l2)
-        × ((states * 6 ≤ length (now digits))
-        × ((p < states) × ((at + states ≤ length (now marks)) × (states ≤ length (now fresh)))))) ⌝ }
-    ensures { λ _. ⌜ SpreadBy l (now (y .entry)) (now (numbers .entry)) heavy (now (known .entry)) (now (z .entry))
-        (now (digits .entry)) j ahead p there
-        (now (marks .entry)) at states (now (fresh .entry)) (now (fresh .exit)) ⌝ }
+        × ((Kept heavy shape × Digits shape (now digits)) × ((p < shape .states) × ((at + shape .states ≤ length (now marks))
+        × ((shape .states ≤ length (now fresh)) × ((shape .states < length (now some))
+        × Counts (now marks) at (shape .states) (now some))))))) ⌝ }
+    ensures { λ _. ⌜ SpreadBy l (now (y .entry)) (now (numbers .entry)) heavy (now (known .entry)) (now (z .entry)) (now (digits .entry))
+        shape j ahead p there (now (marks .entry)) at (now (fresh .entry)) (now (fresh .exit)) ⌝ }
 {
     if there == 0 {
         return;
     }
     let other = digits_of(digits, p);
     if ahead {
-        spread_over(
+        steps::raise(
             l,
             y,
             totals,
@@ -390,20 +339,18 @@ fn spread(
             heavy,
             known,
             z,
-            states,
-            digits,
+            shape,
             j,
-            ahead,
             other,
             there,
             marks,
             at,
-            0,
-            p + 1,
+            some,
             fresh,
         );
         return;
     }
+    let states = shape.states;
     spread_over(
         l,
         y,
@@ -416,7 +363,6 @@ fn spread(
         states,
         digits,
         j,
-        ahead,
         other,
         there,
         marks,
@@ -469,6 +415,8 @@ fn remake(
 {
     let states = shape.states;
     let mut fresh: [u8; MOST_STATES] = [0; MOST_STATES];
+    let mut some: [u16; MOST_COUNTS] = [0; MOST_COUNTS];
+    steps::count_marked(marks, at, states, &mut some);
     let mut p: usize = 0;
     while p < states {
         spread(
@@ -480,7 +428,7 @@ fn remake(
             heavy,
             known,
             z,
-            states,
+            shape,
             digits,
             j,
             ahead,
@@ -488,6 +436,7 @@ fn remake(
             marks[base + p],
             marks,
             at,
+            &some,
             &mut fresh,
         );
         p += 1;

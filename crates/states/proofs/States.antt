@@ -5,6 +5,7 @@ use mathlib.Core.Path.{_≡_, refl, sym, ap, ap₂, _∙_}
 use mathlib.Core.Bool.{cond}
 use native.Mathlib.Decide.{ℕ-discrete}
 use native.Mathlib.Nat.{zero-mul, zero-add, mul-comm, mul-assoc, mul-le-mul, mul-le-mul-left, mul-le-mul-right}
+use native.Mathlib.Nat.{div-add-mod', div-div-eq-div-mul, div-one, mod-lt}
 use native.Mathlib.Nat.{mod-eq-of-lt, div-eq-of-lt, add-mul-div-right, add-mul-mod-self-right, pow-suc, pow-le-pow-right}
 use native.Mathlib.Numerals.{sub-one}
 use native.Mathlib.Omega.{arith}
@@ -185,3 +186,37 @@ module _ (size : ℕ → ℕ) where
 pub byte-strides : (xs : List ℕ) (s : ℕ) → s ≤ 6 → ((t : ℕ) → t < s → getD xs t 0 ≤ 255) → stride (each xs) s ≤ 281474976710656
 byte-strides xs s h bytes =
     omega (arith, stride-high (each xs) s bytes, pow-le-pow-right {n = 256} (omega arith) h)
+
+-- ---- the state with a number
+-- the losses left in it
+abbrev pub digitsOf : (size : ℕ → ℕ) (q : ℕ) → ℕ → ℕ
+digitsOf size q s = q / stride size s % (size s + 1)
+
+-- the number of the state whose digits are those of q, and what is above them
+state-digits : (size : ℕ → ℕ) (q n : ℕ)
+    → state size (digitsOf size q) n + q / stride size n * stride size n ≡ q
+unfolding state stride
+state-digits size q zero = omega (arith, div-one q)
+state-digits size q (suc n) =
+    let a = stride size n in
+    let b = size n + 1 in
+    let m = q / a in
+    let up : q / (a * b) ≡ m / b = sym (div-div-eq-div-mul q a b) in
+    let own : m / b * b * a + m % b * a ≡ m * a = split (m / b * b) (m % b) m a (div-add-mod' m b) in
+    let high : m / b * (a * b) ≡ m / b * b * a = regroup (m / b) a b in
+    rw up (omega (arith, state-digits size q n, own, high))
+  where
+    split : (u v m a : ℕ) → u + v ≡ m → u * a + v * a ≡ m * a
+    split u v m a e = rw (← e) (omega arith)
+
+    regroup : (m a b : ℕ) → m * (a * b) ≡ m * b * a
+    regroup m a b = omega arith
+
+pub state-of : (size : ℕ → ℕ) (q n : ℕ) → q < stride size n → state size (digitsOf size q) n ≡ q
+state-of size q n low =
+    let z : q / stride size n ≡ 0 = div-eq-of-lt low in
+    omega (arith, rw z at (state-digits size q n))
+
+-- no block has more left than it has at most
+pub digits-most : (size : ℕ → ℕ) (q s : ℕ) → digitsOf size q s ≤ size s
+digits-most size q s = omega (arith, mod-lt (q / stride size s) {m = size s + 1} (omega arith))

@@ -1,12 +1,12 @@
 -- Rows that come through marked loss states, from one column to the next: what a row has left is what its table has
 -- left, a mark of its state covers what it can still differ in, and a column that it crosses takes it on. Rests on the
 -- laws of states. Assumes nothing.
-use Prim.Native.Nat.{ℕ, zero, suc, _+_, _-_, _*_, _/_, _%_, _<_, _≤_}
+use Prim.Native.Nat.{ℕ, zero, suc, _+_, _-_, _*_, _<_, _≤_}
 use mathlib.Core.Path.{_≡_, refl, sym, ap, subst, _∙_}
 use mathlib.Core.Bool.{Bool, true}
 use mathlib.Core.Logic.{_⊎_, inl, inr, ⊎-elim}
 use mathlib.Core.List.{List}
-use native.Mathlib.Nat.{div-add-mod', div-div-eq-div-mul, div-eq-of-lt, mod-lt, div-one, mul-comm}
+use native.Mathlib.Nat.{mul-comm}
 use native.Mathlib.Omega.{arith}
 use lib.ListN.{length, getD}
 use Rattle.bits.proofs.Laws.{lt-or-ge}
@@ -20,9 +20,9 @@ use Rattle.message.proofs.Legal.{legal-bounds, sizes}
 use Rattle.lines.specs.Lines.{values}
 use Rattle.found.specs.Found.{Given, Holding, Grown}
 use Rattle.found.proofs.Found.{grown-rows}
-use Rattle.states.specs.States.{stride, state, each}
+use Rattle.states.specs.States.{state, each}
 use Rattle.states.specs.declared.Shape.{Shape}
-use Rattle.states.proofs.States.{state-low, state-same, state-up, state-only}
+use Rattle.states.proofs.States.{state-low, state-same, state-up, state-only, digitsOf, state-of, digits-most}
 use Rattle.column.specs.Column.{Fit, Light, Crosses, apartIn}
 use Rattle.column.specs.declared.Heavy.{Heavy}
 use Rattle.live.specs.Live.{Covers, Path, apartBefore, apartFrom}
@@ -60,26 +60,6 @@ near-stays z room h g near x sent few =
     subst (λ (s : Held). Known s x) (sym (grown-rows h g)) (known-stays (h .well) (g .found) x (near x sent few))
 
 -- ---- numbers and their states
--- the number of the state whose digits are those of q, and what is above them
-state-digits : (size : ℕ → ℕ) (q n : ℕ)
-    → state size (λ s. q / stride size s % (size s + 1)) n + q / stride size n * stride size n ≡ q
-unfolding state stride
-state-digits size q zero = omega (arith, div-one q)
-state-digits size q (suc n) =
-    let a = stride size n in
-    let b = size n + 1 in
-    let m = q / a in
-    let up : q / (a * b) ≡ m / b = sym (div-div-eq-div-mul q a b) in
-    let own : m / b * b * a + m % b * a ≡ m * a = split (m / b * b) (m % b) m a (div-add-mod' m b) in
-    let high : m / b * (a * b) ≡ m / b * b * a = regroup (m / b) a b in
-    rw up (omega (arith, state-digits size q n, own, high))
-  where
-    split : (u v m a : ℕ) → u + v ≡ m → u * a + v * a ≡ m * a
-    split u v m a e = rw (← e) (omega arith)
-
-    regroup : (m a b : ℕ) → m * (a * b) ≡ m * b * a
-    regroup m a b = omega arith
-
 -- so much is left in the state with this number
 abbrev pub IsLeft : Shape → (to : ℕ) (next : List ℕ) → Type 0
 IsLeft shape to next =
@@ -97,18 +77,13 @@ left-state {shape = shape} {left} next to of low is =
     size = each (shape .size)
 
     own : ℕ → ℕ
-    own s = to / stride size s % (size s + 1)
-
-    below : to < stride size (shape .n)
-    below = omega (arith, low, state-low size (each left) (shape .n) (of .within))
+    own = digitsOf size to
 
     number : state size own (shape .n) ≡ to
-    number =
-        let z : to / stride size (shape .n) ≡ 0 = div-eq-of-lt below in
-        omega (arith, rw z at (state-digits size to (shape .n)))
+    number = state-of size to (shape .n) (omega (arith, low, state-low size (each left) (shape .n) (of .within)))
 
     most : (s : ℕ) → s < shape .n → own s ≤ size s
-    most s h = omega (arith, mod-lt (to / stride size s) {m = size s + 1} (omega arith))
+    most s h = digits-most size to s
 
     same : (s : ℕ) → s < shape .n → getD next s 0 ≡ own s
     same = is own most (sym number)

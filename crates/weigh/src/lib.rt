@@ -20,15 +20,15 @@ pub struct Chunks {
 }
 
 // The bits of a chunk that were received: the number of their ones, and the total of the positions of these, from 1.
-struct Seen {
-    ones: usize,
-    total: usize,
+pub struct Seen {
+    pub ones: usize,
+    pub total: usize,
 }
 
 // Twice the least and twice the greatest that some chunks can bring.
-struct Span {
-    low: usize,
-    high: usize,
+pub struct Span {
+    pub low: usize,
+    pub high: usize,
 }
 
 // Whether a chunk of nc bits that lost some has the others from a place of m bits on.
@@ -46,7 +46,7 @@ fn is_there(nc: usize, m: usize, place: usize, lost: usize) -> bool
 }
 
 // The next w bits from place p on, from the tables.
-fn look(y: &[u8], totals: &[u32], counts: &[u16], p: usize, w: usize) -> Seen
+pub fn look(y: &[u8], totals: &[u32], counts: &[u16], p: usize, w: usize) -> Seen
     requires { ⌜ AllBits (now y) × ((length (now y) ≤ longest) × (Tables (now y) 0 (now totals) (now counts)
         × (p + w ≤ length (now y)))) ⌝ }
     ensures { λ r. ⌜ SeenIn (take w (drop p (now (y .entry)))) w r ⌝ }
@@ -60,14 +60,21 @@ fn look(y: &[u8], totals: &[u32], counts: &[u16], p: usize, w: usize) -> Seen
 }
 
 // How many ones more than were received a chunk can have, at least and at most.
-struct Extra {
-    first: usize,
-    last: usize,
+pub struct Extra {
+    pub first: usize,
+    pub last: usize,
 }
 
 // A lost bit is another than the next one received: where the bits received and the next one are all zeros, each lost bit is a one, and
 // where they are all ones, a zero.
-fn more_ones(y: &[u8], totals: &[u32], counts: &[u16], place: usize, w: usize, lost: usize) -> Extra
+pub fn more_ones(
+    y: &[u8],
+    totals: &[u32],
+    counts: &[u16],
+    place: usize,
+    w: usize,
+    lost: usize,
+) -> Extra
     requires { ⌜ AllBits (now y) × ((length (now y) ≤ longest) × (Tables (now y) 0 (now totals) (now counts)
         × (place + w ≤ length (now y)))) ⌝ }
     ensures { λ r. ⌜ MoreOnes (now (y .entry)) place w lost (r .first) (r .last) ⌝ }
@@ -97,7 +104,7 @@ fn more_ones(y: &[u8], totals: &[u32], counts: &[u16], place: usize, w: usize, l
 
 // A span with one chunk more, which has so many positions before it and g ones more than were received: least, the lost
 // ones stand in front of the received bits and the lost zeros behind; greatest, the other way round.
-fn widen(nc: usize, before: usize, lost: usize, seen: Seen, g: usize, span: Span) -> Span
+pub fn widen(nc: usize, before: usize, lost: usize, seen: Seen, g: usize, span: Span) -> Span
     requires { ⌜ ((nc ≤ 8) × (before ≤ 2040)) × (((seen .ones + lost ≤ nc) × ((seen .total ≤ 64) × (g ≤ lost)))
         × ((span .low ≤ 200000) × (span .high ≤ 200000))) ⌝ }
     ensures { λ r. ⌜ Wider nc before lost seen g span r ⌝ }
@@ -110,7 +117,7 @@ fn widen(nc: usize, before: usize, lost: usize, seen: Seen, g: usize, span: Span
 }
 
 // Whether some number whose double lies in a span is, modulo the modulus, the one needed.
-fn reaches(modulus: usize, need: usize, span: Span) -> bool
+pub fn reaches(modulus: usize, need: usize, span: Span) -> bool
     requires { ⌜ (need < modulus) × ((modulus ≤ longest + 1) × (span .low ≤ 240000)) ⌝ }
     ensures { λ r. ⌜ ((n : ℕ) → span .low ≤ 2 * n → 2 * n ≤ span .high → n % modulus ≡ need → r ≡ true) ⌝ }
 {

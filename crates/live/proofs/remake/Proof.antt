@@ -5,28 +5,37 @@ use mathlib.Core.Path.{_≡_, refl, sym, _∙_}
 use native.Mathlib.Omega.{arith}
 use borrow.Author.Needs.{needs}
 use lib.ListN.{length}
-use Rattle.states.specs.declared.Shape.{Shape}
-use Rattle.live.specs.Passes.{mostStates, Digits, Kept}
+use Rattle.live.specs.Passes.{mostStates}
 use Rattle.live.proofs.Steps.{number-low}
 use Rattle.live.proofs.Columns.{Remaking, remaking-starts, remaking-next}
 use Rattle.live.proofs.remake.Statement.{statement}
 use Rattle.live.proofs.remake.Tie as tie
 
 abbrev Inv-loop : tie.InvT-loop
-Inv-loop l y totals counts numbers heavy known z digits j ahead at base marks states fresh₀ p₀ fresh p =
-    ((p ≤ states) × (length fresh ≡ mostStates))
-    × ((shape : Shape) → Kept heavy shape → Digits shape digits → shape .states ≡ states
-    → Remaking l y numbers heavy known z shape j ahead at base marks fresh p)
+Inv-loop l y totals counts numbers heavy known z shape digits j ahead at base marks states fresh₀ some p₀ fresh p =
+    ((p ≤ states) × (length fresh ≡ mostStates)) × Remaking l y numbers heavy known z shape j ahead at base marks fresh p
 
 abbrev μ-loop : tie.MeasureT-loop
-μ-loop l y totals counts numbers heavy known z digits j ahead at base marks states fresh₀ p₀ fresh p = states - p
+μ-loop l y totals counts numbers heavy known z shape digits j ahead at base marks states fresh₀ some p₀ fresh p = states - p
 
 -- the arguments
 abbrev begin : tie.At-loop Inv-loop μ-loop → tie.Start Inv-loop μ-loop
-begin c = c .before .before .before .before .before .before .before .before .before
+begin c = c .before .before .before .before .before .before .before .before .before .before .before .before .before
+
+-- where the counts are made
+abbrev counted : tie.At-loop Inv-loop μ-loop → tie.After-count-marked Inv-loop μ-loop
+counted c = c .before .before
+
+slice-aggregate-count-marked : tie.Need-slice-aggregate-count-marked Inv-loop μ-loop
+slice-aggregate-count-marked c = search needs
+
+count-marked-requires : tie.Need-count-marked-requires Inv-loop μ-loop
+count-marked-requires c κs =
+    let p = c .before .before .before .before .before .before .before .before .before .before .pre in
+    (p .1 .1 .1 .1 .0, (omega (arith, p .1 .1 .0 .few), p .1 .1 .0 .few))
 
 loop-holds : tie.Need-loop-holds Inv-loop μ-loop
-loop-holds c = ((omega arith, refl), λ shape kept d e. remaking-starts _ _ _ _ _ _ _ _ _ _ _ _ _)
+loop-holds c = ((omega arith, refl), remaking-starts _ _ _ _ _ _ _ _ _ _ _ _ _)
 
 add-spread : tie.Need-add-spread Inv-loop μ-loop
 add-spread c =
@@ -47,30 +56,35 @@ slice-read-spread c =
     omega (arith, s .pre .1 .1 .1 .1 .1, c .before .loop-test .taken)
 
 slice-aggregate-spread : tie.Need-slice-aggregate-spread Inv-loop μ-loop
-slice-aggregate-spread c = sym (c .before .before .before .before .loop .inv .0 .1)
+slice-aggregate-spread c = sym (counted (c .before .before .before .before) .count-marked .ensures .0)
+
+slice-aggregate-spread-2 : tie.Need-slice-aggregate-spread-2 Inv-loop μ-loop
+slice-aggregate-spread-2 c = sym (c .before .before .before .before .before .loop .inv .0 .1)
 
 spread-requires : tie.Need-spread-requires Inv-loop μ-loop
 spread-requires c κs =
-    let i = c .before .before .before .before in
-    let p = begin i .pre in (
+    let t = c .before .before .before .before in
+    let i = t .before in
+    let p = begin i .pre in
+    let n = counted i .count-marked .ensures in
+    let few = p .1 .1 .0 .few in (
       p .0,
       (
         p .1 .0,
         (
-          p .1 .1 .1 .0 .long,
+          (p .1 .1 .0, p .1 .1 .1 .0),
           (
-            c .before .before .before .loop-test .taken,
-            (
-              p .1 .1 .1 .1 .0,
-              omega (arith, i .loop .inv .0 .1, p .1 .1 .0 .few),
-            ),
+            t .loop-test .taken,
+            (p .1 .1 .1 .1 .0, (omega (arith, i .loop .inv .0 .1, few), (omega (arith, n .0, few), n .1))),
           ),
         ),
       ),
     )
 
 add-p : tie.Need-add-p Inv-loop μ-loop
-add-p c = search needs
+add-p c =
+    let t = c .before .before .before .before .before .before in
+    record { fits = omega (arith, t .loop-test .taken, begin (t .before) .pre .1 .1 .0 .few) }
 
 loop-less : tie.Need-loop-less Inv-loop μ-loop
 loop-less c = search needs
@@ -78,16 +92,15 @@ loop-less c = search needs
 loop-again : tie.Need-loop-again Inv-loop μ-loop
 loop-again c =
     let r = c .before in
-    let t = r .before .before .before .before in
+    let t = c .before .before .before .before .before .before in
     let i = t .before in
-    let a = begin i .args in
+    let s = begin i in
+    let a = s .args in
     let f = r .spread .ensures in (
       (omega (arith, t .loop-test .taken), f .long ∙ i .loop .inv .0 .1),
-      λ shape kept d e.
-          remaking-next (a .l) (a .y .now) (a .numbers .now) (a .heavy) (a .known .now) (a .z .now) shape (a .j) (a
-          .ahead) (a .at)
-          (a .base) (a .marks .now) kept (a .digits .now) d (i .loop .fresh) _ (i .loop .p) _ e f (i .loop .inv .1
-          shape kept d e),
+      remaking-next (a .l) (a .y .now) (a .numbers .now) (a .heavy) (a .known .now) (a .z .now) (a .shape) (a .j) (a .ahead) (a .at)
+          (a .base) (a .marks .now) (s .pre .1 .1 .0) (a .digits .now) (s .pre .1 .1 .1 .0) (i .loop .fresh) _ (i .loop .p) f
+          (i .loop .inv .1),
     )
 
 slice-aggregate-put-column : tie.Need-slice-aggregate-put-column Inv-loop μ-loop
@@ -112,11 +125,7 @@ returns c =
       r .put-column .ensures .0,
       λ own w m other w' k.
           rw (r .put-column .ensures .1 _ (number-low kept own w))
-          (i .loop .inv .1 (s .args .shape) kept (s .pre .1 .1 .1 .0) refl .gained own w m other w' (omega (
-            arith,
-            k,
-            h,
-          ))),
+          (i .loop .inv .1 .gained own w m other w' (omega (arith, k, h))),
     )
 
 pub remake-spec : {M : Type 1} → statement M
@@ -125,10 +134,13 @@ remake-spec =
     (tie.spec
     Inv-loop
     μ-loop
+    slice-aggregate-count-marked
+    count-marked-requires
     loop-holds
     add-spread
     slice-read-spread
     slice-aggregate-spread
+    slice-aggregate-spread-2
     spread-requires
     add-p
     loop-less

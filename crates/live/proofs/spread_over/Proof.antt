@@ -1,5 +1,6 @@
 -- `live::spread_over` meets its contract. The loop's invariant: the fresh marks of the states passed are raised. The
 -- measure is what is left of the states. Assumes nothing.
+use mathlib.Core.Bool.{false}
 use Prim.Native.Nat.{_-_, _≤_}
 use native.Mathlib.Omega.{arith}
 use borrow.Author.Needs.{needs}
@@ -11,12 +12,12 @@ use Rattle.live.proofs.spread_over.Statement.{statement}
 use Rattle.live.proofs.spread_over.Tie as tie
 
 abbrev Inv-loop : tie.InvT-loop
-Inv-loop l y totals counts numbers heavy known z states digits j ahead other there marks at low high fresh₀ q₀ fresh q =
+Inv-loop l y totals counts numbers heavy known z states digits j other there marks at low high fresh₀ q₀ fresh q =
     ((low ≤ q) × (q ≤ high))
-    × Spread l y numbers heavy known z digits j ahead (each other) there marks at low q fresh₀ fresh
+    × Spread l y numbers heavy known z digits j false (each other) there marks at low q fresh₀ fresh
 
 abbrev μ-loop : tie.MeasureT-loop
-μ-loop l y totals counts numbers heavy known z states digits j ahead other there marks at low high fresh₀ q₀ fresh q =
+μ-loop l y totals counts numbers heavy known z states digits j other there marks at low high fresh₀ q₀ fresh q =
     high - q
 
 -- the arguments
@@ -43,8 +44,7 @@ add-reached c =
         p .0 .1,
         p .1 .0,
         c .before .loop-test .taken,
-        s .good .1 .1 .1 .1 .1 .1 .1 .1 .1 .1 .1 .1
-            .1 .1 .0,
+        s .good .1 .1 .1 .1 .1 .1 .1 .1 .1 .1 .1 .1 .1 .0,
       );
     }
 
@@ -88,10 +88,10 @@ loop-again c =
     let h = c .higher .ensures in (
       (omega (arith, i .loop .inv .0 .0), omega (arith, t)),
       spread-next (a .l) (a .y .now) (a .numbers .now) (a .heavy) (a .known .now) (a .z .now) (a .digits .now) (a .j)
-          (a .ahead)
+          false
           (each (a .other)) (a .there) (a .marks .now) (a .at) (a .low) _ q (c .higher .result) (i .loop .fresh)
           (omega (arith, i .loop .inv .1 .long, p .0 .1, p .1 .1, t)) (h .0)
-          (λ m. gains-more (a .l) (a .y .now) (a .numbers .now) (a .heavy) (a .known .now) (a .z .now) (a .j) (a .ahead)
+          (λ m. gains-more (a .l) (a .y .now) (a .numbers .now) (a .heavy) (a .known .now) (a .z .now) (a .j) false
           (entryOf (a .digits .now) q) (each (a .other)) (a .there) (c .before .reached .result) (c .higher .result) (h
           .1)
           (c .before .reached .ensures m))

@@ -1,0 +1,281 @@
+-- The steps from a loss state, block by block: a row's own share goes on with the choices so far, and what the chunks bring stays in the
+-- span. Assumes nothing.
+use Prim.Native.Nat.{ℕ, zero, suc, _+_, _-_, _*_, _%_, _<_, _≤_}
+use mathlib.Core.Path.{_≡_, refl, sym, ap, ap₂, subst, _∙_}
+use mathlib.Core.List.{List, []}
+use mathlib.Core.Logic.{_⊎_, inl, inr, ⊎-elim}
+use native.Mathlib.Decide.{ℕ-discrete}
+use native.Mathlib.Nat.{mul-le-mul-right}
+use native.Mathlib.Omega.{arith}
+use lib.ListN.{length, getD, set, take, drop, length-set}
+use lib.Seq.{getD-set-same, getD-set-other}
+use Rattle.bits.specs.Bits.{AllBits, digits, number}
+use Rattle.bits.proofs.Laws.{bits-digits, length-digits, lt-or-ge}
+use Rattle.vt.specs.Ones.{ones}
+use Rattle.vt.specs.Sum.{total}
+use Rattle.message.specs.declared.Layout.{Layout}
+use Rattle.consistent.specs.Greedy.{losses}
+use Rattle.lines.specs.Lines.{unlike}
+use Rattle.states.specs.States.{state, stride, each}
+use Rattle.states.specs.declared.Shape.{Shape}
+use Rattle.states.proofs.States.{state-low}
+use Rattle.weigh.specs.Weigh.{SeenIn, MoreOnes, Wider, brought}
+use Rattle.weigh.specs.declared.Chunks.{Chunks}
+use Rattle.weigh.specs.declared.Span.{Span}
+use Rattle.weigh.proofs.Spans.{one-wider}
+use Rattle.column.specs.Column.{Fit, Light, chunkAt, filled, Crosses, apartIn}
+use Rattle.column.specs.declared.Heavy.{Heavy}
+use Rattle.column.proofs.Rows.{no-loss}
+use Rattle.column.proofs.Zeros.{sum-low, whole-sum}
+use Rattle.steps.specs.Steps.{Above, Raises, Counts, brings, Viewed, Ground, Stands, Shares, Chosen, Sharing, Raised}
+use Rattle.steps.specs.declared.View.{View}
+
+-- where as many states are marked below two states, none between them is
+pub none-between : {marks : List ℕ} {at states : ℕ} {some : List ℕ} → Counts marks at states some → (low high : ℕ) → high ≤ states
+    → getD some high 0 ≤ getD some low 0 → (q : ℕ) → low ≤ q → q < high → 0 < getD marks (at + q) 0 → ⊥
+none-between c low high top same q a b m =
+    omega (arith, c .rises low q a (omega arith), c .counts q (omega arith) m, c .rises (q + 1) high (omega arith) top)
+
+-- the counts with those of one state more
+pub counts-next : (marks : List ℕ) (at q d : ℕ) (some : List ℕ) → q + 1 < length some → (0 < getD marks (at + q) 0 → 0 < d)
+    → Counts marks at q some → Counts marks at (q + 1) (set some (q + 1) (getD some q 0 + d))
+counts-next marks at q d some long own c =
+    record {
+      rises = λ i k h g. ⊎-elim (λ (e : k < q + 1). rw (was k e, was i (omega arith)) (c .rises i k h (omega arith)))
+          (λ (e : q + 1 ≤ k). ⊎-elim
+          (λ (f : i < q + 1). let eq : k ≡ q + 1 = omega arith in rw (eq, is, was i f) (omega (arith, c .rises i q (omega arith) (omega arith))))
+          (λ (f : q + 1 ≤ i). let eq : i ≡ k = omega arith in rw eq (omega arith))
+          (lt-or-ge i (q + 1)))
+          (lt-or-ge k (q + 1));
+      counts = λ i h m. ⊎-elim
+          (λ (e : i < q). rw (was i (omega arith), was (i + 1) (omega arith)) (c .counts i e m))
+          (λ (e : q ≤ i). let eq : i ≡ q = omega arith in rw (eq, was q (omega arith), is) (omega (arith, own (rw eq at m))))
+          (lt-or-ge i q);
+    }
+  where
+    new : List ℕ
+    new = set some (q + 1) (getD some q 0 + d)
+
+    was : (i : ℕ) → i < q + 1 → getD new i 0 ≡ getD some i 0
+    was i h = getD-set-other some (q + 1) i (getD some q 0 + d) 0 (λ e. omega (arith, e))
+
+    is : getD new (q + 1) 0 ≡ getD some q 0 + d
+    is = getD-set-same some (q + 1) (getD some q 0 + d) 0 long
+
+-- a mark that is higher is above as much
+pub above-more : (there apart a b : ℕ) → a ≤ b → Above there apart a → Above there apart b
+above-more there apart a b h u = ⊎-elim (λ k. inl (omega arith)) (λ k. inr (omega arith)) u
+
+pub above-less : (there few more mark : ℕ) → few ≤ more → Above there more mark → Above there few mark
+above-less there few more mark h u = ⊎-elim (λ k. inl (omega arith)) (λ k. inr k) u
+
+pub raises-same : (fresh : List ℕ) → Raises fresh fresh
+raises-same fresh = record { long = refl; grows = λ i. omega arith }
+
+-- a mark that is set to a higher one
+pub raises-set : (fresh : List ℕ) (q v : ℕ) → q < length fresh → getD fresh q 0 ≤ v → Raises fresh (set fresh q v)
+raises-set fresh q v h up = record { long = length-set fresh q v; grows = λ i. go i (ℕ-discrete i q) }
+  where
+    go : (i : ℕ) → Dec (i ≡ q) → getD fresh i 0 ≤ getD (set fresh q v) i 0
+    go i (yes e) = rw (e, getD-set-same fresh q v 0 h) up
+    go i (no e) = rw (getD-set-other fresh q i v 0 e) (omega arith)
+
+-- ---- one part of a sweep after another
+module _ {l : Layout} {y : List ℕ} {heavy : Heavy} {z : List ℕ} {shape : Shape} {j : ℕ} {left : ℕ → ℕ} {modulus need there : ℕ}
+    {marks : List ℕ} {at : ℕ} where
+  pub raised-then : {P Q R : (next : ℕ → ℕ) (vs : List ℕ) → Type 0} {entry mid exit : List ℕ}
+      → Raised l y heavy z shape j left modulus need there marks at P entry mid
+      → Raised l y heavy z shape j left modulus need there marks at Q mid exit
+      → ((numbers row vs : List ℕ) (next : ℕ → ℕ) → Crosses l y numbers heavy row j left next vs → R next vs → P next vs ⊎ Q next vs)
+      → Raised l y heavy z shape j left modulus need there marks at R entry exit
+  raised-then p q parts =
+      record {
+        raises =
+            record {
+              long = q .raises .long ∙ p .raises .long;
+              grows = λ i. omega (arith, p .raises .grows i, q .raises .grows i);
+            };
+        gains = λ numbers row vs next x r e m.
+            ⊎-elim
+            (λ u. above-more there (apartIn l heavy z vs j (heavy .n)) _ _ (q .raises .grows (state (each (shape .size)) next (shape .n))) (p .gains numbers row vs next x u e m))
+            (λ u. q .gains numbers row vs next x u e m)
+            (parts numbers row vs next x r);
+      }
+
+  -- where no row goes on, nothing is to be raised
+  pub raised-none : {R : (next : ℕ → ℕ) (vs : List ℕ) → Type 0} (fresh : List ℕ)
+      → ((numbers row vs : List ℕ) (next : ℕ → ℕ) → Crosses l y numbers heavy row j left next vs → R next vs
+      → 0 < getD marks (at + state (each (shape .size)) next (shape .n)) 0 → ⊥)
+      → Raised l y heavy z shape j left modulus need there marks at R fresh fresh
+  raised-none fresh never =
+      record { raises = raises-same fresh; gains = λ numbers row vs next x r e m. absurd (never numbers row vs next x r m) }
+
+-- what a sweep reads stays as it is while marks are raised
+pub ground-stays : {l : Layout} {y totals counts : List ℕ} {heavy : Heavy} {z : List ℕ} {shape : Shape} {j : ℕ} {left : List ℕ}
+    {modulus need : ℕ} {marks : List ℕ} {at : ℕ} {some fresh : List ℕ} (new : List ℕ) → length new ≡ length fresh
+    → Ground l y totals counts heavy z shape j left modulus need marks at some fresh
+    → Ground l y totals counts heavy z shape j left modulus need marks at some new
+ground-stays new same g =
+    record {
+      seeable = g .seeable;
+      others = g .others;
+      blocks = g .blocks;
+      shaped = g .shaped;
+      states = g .states;
+      within = g .within;
+      below = g .below;
+      high = g .high;
+      marked = g .marked;
+      counted = g .counted;
+      long-some = g .long-some;
+      long-fresh = omega (arith, g .long-fresh, same);
+    }
+
+-- ---- where a sweep stands
+module _ {shape : Shape} {n b q : ℕ} {span : Span} {apart : ℕ} where
+  pub stands-share : (left a : ℕ) → Stands shape n (suc b) q span apart → left ≤ each (shape .size) b → a ≤ left
+      → Shares shape n b (q + (left - a) * stride (each (shape .size)) b) span apart
+  unfolding stride
+  stands-share left a s few own =
+      let d = stride (each (shape .size)) b in
+      let most : (left - a) * d ≤ each (shape .size) b * d = mul-le-mul-right d (omega arith) in
+      record {
+        inside = omega (arith, s .inside);
+        room = omega (arith, s .room, most);
+        low = omega (arith, s .low);
+        high = omega (arith, s .high);
+        apart-low = omega (arith, s .apart-low);
+      }
+
+  pub shares-stands : (wider : Span) (more : ℕ) → Shares shape n b q span apart → wider .low ≤ span .low + 40000
+      → wider .high ≤ span .high + 40000 → more ≤ apart + 1 → Stands shape n b q wider more
+  shares-stands wider more s low high one =
+      record {
+        inside = omega (arith, s .inside);
+        room = s .room;
+        low = omega (arith, s .low);
+        high = omega (arith, s .high);
+        apart-low = omega (arith, s .apart-low);
+      }
+
+-- ---- a row goes on with its own choices
+module _ {l : Layout} {y numbers : List ℕ} {heavy : Heavy} {row z : List ℕ} {shape : Shape} {j : ℕ} {left next : ℕ → ℕ} {vs : List ℕ}
+    (x : Crosses l y numbers heavy row j left next vs) {b q : ℕ} {span : Span} {apart : ℕ} where
+  -- the state that it is at after the column is among those with the shares chosen
+  pub sharing-range : (a : ℕ) → Sharing l heavy z shape j left b a q span apart next vs → b < heavy .n → shape .n ≡ heavy .n
+      → ((s : ℕ) → s < shape .n → left s ≤ each (shape .size) s)
+      → state (each (shape .size)) next (shape .n) < q + stride (each (shape .size)) b
+  sharing-range a c h blocks within =
+      let low = state-low (each (shape .size)) next b
+      (λ t k. omega (arith, x .falls t (omega arith), within t (omega (arith, blocks)))) in
+      omega (arith, c .number, low)
+
+  -- with its own share of block b
+  pub chosen-share : (a : ℕ) → left b ≡ next b + a → Chosen l heavy z shape j (suc b) q span apart next vs
+      → Sharing l heavy z shape j left b a (q + (left b - a) * stride (each (shape .size)) b) span apart next vs
+  unfolding state
+  chosen-share a own c =
+      let d = stride (each (shape .size)) b in
+      let is : (left b - a) * d ≡ next b * d = ap (λ (k : ℕ). k * d) (omega (arith, own)) in
+      record {
+        own = own;
+        number = omega (arith, is, c .number);
+        low = c .low;
+        high = c .high;
+        differs = c .differs;
+      }
+
+  module _ (h : b < heavy .n) (a : ℕ) {view : View} (see : Viewed l y heavy j b (left b) a view)
+      (s : Sharing l heavy z shape j left b a q span apart next vs) where
+    -- the number of its chunk there
+    abbrev v : ℕ
+    v = getD vs (chunkAt l heavy j b) 0
+
+    loses : losses (digits (l .nc) v) (drop (view .at) y) ≡ a
+    loses =
+        ap (λ (p : ℕ). losses (digits (l .nc) v) (drop p y)) (see .place) ∙ x .loses b h ∙ omega (arith, s .own)
+
+    -- where it loses no bit it is as it is read
+    pub as-read : a ≡ 0 → v ≡ number (l .nc) (drop (view .at) y)
+    as-read none = no-loss (l .nc) v (drop (view .at) y) (x .small b h) (loses ∙ none)
+
+    -- it has at least the first number of ones more than the bits that it takes, and at most the last
+    pub ones-first : view .seen .ones + view .first ≤ ones (digits (l .nc) v)
+    ones-first =
+        let n : length (digits (l .nc) v) ≡ l .nc - a + a = length-digits (l .nc) v ∙ omega (arith, see .few) in
+        omega (arith, see .seen .count, see .more .least (digits (l .nc) v) (bits-digits (l .nc) v) n loses)
+
+    pub ones-last : ones (digits (l .nc) v) ≤ view .seen .ones + view .last
+    ones-last =
+        let n : length (digits (l .nc) v) ≡ l .nc - a + a = length-digits (l .nc) v ∙ omega (arith, see .few) in
+        omega (arith, see .seen .count, see .more .most (digits (l .nc) v) (bits-digits (l .nc) v) n loses)
+
+    -- with just g of them, the span with the chunk has what is brought
+    pub sharing-next : (g more : ℕ) (wider : Span) → ones (digits (l .nc) v) ≡ view .seen .ones + g
+        → Wider (l .nc) (getD (heavy .block) b 0 * l .nc) a (view .seen) g span wider
+        → apart + unlike vs z (chunkAt l heavy j b) ≤ more → Chosen l heavy z shape j b q wider more next vs
+    unfolding brings apartIn
+    sharing-next g more wider just w other =
+        let one = one-wider (l .nc) (getD (heavy .block) b 0 * l .nc) a v (drop (view .at) y) loses (view .seen) g span wider (see .few)
+        (see .seen) just w in
+        record {
+          number = s .number;
+          low = omega (arith, one, s .low);
+          high = omega (arith, one, s .high);
+          differs = omega (arith, s .differs, other);
+        }
+
+-- ---- after the first block
+pub raised-end : {l : Layout} {y : List ℕ} {heavy : Heavy} {z : List ℕ} {shape : Shape} {j : ℕ} {left : ℕ → ℕ} {modulus need there : ℕ}
+    {marks : List ℕ} {at s q : ℕ} {span : Span} {apart : ℕ} {entry exit : List ℕ} → s ≡ 0 → Raises entry exit
+    → ((n : ℕ) → span .low ≤ 2 * n → 2 * n ≤ span .high → n % modulus ≡ need → 0 < getD marks (at + q) 0
+    → Above there apart (getD exit q 0))
+    → Raised l y heavy z shape j left modulus need there marks at (Chosen l heavy z shape j s q span apart) entry exit
+unfolding state brings apartIn
+raised-end {l} {y} {heavy} {z} {shape} {j} {there = there} {marks} {at} {q = q} {span} {apart} {exit = exit} e up found =
+    record {
+      raises = up;
+      gains = λ numbers row vs next x c is m.
+          let d = subst (λ (k : ℕ). Chosen l heavy z shape j k q span apart next vs) e c in
+          let number : q ≡ state (each (shape .size)) next (shape .n) = omega (arith, d .number) in
+          let marked = subst (λ (k : ℕ). 0 < getD marks (at + k) 0) (sym number) m in
+          let above = found (brings l heavy j vs (heavy .n)) (omega (arith, d .low)) (omega (arith, d .high)) is marked in
+          subst (λ (k : ℕ). Above there (apartIn l heavy z vs j (heavy .n)) (getD exit k 0)) number
+          (above-less there (apartIn l heavy z vs j (heavy .n)) apart (getD exit q 0) (omega (arith, d .differs)) above);
+    }
+
+-- ---- before the last block
+-- what the heavy blocks bring as weighed chunks of theirs do
+brings-brought : (l : Layout) (heavy : Heavy) (j : ℕ) (vs : List ℕ) (chunks : Chunks) → chunks .block ≡ heavy .block → (s : ℕ)
+    → brings l heavy j vs s ≡ brought (l .nc) chunks (λ t. getD vs (chunkAt l heavy j t) 0) s
+unfolding brings brought
+brings-brought l heavy j vs chunks e zero = refl
+brings-brought l heavy j vs chunks e (suc s) =
+    ap₂ _+_ (brings-brought l heavy j vs chunks e s)
+    (ap (λ (b : List ℕ). total (getD b s 0 * l .nc + 1) (digits (l .nc) (getD vs (chunkAt l heavy j s) 0))) (sym e))
+
+module _ {l : Layout} {y numbers : List ℕ} {heavy : Heavy} {row : List ℕ} {j : ℕ} {left next : ℕ → ℕ} {vs : List ℕ}
+    (x : Crosses l y numbers heavy row j left next vs) (f : Fit l y numbers heavy) (inside : j < l .l2) (known : List ℕ)
+    (light : Light l heavy row known) where
+  -- the sum of the chunks in hand is below the modulus, and the heavy blocks bring what is missing of it
+  pub light-low : getD known j 0 < l .l1 * l .nc + 1
+  light-low = rw (light j inside) (sum-low (l .nc) j (l .l2) (l .l1) (filled l heavy (λ s. 0) j (heavy .n) row))
+
+  pub light-brings : (getD known j 0 + brings l heavy j vs (heavy .n)) % (l .l1 * l .nc + 1) ≡ getD numbers (l .l1 + j) 0
+  light-brings =
+      let m : ℕ = l .l1 * l .nc + 1 in
+      let chunks : Chunks = record { n = heavy .n; block = heavy .block; place = []; lost = [] } in
+      ap (λ (b : ℕ). (getD known j 0 + b) % m) (brings-brought l heavy j vs chunks refl (heavy .n))
+      ∙ ap (λ (v : ℕ). (v + brought (l .nc) chunks (λ t. getD vs (chunkAt l heavy j t) 0) (heavy .n)) % m) (light j inside)
+      ∙ (whole-sum l heavy j y numbers f inside vs chunks refl row (x .others) ∙ x .has-sum)
+
+-- with no share chosen, each row goes on
+pub chosen-none : (l : Layout) (heavy : Heavy) (z : List ℕ) (shape : Shape) (j : ℕ) (span : Span) (next : ℕ → ℕ) (vs : List ℕ)
+    → shape .n ≡ heavy .n → span .low ≡ 0 → Chosen l heavy z shape j (heavy .n) 0 span 0 next vs
+chosen-none l heavy z shape j span next vs e low =
+    record {
+      number = omega (arith, ap (state (each (shape .size)) next) e);
+      low = omega (arith, low);
+      high = omega arith;
+      differs = omega arith;
+    }

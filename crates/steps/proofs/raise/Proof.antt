@@ -1,0 +1,148 @@
+-- `steps::raise` meets its contract: what the heavy blocks must bring is what the sum of the chunks in hand lacks. Rests on Sweeping.antt.
+-- Assumes nothing.
+use borrow.Author.Needs.{needs}
+use Prim.Native.Nat.{ℕ, _+_, _*_, _≤_}
+use mathlib.Core.Path.{_≡_, refl, sym, ap, subst, _∙_}
+use native.Mathlib.Omega.{arith}
+use lib.ListN.{length, getD}
+use Rattle.message.proofs.Legal.{legal-bounds, sizes}
+use Rattle.states.specs.States.{stride, each}
+use Rattle.column.proofs.Rows.{string-high}
+use Rattle.steps.specs.Steps.{brings}
+use Rattle.steps.proofs.Sweeping.{light-low, light-brings, chosen-none}
+use Rattle.steps.proofs.raise.Statement.{statement}
+use Rattle.steps.proofs.raise.Tie as tie
+
+-- the modulus is small, and so are the sum and its place
+record Low (s : tie.Start) : Type 0 where
+  modulus : s .args .l .l1 * s .args .l .nc ≤ 2040
+  sum : getD (s .args .numbers .now) (s .args .l .l1 + s .args .j) 0 ≤ s .args .l .l1 * s .args .l .nc
+  index : s .args .l .l1 + s .args .j ≤ 510
+
+low : (s : tie.Start) → Low s
+low s =
+    let f = s .pre .0 .0 in
+    let z = sizes (s .args .l) (legal-bounds (s .args .l) (f .allowed)) in
+    record {
+      modulus = string-high (s .args .l) (f .allowed);
+      sum = f .low (s .args .j) (s .pre .0 .1 .1 .0);
+      index = omega (arith, z .l1-high, z .l2-high, s .pre .0 .1 .1 .0);
+    }
+
+mul-modulus : tie.Need-mul-modulus
+mul-modulus c = record { fits = omega (arith, low (c .before .before .before .before .before .before .before .before .before .before) .modulus) }
+
+add-modulus : tie.Need-add-modulus
+add-modulus c = record { fits = omega (arith, low (c .before .before .before .before .before .before .before .before .before .before) .modulus) }
+
+add-missing : tie.Need-add-missing
+add-missing c = record { fits = omega (arith, low (c .before .before .before .before .before .before .before .before .before .before .before) .index) }
+
+mul-missing : tie.Need-mul-missing
+mul-missing c = record { fits = omega (arith, low (c .before .before .before .before .before .before .before .before .before .before .before) .index) }
+
+shared-slice-read-missing : tie.Need-shared-slice-read-missing
+shared-slice-read-missing c =
+    let s = c .before .before .before .before .before .before .before .before .before .before .before .before in
+    omega (arith, s .pre .0 .0 .sums, s .pre .0 .1 .1 .0)
+
+cast-missing : tie.Need-cast-missing
+cast-missing c =
+    let b = low (c .before .before .before .before .before .before .before .before .before .before .before .before) in
+    record { fits = omega (arith, b .modulus, b .sum) }
+
+mul-missing-2 : tie.Need-mul-missing-2
+mul-missing-2 c = record { fits = omega (arith, low (c .before .before .before .before .before .before .before .before .before .before .before .before) .index) }
+
+shared-slice-read-missing-2 : tie.Need-shared-slice-read-missing-2
+shared-slice-read-missing-2 c =
+    let s = c .before .before .before .before .before .before .before .before .before .before .before .before .before in
+    omega (arith, s .pre .0 .1 .1 .0, s .pre .0 .1 .1 .1 .0)
+
+cast-missing-2 : tie.Need-cast-missing-2
+cast-missing-2 c =
+    let a = c .before .before .before .before .before .before .before .before .before .before .before .before .before .args in
+    record { fits = omega (arith, c .shared-slice-known10 .given (a .j)) }
+
+missing-requires : tie.Need-missing-requires
+missing-requires c κs =
+    let b = low (c .before .before .before .before .before .before .before .before .before .before .before .before .before) in
+    (omega (arith, b .sum), omega (arith, b .modulus))
+
+sweep-requires : tie.Need-sweep-requires
+sweep-requires c κs =
+    let s = c .before .before .before .before .before .before .before .before .before .before .before .before .before .before .before in
+    let p = s .pre in
+    let f = p .0 .0 in
+    let d = p .1 .0 in
+    let room : stride (each (s .args .shape .size)) (s .args .heavy .n) ≤ s .args .shape .states =
+    omega (arith, ap (stride (each (s .args .shape .size))) (d .blocks), d .shaped .all)
+    in (
+      record {
+        seeable =
+            record {
+              allowed = f .allowed;
+              bits = f .bits;
+              short = f .short;
+              tables = p .0 .1 .0;
+              few = f .few;
+              blocks = f .inside;
+              column = p .0 .1 .1 .0;
+            };
+        others = p .0 .1 .1 .1 .1;
+        blocks = d .blocks;
+        shaped = d .shaped;
+        states = d .states;
+        within = d .within;
+        below = c .before .missing .ensures .0;
+        high = omega (arith, low s .modulus);
+        marked = d .marked;
+        counted = d .counted;
+        long-some = d .long-some;
+        long-fresh = p .1 .1;
+      },
+      record {
+        inside = omega arith;
+        room = omega (arith, room);
+        low = omega arith;
+        high = omega arith;
+        apart-low = omega arith;
+      },
+    )
+
+same-length : tie.Need-same-length
+same-length c = c .before .before .sweep .ensures .raises .long
+
+returns : tie.Need-returns
+returns c =
+    let w = c .before .before in
+    let n = w .before .before in
+    let s = n .before .before .before .before .before .before .before .before .before .before .before .before .before .before in
+    let a = s .args in
+    let p = s .pre in (
+      w .sweep .ensures .raises,
+      λ row vs next light x m.
+          let f = p .0 .0 in
+          let is = n .missing .ensures .1 (brings (a .l) (a .heavy) (a .j) vs (a .heavy .n))
+          (light-low x f (p .0 .1 .1 .0) (a .known .now) light) (light-brings x f (p .0 .1 .1 .0) (a .known .now) light) in
+          w .sweep .ensures .gains (a .numbers .now) row vs next x
+          (chosen-none (a .l) (a .heavy) (a .z .now) (a .shape) (a .j) _ next vs (p .1 .0 .blocks) refl) is m,
+    )
+
+pub raise-spec : {M : Type 1} → statement M
+raise-spec =
+    tie.close
+    (tie.spec
+    mul-modulus
+    add-modulus
+    add-missing
+    mul-missing
+    shared-slice-read-missing
+    cast-missing
+    mul-missing-2
+    shared-slice-read-missing-2
+    cast-missing-2
+    missing-requires
+    sweep-requires
+    same-length
+    returns)
