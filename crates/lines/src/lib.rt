@@ -7,6 +7,7 @@ ghost use Prim.Native.Nat.{ℕ, _+_, _-_, _*_, _<_, _≤_};
 ghost use lib.ListN.{length, getD, take, drop};
 ghost use Rattle.bits.specs.Bits.{AllBits, longest, number, digits, same};
 ghost use Rattle.vt.specs.Sum.{total, sum as sumOf};
+ghost use Rattle.vt.specs.Weights.{weights};
 ghost use Rattle.lines.specs.Lines.{line, Inside, holed, Mendable};
 
 // The nc bits of a chunk from a place of a slice on.
@@ -43,34 +44,44 @@ pub fn spread(
     }
 }
 
-// The total of the positions of a chunk's ones, where its first bit stands at a position.
-pub fn chunk_total(nc: usize, v: u8, first: usize) -> usize
-    requires { ⌜ (nc ≤ 8) × (first ≤ longest + 1) ⌝ }
-    ensures { λ r. ⌜ (r ≡ total first (digits nc v)) × (r ≤ 8 * (longest + 9)) ⌝ }
+// The total of the positions of a chunk's ones, where its first bit stands at a position. The chunk is the last nc bits of v; the
+// table is that of what each byte weighs.
+pub fn chunk_total(t: &[u16; 256], nc: usize, v: u8, first: usize) -> usize
+    requires { ⌜ ((now t ≡ weights) × (nc ≤ 8)) × ((1 ≤ first) × (first ≤ longest + 1)) ⌝ }
+    ensures { λ r. ⌜ (r ≡ total first (digits nc v)) × (r ≤ 20000) ⌝ }
 {
-    let mut t: usize = 0;
-    let mut i: usize = 0;
-    while i < nc {
-        let shift = nc - 1 - i;
-        let bit = (v >> shift) % 2;
-        t += (first + i) * bits::wide(bit);
-        i += 1;
-    }
-    t
+    let ones = (bits::power(nc) - 1) as u8;
+    message::chunks::chunk_total(t, nc, v & ones, first)
 }
 
-// The sum of a line, chunk by chunk where they stand.
-pub fn line_sum(nc: usize, start: usize, stride: usize, count: usize, vs: &[u8]) -> usize
-    requires { ⌜ Inside nc start stride count (length (now vs)) ⌝ }
-    ensures { λ r. ⌜ r ≡ sumOf (line nc start stride count (now (vs .entry))) ⌝ }
+// The total of the positions of a line's ones, chunk by chunk where they stand.
+pub fn line_total(
+    table: &[u16; 256],
+    nc: usize,
+    start: usize,
+    stride: usize,
+    count: usize,
+    vs: &[u8],
+) -> usize
+    requires { ⌜ (now table ≡ weights) × Inside nc start stride count (length (now vs)) ⌝ }
+    ensures { λ r. ⌜ r ≡ total 1 (line nc start stride count (now (vs .entry))) ⌝ }
 {
     let mut sum: usize = 0;
     let mut t: usize = 0;
     while t < count {
-        sum += chunk_total(nc, vs[start + t * stride], t * nc + 1);
+        sum += chunk_total(table, nc, vs[start + t * stride], t * nc + 1);
         t += 1;
     }
-    sum % (count * nc + 1)
+    sum
+}
+
+// The sum of a line.
+pub fn line_sum(nc: usize, start: usize, stride: usize, count: usize, vs: &[u8]) -> usize
+    requires { ⌜ Inside nc start stride count (length (now vs)) ⌝ }
+    ensures { λ r. ⌜ r ≡ sumOf (line nc start stride count (now (vs .entry))) ⌝ }
+{
+    let table = vt::weights();
+    line_total(&table, nc, start, stride, count, vs) % (count * nc + 1)
 }
 
 // A line with the bits at hand in the place of chunk hole, at the start of a slice.
