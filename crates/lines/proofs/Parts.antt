@@ -44,6 +44,11 @@ module _ (nc start stride count t : ℕ) (h : t < count) where
       (ap (λ (i : ℕ). total i (d ++ back)) n ∙ total-append (t * nc + 1) d back
       ∙ ap (λ (k : ℕ). total (t * nc + 1) d + total (t * nc + 1 + k) back) m)
 
+  -- what a chunk brings is part of its line's total
+  pub total-own : (us : List ℕ)
+      → total (t * nc + 1) (digits nc (getD us (start + t * stride) 0)) ≤ total 1 (line nc start stride count us)
+  total-own us = omega (arith, in-parts us)
+
   -- lines that are alike but for chunk t
   pub total-but : (us vs : List ℕ)
       → ((i : ℕ) → i < count → (i ≡ t → ⊥) → getD us (start + i * stride) 0 ≡ getD vs (start + i * stride) 0)

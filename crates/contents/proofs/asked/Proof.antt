@@ -1,11 +1,11 @@
 -- `contents::asked` meets its contract: the sum of the line with a zero for the chunk and what the chunk brings make its sum.
 -- Assumes nothing.
 use borrow.Author.Needs.{needs}
-use Prim.Native.Nat.{ℕ, _+_, _-_, _*_, _%_, _<_, _≤_}
-use mathlib.Core.Path.{_≡_, ap, _∙_}
+use Prim.Native.Nat.{_+_, _-_, _*_, _%_, _<_, _≤_}
+use mathlib.Core.Path.{_≡_, _∙_}
 use native.Mathlib.Omega.{arith}
-use lib.ListN.{length, getD, set}
-use Rattle.bits.specs.Bits.{longest, digits}
+use lib.ListN.{length, set}
+use Rattle.bits.specs.Bits.{longest}
 use Rattle.vt.specs.Sum.{total, sum}
 use Rattle.message.proofs.Fields.{field-room}
 use Rattle.message.proofs.Positions.{sum-high}

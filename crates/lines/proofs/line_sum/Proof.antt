@@ -2,7 +2,6 @@
 use borrow.Author.Needs.{needs}
 use Prim.Native.Nat.{ℕ, _+_, _*_, _%_}
 use mathlib.Core.Path.{ap, _∙_}
-use native.Mathlib.Omega.{arith}
 use Rattle.lines.proofs.Turns.{sum-of-total}
 use Rattle.lines.proofs.line_sum.Statement.{statement}
 use Rattle.lines.proofs.line_sum.Tie as tie

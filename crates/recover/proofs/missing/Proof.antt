@@ -1,20 +1,18 @@
 -- `recover::missing` meets its contract: before the i-th turn the first i sums are those of the checks given and the row's
 -- own. Assumes nothing.
 use borrow.Author.Needs.{needs}
-use Prim.Native.Nat.{ℕ, _+_, _-_, _*_, _%_, _^_, _<_, _≤_}
-use mathlib.Core.Path.{_≡_, refl, ap, _∙_}
+use Prim.Native.Nat.{ℕ, _+_, _-_, _%_, _^_, _<_, _≤_}
+use mathlib.Core.Path.{_≡_, refl, _∙_}
 use mathlib.Core.List.{List, [], _∷_}
 use native.Mathlib.Nat.{mod-lt}
 use native.Mathlib.Omega.{arith}
 use lib.Bits.{bitXor, xor-lt}
-use lib.Pow.{pow-pos}
-use lib.ListN.{length, getD, take, length-set}
-use Rattle.field.specs.Field.{Element, Elements, check}
+use lib.ListN.{length, getD, length-set}
+use Rattle.field.specs.Field.{Element}
 use Rattle.field.proofs.Double.{size-low, size-high}
 use Rattle.field.proofs.Linear.{check-element}
-use Rattle.message.proofs.Legal.{Bounds, legal-bounds, sizes}
+use Rattle.message.proofs.Legal.{Bounds, legal-bounds}
 use Rattle.bits.proofs.Laws.{bit-at}
-use Rattle.recover.proofs.Recovered.{elements-take}
 use Rattle.erasures.proofs.Erasures.{set-each}
 use Rattle.recover.proofs.missing.Statement.{statement}
 use Rattle.recover.proofs.missing.Tie as tie
