@@ -17,19 +17,20 @@ pub struct Cells {
     pub place: [usize; 12],
 }
 
-// The losses that are still open among the cells with this key, their block or their column.
+// The losses that are still open among the cells with this key, their block or their column. They are counted in 16 bits, so that
+// the loop is done many cells at a time.
 pub fn share(keys: [u8; 12], lost: [u8; 12], key: u8) -> usize
     ensures { λ r. ⌜ r ≡ shared keys lost key ⌝ }
 {
-    let mut total: usize = 0;
+    let mut total: u16 = 0;
     let mut z: usize = 0;
     while z < 12 {
         if keys[z] == key {
-            total += bits::wide(lost[z]);
+            total += lost[z] as u16;
         }
         z += 1;
     }
-    total
+    total as usize
 }
 
 // The first cell that has the only open loss of its key; 12 where there is none.

@@ -12,5 +12,6 @@ Allows nc a v = (a .rest + total (a .first) (digits nc v)) % a .modulus ≡ a .w
 -- its numbers are those of a line of the papers
 pub record Small (a : Ask) : Type 0 where
   pub rest : a .rest ≤ longest
+  pub first-low : 1 ≤ a .first
   pub first : a .first ≤ longest + 1
   pub modulus : 0 < a .modulus

@@ -93,20 +93,23 @@ pub fn asked(
     stride: usize,
     count: usize,
     t: usize,
-    row: [u8; 255],
+    row: &[u8; 255],
     want: usize,
 ) -> Ask
     requires { ⌜ Inside nc start stride count 255 × ((0 < stride) × (t < count)) ⌝ }
-    ensures { λ r. ⌜ Small r
-        × ((v : ℕ) → sum (line nc start stride count (set row (start + t * stride) v)) ≡ want → Allows nc r v) ⌝ }
+    ensures { λ r. ⌜ Small r × ((v : ℕ)
+        → sum (line nc start stride count (set (now (row .entry)) (start + t * stride) v)) ≡ want → Allows nc r v) ⌝ }
 {
     let at = start + t * stride;
-    let mut bare = row;
-    bare[at] = 0;
+    let first = t * nc + 1;
+    let modulus = count * nc + 1;
+    let table = vt::weights();
+    let own = lines::chunk_total(&table, nc, row[at], first);
+    let whole = lines::line_total(&table, nc, start, stride, count, row);
     Ask {
-        rest: lines::line_sum(nc, start, stride, count, &bare),
-        first: t * nc + 1,
-        modulus: count * nc + 1,
+        rest: (whole - own) % modulus,
+        first: first,
+        modulus: modulus,
         want: want,
     }
 }
@@ -116,11 +119,12 @@ fn sift_each(nc: usize, a: Ask, out: &mut [u8], n: usize) -> usize
     requires { ⌜ (nc ≤ 8) × (Small a × (n ≤ length (now out))) ⌝ }
     ensures { λ r. ⌜ (r ≤ n) × ((w : ℕ) → Among (now (out .entry)) 0 n w → Allows nc a w → Among (now (out .exit)) 0 r w) ⌝ }
 {
+    let table = vt::weights();
     let mut k: usize = 0;
     let mut i: usize = 0;
     while i < n {
         let v = out[i];
-        if (a.rest + lines::chunk_total(nc, v, a.first)) % a.modulus == a.want {
+        if (a.rest + lines::chunk_total(&table, nc, v, a.first)) % a.modulus == a.want {
             out[k] = v;
             k += 1;
         }

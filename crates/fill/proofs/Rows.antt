@@ -1,6 +1,5 @@
--- What is known of a consistent row under a state: a line of chunks at most one of which is open has its sum, a row without open
--- chunks is the one in hand, and its chunk at a cell is one of the contents tried. Rests on the laws of lines, found and cells.
--- Assumes nothing.
+-- What is known of a consistent row under a state: a line of chunks at most one of which is open has its sum, and its chunk at a
+-- cell is one of the contents tried. Rests on the laws of lines, found and cells. Assumes nothing.
 use Prim.Native.Nat.{ℕ, _+_, _*_, _<_}
 use mathlib.Core.Path.{_≡_, refl, sym, ap, _∙_}
 use mathlib.Core.Logic.{_⊎_, inl, inr, ⊎-elim}
@@ -21,7 +20,6 @@ use Rattle.cells.specs.Cells.{share, chunkOf, Open, Placed, Under, found}
 use Rattle.cells.specs.declared.Cells.{Cells}
 use Rattle.cells.proofs.Shares.{all-found}
 use Rattle.cells.proofs.State.{decide, closed-column, closed-block}
-use Rattle.recover.proofs.Recovered.{chunk-in-hand}
 use Rattle.fill.specs.Fill.{AllLose, With, Tried}
 
 -- ---- one consistent row under a state
@@ -42,11 +40,6 @@ module _ {l : Layout} {numbers y x : List ℕ} (given : Given l numbers y) (s : 
       ap sum (sym (closed-block l y cells row x u i n h e))
       ∙ sym (block-line l x (s .0) i h)
       ∙ sent-parts given x s .blocks i h
-
-  -- where no cell is open the row is the one in hand
-  pub none-open : ((z : ℕ) → z < 12 → getD (cells .lost) z 0 ≡ 0) → InHand l row x
-  none-open n c h =
-      chunk-in-hand l (given .is-legal) y cells row x u c h (λ o. absurd (omega (arith, o .1 .0, n (o .0) (o .1 .0 .0))))
 
 -- ---- a cell that is the only open one of its chunk-string, or of its block
 module _ {l : Layout} {numbers y x : List ℕ} (given : Given l numbers y) (s : Sent l numbers y x)

@@ -37,9 +37,7 @@ fn alone(keys: [u8; 12], lost: [u8; 12], z: usize) -> bool
     requires { ⌜ z < 12 ⌝ }
     ensures { λ r. ⌜ r ≡ eqb (share keys (set lost z 0) (getD keys z 0)) 0 ⌝ }
 {
-    let mut others = lost;
-    others[z] = 0;
-    cells::share(keys, others, keys[z]) == 0
+    cells::share(keys, lost, keys[z]) == bits::wide(lost[z])
 }
 
 // How dear it is to try the contents of cell z, below CLOSED if it is open: the sum of a line in which it is the only open one
@@ -98,7 +96,7 @@ fn ask_string(l: Layout, numbers: &[u16], cells: Cells, row: [u8; 255], z: usize
     let i = bits::wide(cells.block[z]);
     let j = bits::wide(column[z]);
     let k = l.l1 + j;
-    contents::asked(l.nc, j, l.l2, l.l1, i, row, wide(numbers[k]))
+    contents::asked(l.nc, j, l.l2, l.l1, i, &row, wide(numbers[k]))
 }
 
 // The same of its block.
@@ -114,7 +112,7 @@ fn ask_block(l: Layout, numbers: &[u16], cells: Cells, row: [u8; 255], z: usize)
     }
     let i = bits::wide(block[z]);
     let j = bits::wide(cells.column[z]);
-    contents::asked(l.nc, i * l.l2, 1, l.l2, j, row, wide(numbers[i]))
+    contents::asked(l.nc, i * l.l2, 1, l.l2, j, &row, wide(numbers[i]))
 }
 
 // Lists the contents of cell z, which is open, that lose just its count and that its sums allow; the answer is how many they are.
@@ -172,7 +170,7 @@ fn add_recovered(
     ensures { λ r. ⌜ Grown l (now (numbers .entry)) (now (y .entry)) cap (Under l (now (y .entry)) cells row)
         (now (list .entry)) (kept .count) (kept .more) (now (list .exit)) (r .count) (r .more) ⌝ }
 {
-    let whole = recover::recover(l, numbers, erased, row);
+    let whole = recover::recover(l, numbers, erased, &row);
     if !all_lose(l, y, cells, &whole) {
         return kept;
     }
@@ -181,7 +179,7 @@ fn add_recovered(
 
 // How many cells are open.
 fn open_cells(lost: [u8; 12]) -> usize
-    ensures { λ r. ⌜ r ≤ 12 ⌝ }
+    ensures { λ r. ⌜ (r ≤ 12) × (((k : ℕ) → k < 12 → getD lost k 0 ≡ 0) → r ≡ 0) ⌝ }
 {
     let mut n: usize = 0;
     let mut z: usize = 0;
@@ -197,7 +195,8 @@ fn open_cells(lost: [u8; 12]) -> usize
 // The open cells as erased chunks, or more of them than there are checks, where their places are not needed.
 fn few_erased(l: Layout, cells: Cells) -> Erased
     requires { ⌜ ((legal l ≡ true) × OpenInside l cells) ⌝ }
-    ensures { λ r. ⌜ (r .n ≤ l .r → Collected l cells 12 (r .n) (r .places)) ⌝ }
+    ensures { λ r. ⌜ (r .n ≤ l .r → Collected l cells 12 (r .n) (r .places))
+        × (((k : ℕ) → k < 12 → getD (cells .lost) k 0 ≡ 0) → r .n ≤ l .r) ⌝ }
 {
     let lost = cells.lost;
     if l.r < open_cells(lost) {
@@ -263,8 +262,7 @@ fn try_each(
     held
 }
 
-// Every content of the open cells, cell by cell while there are more of them than checks; the others have one content only. Where
-// none is open the row in hand is tested whole.
+// Every content of the open cells, cell by cell while there are more of them than checks; the others have one content only.
 fn try_contents(
     l: Layout,
     y: &[u8],
@@ -280,14 +278,11 @@ fn try_contents(
     ensures { λ r. ⌜ Grown l (now (numbers .entry)) (now (y .entry)) cap (Under l (now (y .entry)) cells row)
         (now (list .entry)) (kept .count) (kept .more) (now (list .exit)) (r .count) (r .more) ⌝ }
 {
-    let z = choose(cells);
-    if z == 12 {
-        return found::add_row(l, y, numbers, row, cap, list, kept);
-    }
     let erased = few_erased(l, cells);
     if erased.n <= l.r {
         return add_recovered(l, y, numbers, cells, erased, row, cap, list, kept);
     }
+    let z = choose(cells);
     try_each(l, y, numbers, cells, row, z, cap, list, kept)
 }
 

@@ -2,4 +2,4 @@
 pub mod Lines
 mod Turns
 pub mod Parts
-mod Holes
+mod Lost

@@ -1,6 +1,6 @@
 -- A row as the numbers of its chunks, and the lines of chunks that have a sum: a block is a line of neighbouring chunks, a
 -- chunk-string a line of every l2-th chunk (document 01, "Rows, blocks, chunks").
-use Prim.Native.Nat.{ℕ, zero, suc, _+_, _-_, _*_, _^_, _<_, _≤_}
+use Prim.Native.Nat.{ℕ, zero, suc, _+_, _*_, _^_, _<_, _≤_}
 use mathlib.Core.Path.{_≡_}
 use mathlib.Core.Bool.{true, cond}
 use mathlib.Core.List.{List, [], _++_, map}
@@ -33,12 +33,6 @@ pub record Inside (nc start stride count size : ℕ) : Type 0 where
   pub short : count * nc ≤ longest
   pub stride-high : stride ≤ 255
   pub last : start + count * stride < size + stride
-
--- the line with the bits at hand in the place of chunk hole
-unfoldable pub holed : (nc start stride count hole : ℕ) → (bits vs : List ℕ) → List ℕ
-unfolding line
-holed nc start stride count hole bits vs =
-    line nc start stride hole vs ++ bits ++ line nc (start + (hole + 1) * stride) stride (count - (hole + 1)) vs
 
 -- the numbers us are those of a row whose line lost one bit: beside chunk hole of the line they are the numbers vs in hand, the line
 -- has the sum s, and the bits at hand come from chunk hole by one deletion

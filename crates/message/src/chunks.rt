@@ -31,7 +31,7 @@ pub fn fill(s: &[u8], n: usize, nc: usize, out: &mut [u8])
 
 // The total of the positions of a chunk's ones, where its first bit stands at a position. The table has the chunk as a byte, in
 // which its first bit stands at position 9 - nc.
-fn chunk_total(t: &[u16; 256], nc: usize, v: u8, first: usize) -> usize
+pub fn chunk_total(t: &[u16; 256], nc: usize, v: u8, first: usize) -> usize
     requires { ⌜ ((now t ≡ weights) × (nc ≤ 8)) × ((v < 2 ^ nc) × ((1 ≤ first) × (first ≤ longest + 1))) ⌝ }
     ensures { λ r. ⌜ (r ≡ total first (digits nc v)) × (r ≤ 20000) ⌝ }
 {

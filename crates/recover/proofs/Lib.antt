@@ -1,3 +1,3 @@
 mod Filled
-pub mod Recovered
+mod Recovered
 mod Spots

@@ -45,7 +45,7 @@ elements-take nc n xs h = (each, short)
         (lt-or-ge k n)
 
 -- a chunk where no cell is open, given by its number in row order, is the one in hand
-pub chunk-in-hand : (l : Layout) → legal l ≡ true → (y : List ℕ) (cells : Cells) (row x : List ℕ) → Under l y cells row x
+chunk-in-hand : (l : Layout) → legal l ≡ true → (y : List ℕ) (cells : Cells) (row x : List ℕ) → Under l y cells row x
     → (c : ℕ) → c < l .l1 * l .l2 → (OpenAt cells (c / l .l2) (c % l .l2) → ⊥) → getD (values l x) c 0 ≡ getD row c 0
 chunk-in-hand l e y cells row x u c h none =
     let low : 0 < l .l2 = legal-bounds l e .l2-low in
@@ -141,7 +141,7 @@ module _ (l : Layout) (ns y x row : List ℕ) (cells : Cells) (n : ℕ) (places 
             ∙ sym (filled-other place content front 0 n c (λ w p q e. other (w, (omega arith, sym e))))
 
     -- so what is missing of the checks is what the erased chunks bring
-    brings : (s : List ℕ) → n ≤ l .r → Missing l ns front s → Brings (l .nc) s place content 0 (n - 0)
+    brings : (s : List ℕ) → n ≤ l .r → Missing l n ns front s → Brings (l .nc) s place content 0 (n - 0)
     brings s few h i g =
         let few : i < l .r = omega arith in
         let b : ℕ = brought (l .nc) i place content 0 n in
@@ -156,7 +156,7 @@ module _ (l : Layout) (ns y x row : List ℕ) (cells : Cells) (n : ℕ) (places 
         ap (λ (v : ℕ). v % 2 ^ l .nc) (given-check i few) ∙ mod-eq-of-lt (check-low i) ∙ sum
         in
         let all : n ≡ n - 0 = omega arith in
-        h i few ∙ ap (λ (v : ℕ). bitXor v f) number ∙ other-summand b f ∙ ap (brought (l .nc) i place content 0) all
+        h i (omega arith) ∙ ap (λ (v : ℕ). bitXor v f) number ∙ other-summand b f ∙ ap (brought (l .nc) i place content 0) all
 
     -- the erased chunks put in, the row is in hand
     recovered : (found exit : List ℕ) → ((w : ℕ) → w < n → getD found w 0 ≡ content w)
@@ -168,7 +168,7 @@ module _ (l : Layout) (ns y x row : List ℕ) (cells : Cells) (n : ℕ) (places 
         (among-or-not places c n)
 
     -- the contents that the checks leave
-    pub solved : (s found exit : List ℕ) → n ≤ l .r → Missing l ns front s
+    pub solved : (s found exit : List ℕ) → n ≤ l .r → Missing l n ns front s
         → ((e : ℕ → ℕ) → Contents (l .nc) e → Brings (l .nc) s place e 0 (n - 0)
         → (w : ℕ) → 0 ≤ w → w < n → getD found w 0 ≡ e w)
         → PutAt n places found base exit → InHand l exit x

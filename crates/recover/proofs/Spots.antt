@@ -68,6 +68,7 @@ module _ (l : Layout) (cells : Cells) where
         few = omega arith;
         spots = record { inside = λ w h. absurd (omega arith); apart = λ v w h g e. absurd (omega arith) };
         all = λ z h o. absurd (omega arith);
+        none = λ h. refl;
       }
 
   -- the next cell when its place is there already, if it is open
@@ -81,12 +82,13 @@ module _ (l : Layout) (cells : Cells) where
             (λ e. rw e (h (rw e at o)))
             (λ d. k .all w (omega arith) o)
             (same-or-not w z);
+        none = λ h. k .none (λ w g. h w (omega arith));
       }
 
   -- the next cell when its place is new
-  pub collected-new : (z n p : ℕ) (places : List ℕ) → n < length places → p ≡ chunkOf l cells z → p < l .l1 * l .l2
-      → (Among n places p → ⊥) → Collected l cells z n places → Collected l cells (z + 1) (n + 1) (set places n p)
-  collected-new z n p places room is low new k =
+  pub collected-new : (z n p : ℕ) (places : List ℕ) → Open cells z → n < length places → p ≡ chunkOf l cells z
+      → p < l .l1 * l .l2 → (Among n places p → ⊥) → Collected l cells z n places → Collected l cells (z + 1) (n + 1) (set places n p)
+  collected-new z n p places unfound room is low new k =
       record {
         few = omega (arith, k .few);
         spots = spots-added n places p room (l .l1 * l .l2) low new (k .spots);
@@ -94,6 +96,7 @@ module _ (l : Layout) (cells : Cells) where
             (λ e. rw e (n, (omega arith, added-same n places p room ∙ is)))
             (λ d. among-added n places p room (chunkOf l cells w) (k .all w (omega arith) o))
             (same-or-not w z);
+        none = λ h. absurd (h z (omega arith) unfound);
       }
 
 -- ---- contents put at the places

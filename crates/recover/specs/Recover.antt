@@ -28,13 +28,14 @@ pub record Collected (l : Layout) (cells : Cells) (k n : ℕ) (places : List ℕ
   pub few : n ≤ k
   pub spots : Spots n (l .l1 * l .l2) places
   pub all : (z : ℕ) → z < k → Open cells z → Among n places (chunkOf l cells z)
+  pub none : ((z : ℕ) → z < k → Open cells z → ⊥) → n ≡ 0
 
 -- the row exit is the row entry with the contents put at the first n places
 pub record PutAt (n : ℕ) (places contents entry exit : List ℕ) : Type 0 where
   pub there : (w : ℕ) → w < n → getD exit (getD places w 0) 0 ≡ getD contents w 0
   pub elsewhere : (p : ℕ) → (Among n places p → ⊥) → getD exit p 0 ≡ getD entry p 0
 
--- the numbers s are what is missing of the checks among the numbers ns: the field sum of each and that of the chunks vs
-abbrev pub Missing : Layout → (ns vs s : List ℕ) → Type 0
-Missing l ns vs s =
-    (i : ℕ) → i < l .r → getD s i 0 ≡ bitXor (getD ns (l .l1 + l .l2 + i) 0 % 2 ^ l .nc) (check (l .nc) i vs)
+-- the numbers s are what is missing of the first n checks among the numbers ns: the field sum of each and that of the chunks vs
+abbrev pub Missing : Layout → (n : ℕ) (ns vs s : List ℕ) → Type 0
+Missing l n ns vs s =
+    (i : ℕ) → i < n → getD s i 0 ≡ bitXor (getD ns (l .l1 + l .l2 + i) 0 % 2 ^ l .nc) (check (l .nc) i vs)

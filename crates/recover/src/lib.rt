@@ -118,40 +118,40 @@ fn reduce(nc: usize, count: usize, row: [u8; 255]) -> [u8; 255]
     out
 }
 
-// What is missing of each check: the field sum of the check and that of the row.
-fn missing(l: Layout, logs: &[u8], numbers: &[u16], row: [u8; 255]) -> [u8; 16]
-    requires { ⌜ (isLegal l ≡ true) × (Logs (l .nc) (now logs) × (Elements (l .nc) row
-        × (length (now numbers) ≡ l .l1 + l .l2 + l .r))) ⌝ }
-    ensures { λ r. ⌜ (Elements (l .nc) r × Missing l (now (numbers .entry)) (take (l .l1 * l .l2) row) r) ⌝ }
+// What is missing of each of the first n checks: the field sum of the check and that of the chunks.
+fn missing(l: Layout, n: usize, logs: &[u8], numbers: &[u16], chunks: &[u8]) -> [u8; 16]
+    requires { ⌜ ((isLegal l ≡ true) × (n ≤ l .r)) × ((Logs (l .nc) (now logs) × (length (now numbers) ≡ l .l1 + l .l2 + l .r))
+        × (Elements (l .nc) (now chunks) × (length (now chunks) < 2 ^ l .nc))) ⌝ }
+    ensures { λ r. ⌜ Elements (l .nc) r × Missing l n (now (numbers .entry)) (now (chunks .entry)) r ⌝ }
 {
     let size = field::order(l.nc) + 1;
     let first = l.l1 + l.l2;
-    let count = l.l1 * l.l2;
     let mut own: [u8; 16] = [0; 16];
-    field::checks(l.nc, l.r, logs, &row[0..count], &mut own);
+    field::checks(l.nc, n, logs, chunks, &mut own);
     let mut out: [u8; 16] = [0; 16];
     let mut i: usize = 0;
-    while i < l.r {
+    while i < n {
         out[i] = ((numbers[first + i] as usize % size) as u8) ^ own[i];
         i += 1;
     }
     out
 }
 
-// The row with the open cells recovered, whose places are those of e: the only contents that the checks allow.
-pub fn recover(l: Layout, numbers: &[u16], e: Erased, row: [u8; 255]) -> [u8; 255]
+// The row with the open cells recovered, whose places are those of e: the only contents that as many checks allow.
+pub fn recover(l: Layout, numbers: &[u16], e: Erased, row: &[u8; 255]) -> [u8; 255]
     requires { ⌜ (isLegal l ≡ true) × ((length (now numbers) ≡ l .l1 + l .l2 + l .r)
         × ((e .n ≤ 12) × ((e .n ≤ l .r) × Spots (e .n) (l .l1 * l .l2) (e .places)))) ⌝ }
     ensures { λ r. ⌜ ((cells : Cells) → Collected l cells 12 (e .n) (e .places)
         → (y x : List ℕ) → Given l (now (numbers .entry)) y → Sent l (now (numbers .entry)) y x
-        → Under l y cells row x → InHand l r x) ⌝ }
+        → Under l y cells (now (row .entry)) x → InHand l r x) ⌝ }
 {
     let nc = l.nc;
     let mut logs: [u8; 256] = [0; 256];
     field::fill_logs(nc, &mut logs);
     let t = field::table();
-    let base = reduce(nc, l.l1 * l.l2, put(row, e, [0; 12]));
-    let s = missing(l, &logs, numbers, base);
+    let count = l.l1 * l.l2;
+    let base = reduce(nc, count, put(*row, e, [0; 12]));
+    let s = missing(l, e.n, &logs, numbers, &base[0..count]);
     let places = e.places;
     let contents = erasures::solve(&t, nc, &logs, places, e.n, 0, s);
     put(base, e, contents)

@@ -69,8 +69,8 @@ fn single(strings: bool, cells: Cells) -> usize
     cells::single(block, lost)
 }
 
-// The chunk of a cell that lost one bit, mended in its line by the line's sum. It fails where too few bits are left, where the
-// line does not give its other chunks back, or where the chunk found does not lose just one bit against y from the place on.
+// The chunk of a cell that lost one bit, mended in its line by the line's sum. It fails where too few bits are left, where no bit
+// of the chunk gives the line its sum, or where the chunk found does not lose just one bit against y from the place on.
 fn mend_cell(nc: usize, y: &[u8], place: usize, n: Line, sum: usize, row: [u8; 255]) -> Mended
     requires { ⌜ Ready nc (now y) place n sum ⌝ }
     ensures { λ r. ⌜ ((us : List ℕ) → Short nc n sum (drop place (now (y .entry))) row us

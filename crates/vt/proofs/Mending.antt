@@ -34,7 +34,7 @@ reduce : (v m : ℕ) → 0 < m → v < m + m → ((v < m) × (v % m ≡ v)) ⊎ 
 reduce v m h k = ⊎-elim (λ p. inl (p, mod-eq-of-lt p)) (λ p. inr (p, mod-eq-sub-mod p ∙ mod-eq-of-lt (omega arith))) (lt-or-ge v m)
 
 -- what is added to a is known from the remainder
-same-mod : (a g h m : ℕ) → g < m → h < m → (a + g) % m ≡ (a + h) % m → g ≡ h
+pub same-mod : (a g h m : ℕ) → g < m → h < m → (a + g) % m ≡ (a + h) % m → g ≡ h
 same-mod a g h m p q e =
     let r : ℕ = a % m in
     let l : r < m = mod-lt a (omega arith) in

@@ -321,7 +321,7 @@ fn weigh_bytes(t: &[u16; 256], s: &[u8]) -> Weight
 }
 
 // The total and the number of the ones.
-fn weigh(bits: &[u8]) -> Weight
+pub fn weigh(bits: &[u8]) -> Weight
     requires { ⌜ AllBits (now bits) × (length (now bits) ≤ longest) ⌝ }
     ensures { λ r. ⌜ (r .total ≡ total 1 (now (bits .entry))) × (r .ones ≡ ones (now (bits .entry))) ⌝ }
 {
@@ -394,7 +394,7 @@ fn put_in(bits: &[u8], at: usize, bit: u8, out: &mut [u8])
 }
 
 // What a bit that is put in must add to a total, so that a string of w bits gets the sum s.
-fn lacking(w: usize, s: usize, total: usize) -> usize
+pub fn lacking(w: usize, s: usize, total: usize) -> usize
     requires { ⌜ (w ≤ longest) × (s ≤ w) ⌝ }
     ensures { λ t. ⌜ (t ≤ w) × ((total + t) % (w + 1) ≡ s) ⌝ }
 {

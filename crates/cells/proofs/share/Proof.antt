@@ -27,18 +27,18 @@ loop-holds c = search needs
 array-read-if1 : tie.Need-array-read-if1 Inv-loop μ-loop
 array-read-if1 c = search needs
 
-array-read-wide : tie.Need-array-read-wide Inv-loop μ-loop
-array-read-wide c = search needs
+array-read-total : tie.Need-array-read-total Inv-loop μ-loop
+array-read-total c = search needs
 
-wide-requires : tie.Need-wide-requires Inv-loop μ-loop
-wide-requires c κs = search needs
+-- the losses of a cell are a byte
+byte : (c : tie.Then1 Inv-loop μ-loop) → Fits w8 (getD (c .before .before .before .args .t2) (c .before .before .loop .z) 0)
+byte c = search needs
+
+cast-total : tie.Need-cast-total Inv-loop μ-loop
+cast-total c = record { fits = omega (arith, byte c) }
 
 add-total : tie.Need-add-total Inv-loop μ-loop
-add-total c =
-    let a = c .before .before .before .before .args in
-    let z = c .before .before .before .loop .z in
-    let b : Fits w8 (getD (a .t2) z 0) = search needs in
-    record { fits = omega (arith, c .wide .ensures) }
+add-total c = record { fits = omega (arith, byte c) }
 
 add-z : tie.Need-add-z Inv-loop μ-loop
 add-z c = search needs
@@ -57,11 +57,14 @@ loop-again c =
     ⊎-elim
     (λ w.
     let m = rw (eq-eqb (getD (a .t1) (p .z) 0) (a .key) (w .0 .taken)) at n in
-    (omega arith, (omega (arith, w .1 .ensures), omega (arith, w .1 .ensures, p .inv .1 .1, m))))
+    (omega arith, (omega (arith, w .1), omega (arith, w .1, p .inv .1 .1, m))))
     (λ w.
     let m = rw (ne-eqb (getD (a .t1) (p .z) 0) (a .key) (w .0 .left)) at n in
     (omega arith, (omega arith, omega (arith, p .inv .1 .1, m))))
     (c .if1 .came)
+
+cast-result : tie.Need-cast-result Inv-loop μ-loop
+cast-result c = search needs
 
 returns : tie.Need-returns Inv-loop μ-loop
 returns c =
@@ -78,10 +81,11 @@ share-spec =
     μ-loop
     loop-holds
     array-read-if1
-    array-read-wide
-    wide-requires
+    array-read-total
+    cast-total
     add-total
     add-z
     loop-less
     loop-again
+    cast-result
     returns)

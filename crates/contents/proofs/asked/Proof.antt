@@ -1,16 +1,17 @@
 -- `contents::asked` meets its contract: the sum of the line with a zero for the chunk and what the chunk brings make its sum.
 -- Assumes nothing.
 use borrow.Author.Needs.{needs}
-use Prim.Native.Nat.{_+_, _*_, _<_, _≤_}
+use Prim.Native.Nat.{_+_, _-_, _*_, _%_, _<_, _≤_}
 use mathlib.Core.Path.{_≡_, _∙_}
 use native.Mathlib.Omega.{arith}
-use lib.ListN.{length, set, length-set}
+use lib.ListN.{length, set}
 use Rattle.bits.specs.Bits.{longest}
+use Rattle.vt.specs.Sum.{total, sum}
 use Rattle.message.proofs.Fields.{field-room}
 use Rattle.message.proofs.Positions.{sum-high}
 use Rattle.lines.specs.Lines.{line}
 use Rattle.lines.proofs.Lines.{length-line}
-use Rattle.lines.proofs.Parts.{sum-set}
+use Rattle.lines.proofs.Parts.{sum-set, sum-rest}
 use Rattle.contents.proofs.asked.Statement.{statement}
 use Rattle.contents.proofs.asked.Tie as tie
 
@@ -30,49 +31,68 @@ mul-at c = omega (arith, stands c)
 add-at : tie.Need-add-at
 add-at c = omega (arith, stands c)
 
-array-write-bare : tie.Need-array-write-bare
-array-write-bare c = omega (arith, stands c)
+mul-first : tie.Need-mul-first
+mul-first c = omega (arith, stands c)
 
-slice-aggregate-line-sum : tie.Need-slice-aggregate-line-sum
-slice-aggregate-line-sum c = search needs
+add-first : tie.Need-add-first
+add-first c = omega (arith, stands c)
 
-line-sum-requires : tie.Need-line-sum-requires
-line-sum-requires c κs =
-    let i = c .before .pre .0 in
-    let long : length (c .before .args .row) ≡ 255 = search needs in
-    record {
-      nc-high = i .nc-high;
-      short = i .short;
-      stride-high = i .stride-high;
-      last = simp length-set (omega (arith, i .last));
-    }
+mul-modulus : tie.Need-mul-modulus
+mul-modulus c = search needs
 
-mul-t15 : tie.Need-mul-t15
-mul-t15 c = omega (arith, stands (c .before .before))
+add-modulus : tie.Need-add-modulus
+add-modulus c = search needs
 
-add-t16 : tie.Need-add-t16
-add-t16 c = omega (arith, stands (c .before .before))
+weights-requires : tie.Need-weights-requires
+weights-requires c κs = search needs
 
-mul-t17 : tie.Need-mul-t17
-mul-t17 c = omega (arith, stands (c .before .before))
+element-copy-out-chunk-total : tie.Need-element-copy-out-chunk-total
+element-copy-out-chunk-total c = omega (arith, stands (c .before .before))
 
-add-t18 : tie.Need-add-t18
-add-t18 c = omega (arith, stands (c .before .before))
+chunk-total-requires : tie.Need-chunk-total-requires
+chunk-total-requires c κs =
+    let s = c .before .before .before in
+    ((c .before .before .weights .ensures, s .pre .0 .nc-high), (omega arith, omega (arith, stands s)))
+
+line-total-requires : tie.Need-line-total-requires
+line-total-requires c κs = search needs
+
+-- the row has 255 chunks
+row-length : (c : tie.After-line-total) → length (c .before .before .before .before .before .before .before .args .row .now) ≡ 255
+row-length c = search needs
+
+-- what the chunk leaves of the total of the line
+rest : (c : tie.After-line-total) →
+    let a = c .before .before .before .before .before .before .before .args in
+    (c .before .before .before .chunk-total .result ≤ c .line-total .result)
+    × ((c .line-total .result - c .before .before .before .chunk-total .result) % (a .count * a .nc + 1)
+    ≡ sum (line (a .nc) (a .start) (a .stride) (a .count) (set (a .row .now) (a .start + a .t * a .stride) 0)))
+rest c =
+    let s = c .before .before .before .before .before .before .before in
+    let a = s .args in
+    sum-rest (a .nc) (a .start) (a .stride) (a .count) (a .t) (s .pre .1 .1) (a .row .now) (s .pre .1 .0)
+    (omega (arith, stands s .0, row-length c)) (c .line-total .result) (c .before .before .before .chunk-total .result)
+    (c .line-total .ensures) (c .before .before .before .chunk-total .ensures .0)
+
+sub-t14 : tie.Need-sub-t14
+sub-t14 c = rest c .0
+
+rem-t23 : tie.Need-rem-t23
+rem-t23 c = search needs
 
 returns : tie.Need-returns
 returns c =
-    let s = c .before .before in
+    let s = c .before .before .before .before .before .before .before in
     let a = s .args in
     let at = a .start + a .t * a .stride in
-    let long : length (a .row) ≡ 255 = search needs in
-    let e = c .line-sum .ensures in
-    let bare = line (a .nc) (a .start) (a .stride) (a .count) (set (a .row) at 0) in
+    let bare = line (a .nc) (a .start) (a .stride) (a .count) (set (a .row .now) at 0) in
     let low = sum-high bare in
-    let n = length-line (a .nc) (a .start) (a .stride) (a .count) (set (a .row) at 0) in
+    let n = length-line (a .nc) (a .start) (a .stride) (a .count) (set (a .row .now) at 0) in
+    let e = rest c .1 in
     let h = stands s in (
-      record { rest = omega (arith, h .1); first = omega (arith, h .1); modulus = omega arith },
-      λ v k. rw e (sum-set (a .nc) (a .start) (a .stride) (a .count) (a .t) (s .pre .1 .1) v (a .row) (s .pre .1 .0)
-          (omega (arith, h .0)) ∙ k),
+      record { rest = rw e (omega (arith, h .1)); first-low = omega arith; first = omega (arith, h .1); modulus = omega arith },
+      λ v k. rw e (sum-set (a .nc) (a .start) (a .stride) (a .count) (a .t) (s .pre .1 .1) (a .row .now) (s .pre .1 .0)
+          (omega (arith, h .0, row-length c)) v ∙ k),
     )
 
 pub asked-spec : {M : Type 1} → statement M
@@ -81,11 +101,14 @@ asked-spec =
     (tie.spec
     mul-at
     add-at
-    array-write-bare
-    slice-aggregate-line-sum
-    line-sum-requires
-    mul-t15
-    add-t16
-    mul-t17
-    add-t18
+    mul-first
+    add-first
+    mul-modulus
+    add-modulus
+    weights-requires
+    element-copy-out-chunk-total
+    chunk-total-requires
+    line-total-requires
+    sub-t14
+    rem-t23
     returns)

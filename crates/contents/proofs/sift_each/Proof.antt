@@ -10,33 +10,47 @@ use Rattle.contents.proofs.sift_each.Statement.{statement}
 use Rattle.contents.proofs.sift_each.Tie as tie
 
 abbrev Inv-loop : tie.InvT-loop
-Inv-loop nc a out₀ n k₀ i₀ out k i = (i ≤ n) × Sifted nc a out₀ i out k
+Inv-loop nc a out₀ n table k₀ i₀ out k i = (i ≤ n) × Sifted nc a out₀ i out k
 
 abbrev μ-loop : tie.MeasureT-loop
-μ-loop nc a out₀ n k₀ i₀ out k i = n - i
+μ-loop nc a out₀ n table k₀ i₀ out k i = n - i
+
+weights-requires : tie.Need-weights-requires Inv-loop μ-loop
+weights-requires c κs = search needs
 
 loop-holds : tie.Need-loop-holds Inv-loop μ-loop
-loop-holds c = (search needs, sifted-none (c .before .args .nc) (c .before .args .a) (c .before .args .out .now))
+loop-holds c =
+    let a = c .before .before .args in
+    (search needs, sifted-none (a .nc) (a .a) (a .out .now))
 
 slice-read-v : tie.Need-slice-read-v Inv-loop μ-loop
-slice-read-v c = omega (arith, c .before .before .loop .inv .1 .long, c .before .before .before .before .pre .1 .1)
+slice-read-v c =
+    let p = c .before .before in
+    omega (arith, p .loop .inv .1 .long, p .before .before .before .pre .1 .1)
 
 chunk-total-requires : tie.Need-chunk-total-requires Inv-loop μ-loop
-chunk-total-requires c κs = let s = c .before .before .before .before in (s .pre .0, s .pre .1 .0 .first)
+chunk-total-requires c κs =
+    let w = c .before .before .before .before in
+    let s = w .before .before in
+    ((w .weights .ensures, s .pre .0), (s .pre .1 .0 .first-low, s .pre .1 .0 .first))
 
 add-if1 : tie.Need-add-if1 Inv-loop μ-loop
-add-if1 c = omega (arith, c .before .chunk-total .ensures .1, c .before .before .before .before .before .before .pre .1 .0 .rest)
+add-if1 c =
+    let p = c .before .before .before .before .before in
+    omega (arith, c .before .chunk-total .ensures .1, p .before .before .before .pre .1 .0 .rest)
 
 rem-if1 : tie.Need-rem-if1 Inv-loop μ-loop
-rem-if1 c = omega (arith, c .before .before .before .before .before .before .before .pre .1 .0 .modulus)
+rem-if1 c =
+    let p = c .before .before .before .before .before .before in
+    omega (arith, p .before .before .before .pre .1 .0 .modulus)
 
 slice-write-out : tie.Need-slice-write-out Inv-loop μ-loop
 slice-write-out c =
-    let p = c .before .before .before .before .before .before .before in
-    omega (arith, p .loop .inv .1 .few, p .loop .inv .1 .long, p .before .before .pre .1 .1)
+    let p = c .before .before .before .before .before .before .before .before in
+    omega (arith, p .loop .inv .1 .few, p .loop .inv .1 .long, p .before .before .before .pre .1 .1)
 
 add-k : tie.Need-add-k Inv-loop μ-loop
-add-k c = omega (arith, c .before .before .before .before .before .before .before .loop .inv .1 .few)
+add-k c = omega (arith, c .before .before .before .before .before .before .before .before .loop .inv .1 .few)
 
 add-i : tie.Need-add-i Inv-loop μ-loop
 add-i c = search needs
@@ -47,11 +61,11 @@ loop-less c = search needs
 loop-again : tie.Need-loop-again Inv-loop μ-loop
 loop-again c =
     let t = c .before .before .before .before .chunk-total .ensures .0 in
-    let p = c .before .before .before .before .before .before .before in
-    let s = p .before .before in
+    let p = c .before .before .before .before .before .before .before .before in
+    let s = p .before .before .before in
     let a = s .args in
     let v = p .loop in
-    let more = c .before .before .before .before .before .before .loop-test .taken in
+    let more = c .before .before .before .before .before .before .before .loop-test .taken in
     let low : v .i < length (a .out .now) = omega (arith, s .pre .1 .1) in
     ⊎-elim
     (λ w. (omega arith, rw (w .1, w .2) (sifted-kept (a .nc) (a .a) (a .out .now) (v .i) (v .out) (v .k) (v .inv .1) low)))
@@ -76,6 +90,7 @@ sift-each-spec =
     (tie.spec
     Inv-loop
     μ-loop
+    weights-requires
     loop-holds
     slice-read-v
     chunk-total-requires

@@ -3,18 +3,20 @@
 -- under the state whose chunk at the cell is among the contents tried is known. Rests on the laws of steps (found) and of a cell
 -- that is found (cells). Assumes nothing.
 use borrow.Author.Needs.{needs}
-use Prim.Native.Nat.{ℕ, _+_, _-_, _*_, _<_}
+use Prim.Native.Nat.{ℕ, _+_, _-_, _*_, _<_, _≤_}
 use mathlib.Core.Path.{_≡_}
+use mathlib.Core.Logic.{_⊎_, inl, inr}
 use mathlib.Core.List.{List}
 use native.Mathlib.Omega.{arith}
 use lib.ListN.{length, set}
+use Rattle.bits.proofs.Laws.{lt-or-ge}
 use Rattle.consistent.specs.Greedy.{inAll}
 use Rattle.found.specs.Found.{Grown}
 use Rattle.found.proofs.Found.{grown-length, grown-holding, grown-nothing, grown-then, grown-weaken}
 use Rattle.cells.specs.Cells.{Under, found}
 use Rattle.cells.proofs.State.{placed-found}
 use Rattle.fill.specs.Fill.{With, Tried}
-use Rattle.fill.proofs.Rows.{with-found, tried-next, lost-less, none-open}
+use Rattle.fill.proofs.Rows.{with-found, tried-next, lost-less}
 use borrow.Fn.Kinds.{In}
 use borrow.Fn.PlainCycle.{Measures, is, falls, and}
 use Rattle.fill.proofs.try_content.Reads as try-content
@@ -29,7 +31,6 @@ use Rattle.fill.proofs.+try_content+try_contents+try_each.Lts-try_each 
 use Rattle.fill.proofs.add_recovered.Reads as add-recovered-reads
 use Rattle.fill.proofs.list_contents.Reads as list-contents-reads
 use Rattle.fill.proofs.choose.Reads as choose-reads
-use Rattle.found.proofs.add_row.Reads as add-row-reads
 use Rattle.recover.proofs.chunk_of.Reads as chunk-of-reads
 use Rattle.fill.proofs.few_erased.Reads as few-erased-reads
 use Rattle.fill.proofs.+try_content+try_contents+try_each.{statement}
@@ -82,14 +83,12 @@ try-content-claims t = (
 
 abbrev try-contents-claims : ℕ → try-contents-lts.Claims
 try-contents-claims t = (
-  choose-reads.Asked,
-  choose-reads.Learnt,
-  add-row-reads.Asked,
-  add-row-reads.Learnt,
   few-erased-reads.Asked,
   few-erased-reads.Learnt,
   add-recovered-reads.Asked,
   add-recovered-reads.Learnt,
+  choose-reads.Asked,
+  choose-reads.Learnt,
   try-each-below t,
   try-each.Post,
 )
@@ -153,13 +152,19 @@ try-content-returns : (t : ℕ)
 try-content-returns t c =
     grown-weaken (λ x r w. found-under t (c .before .before .before .before) x w) (c .before .before .try-contents .ensures)
 
-try-contents-choose-requires : (t : ℕ)
-    → try-contents-lts.Need-choose-requires (try-contents-claims t) (try-contents-at t) try-contents.Post
-try-contents-choose-requires t c κs = search needs
+try-contents-few-erased-requires : (t : ℕ)
+    → try-contents-lts.Need-few-erased-requires (try-contents-claims t) (try-contents-at t) try-contents.Post
+try-contents-few-erased-requires t c κs =
+    let s = c .before .before .before in
+    (s .pre .1 .0 .is-legal, λ z o. let q = s .pre .1 .1 .1 z o in (q .0, q .1 .0))
 
-try-contents-add-row-requires : (t : ℕ)
-    → try-contents-lts.Need-add-row-requires (try-contents-claims t) (try-contents-at t) try-contents.Post
-try-contents-add-row-requires t c κs = search needs
+try-contents-add-recovered-requires : (t : ℕ)
+    → try-contents-lts.Need-add-recovered-requires (try-contents-claims t) (try-contents-at t) try-contents.Post
+try-contents-add-recovered-requires t c κs =
+    let k = c .before .before .before .before in
+    let s = k .before .before .before .before in
+    let few = c .before .if1 .taken in
+    (s .pre .1 .0, (s .pre .1 .1 .0, (s .pre .1 .1 .1, (k .few-erased .ensures .0 few, few))))
 
 try-contents-same-length : (t : ℕ)
     → try-contents-lts.Need-same-length (try-contents-claims t) (try-contents-at t) try-contents.Post
@@ -167,24 +172,31 @@ try-contents-same-length t c = search needs
 
 try-contents-returns : (t : ℕ)
     → try-contents-lts.Need-returns (try-contents-claims t) (try-contents-at t) try-contents.Post
-try-contents-returns t c =
-    let s = c .before .before .before .before .before .before .before .before .before in
-    let o = c .before .before .before .before in
-    grown-weaken (λ x r u. none-open (s .pre .1 .0) r u (o .before .choose .ensures .1 .1 (o .if1 .taken)))
-    (c .before .before .add-row .ensures)
+try-contents-returns t c = c .before .before .add-recovered .ensures
 
-try-contents-few-erased-requires : (t : ℕ)
-    → try-contents-lts.Need-few-erased-requires (try-contents-claims t) (try-contents-at t) try-contents.Post
-try-contents-few-erased-requires t c κs =
-    let s = c .before .before .before .before .before in
-    (s .pre .1 .0 .is-legal, λ z o. let q = s .pre .1 .1 .1 z o in (q .0, q .1 .0))
+try-contents-choose-requires : (t : ℕ)
+    → try-contents-lts.Need-choose-requires (try-contents-claims t) (try-contents-at t) try-contents.Post
+try-contents-choose-requires t c κs = search needs
 
-try-contents-add-recovered-requires : (t : ℕ)
-    → try-contents-lts.Need-add-recovered-requires (try-contents-claims t) (try-contents-at t) try-contents.Post
-try-contents-add-recovered-requires t c κs =
-    let k = c .before .before .before .before in
-    let s = k .before .before .before .before .before .before in
-    (s .pre .1 .0, (s .pre .1 .1 .0, (s .pre .1 .1 .1, (k .few-erased .ensures (c .before .if2 .taken), c .before .if2 .taken))))
+-- where there are more places than checks, a cell is open
+chosen : (t : ℕ) (c : try-contents-lts.After-choose (try-contents-claims t) (try-contents-at t) try-contents.Post)
+    → c .choose .result < 12
+chosen t c = go (lt-or-ge (c .choose .result) 12)
+  where
+    go : (c .choose .result < 12) ⊎ (12 ≤ c .choose .result) → c .choose .result < 12
+    go (inl h) = h
+    go (inr h) =
+        let k = c .before .before .before .before in
+        let last : c .choose .result ≡ 12 = omega (arith, c .choose .ensures .0) in
+        absurd (omega (arith, k .few-erased .ensures .1 (c .choose .ensures .1 .1 last), c .before .if1 .left))
+
+try-contents-try-each-requires : (t : ℕ)
+    → try-contents-lts.Need-try-each-requires (try-contents-claims t) (try-contents-at t) try-contents.Post
+try-contents-try-each-requires t c κs =
+    let k = c .before in
+    let s = k .before .before .before .before .before .before .before .before in
+    let z = chosen t k in
+    (omega (arith, s .pre .0), (s .pre .1 .0, (s .pre .1 .1 .0, (s .pre .1 .1 .1, (z, k .choose .ensures .1 .0 z)))))
 
 try-contents-same-length-2 : (t : ℕ)
     → try-contents-lts.Need-same-length-2 (try-contents-claims t) (try-contents-at t) try-contents.Post
@@ -192,23 +204,7 @@ try-contents-same-length-2 t c = search needs
 
 try-contents-returns-2 : (t : ℕ)
     → try-contents-lts.Need-returns-2 (try-contents-claims t) (try-contents-at t) try-contents.Post
-try-contents-returns-2 t c = c .before .before .add-recovered .ensures
-
-try-contents-try-each-requires : (t : ℕ)
-    → try-contents-lts.Need-try-each-requires (try-contents-claims t) (try-contents-at t) try-contents.Post
-try-contents-try-each-requires t c κs =
-    let o = c .before .before .before .before .before in
-    let s = o .before .before .before .before .before in
-    let z : o .before .choose .result < 12 = omega (arith, o .before .choose .ensures .0, o .if1 .left) in
-    (omega (arith, s .pre .0), (s .pre .1 .0, (s .pre .1 .1 .0, (s .pre .1 .1 .1, (z, o .before .choose .ensures .1 .0 z)))))
-
-try-contents-same-length-3 : (t : ℕ)
-    → try-contents-lts.Need-same-length-3 (try-contents-claims t) (try-contents-at t) try-contents.Post
-try-contents-same-length-3 t c = search needs
-
-try-contents-returns-3 : (t : ℕ)
-    → try-contents-lts.Need-returns-3 (try-contents-claims t) (try-contents-at t) try-contents.Post
-try-contents-returns-3 t c = c .before .before .try-each .ensures
+try-contents-returns-2 t c = c .before .before .try-each .ensures
 
 abbrev try-each-Inv-loop : try-each-lts.InvT-loop
 try-each-Inv-loop l y numbers cells row z cap list₀ tried n held₀ u₀ list held u =
@@ -293,17 +289,14 @@ pub +try-content+try-contents+try-each-spec : {M : Type 1} → statement M
     (λ t. try-contents-lts.spec (try-contents-claims t)
     (try-contents-at t)
     try-contents.Post
-    (try-contents-choose-requires t)
-    (try-contents-add-row-requires t)
-    (try-contents-same-length t)
-    (try-contents-returns t)
     (try-contents-few-erased-requires t)
     (try-contents-add-recovered-requires t)
-    (try-contents-same-length-2 t)
-    (try-contents-returns-2 t)
+    (try-contents-same-length t)
+    (try-contents-returns t)
+    (try-contents-choose-requires t)
     (try-contents-try-each-requires t)
-    (try-contents-same-length-3 t)
-    (try-contents-returns-3 t))
+    (try-contents-same-length-2 t)
+    (try-contents-returns-2 t))
     λ t. try-each-lts.spec (try-each-claims t)
     (try-each-at t)
     try-each.Post

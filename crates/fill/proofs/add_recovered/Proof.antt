@@ -15,16 +15,16 @@ use Rattle.fill.proofs.add_recovered.Tie as tie
 
 recover-requires : tie.Need-recover-requires
 recover-requires c κs =
-    let s = c .before .before .before in
+    let s = c .before .before .before .before in
     let e = s .pre .1 .1 .1 .0 in
     (s .pre .0 .is-legal, (s .pre .0 .count, (e .few, (s .pre .1 .1 .1 .1, e .spots))))
 
 -- a consistent row under the state is the one that was recovered
-recovered : (c : tie.After-recover) → let a = c .before .before .before .before .args in
-    (x : List ℕ) → Sent (a .l) (a .numbers .now) (a .y .now) x → Under (a .l) (a .y .now) (a .cells) (a .row) x
+recovered : (c : tie.After-recover) → let a = c .before .before .before .before .before .args in
+    (x : List ℕ) → Sent (a .l) (a .numbers .now) (a .y .now) x → Under (a .l) (a .y .now) (a .cells) (a .t6) x
     → InHand (a .l) (c .recover .result) x
 recovered c x r u =
-    let s = c .before .before .before .before in
+    let s = c .before .before .before .before .before in
     let a = s .args in
     c .recover .ensures (a .cells) (s .pre .1 .1 .1 .0) (a .y .now) x (s .pre .0) r u
 
@@ -34,7 +34,7 @@ all-lose-requires c κs = search needs
 returns : tie.Need-returns
 returns c =
     let w = c .before .before .before in
-    let s = w .before .before .before .before in
+    let s = w .before .before .before .before .before in
     let a = s .args in
     grown-nothing (s .pre .1 .0)
     (λ x r u. false≢true (sym (not-true _ (c .if1 .taken))

@@ -11,13 +11,17 @@ add-t6 : tie.Need-add-t6
 add-t6 c = search needs
 
 returns : tie.Need-returns
-returns c few = absurd (omega (arith, few))
+returns c =
+    let k = c .before .before .before in
+    (λ few. absurd (omega (arith, few)), λ closed. absurd (omega (arith, k .open-cells .ensures .1 closed, c .before .if1 .taken)))
 
 collect-requires : tie.Need-collect-requires
 collect-requires c κs = search needs
 
 returns-2 : tie.Need-returns-2
-returns-2 c = search needs
+returns-2 c =
+    let e = c .collect .ensures in
+    (λ few. e, λ closed. omega (arith, e .none (λ z h o. omega (arith, closed z h, o .1))))
 
 pub few-erased-spec : {M : Type 1} → statement M
 few-erased-spec =

@@ -1,104 +1,46 @@
--- `lines::chunk_total` meets its contract. The loop's invariant: what is added so far and what is left are the whole total.
--- Assumes nothing.
+-- `lines::chunk_total` meets its contract: the bits of a number before its last nc are not the chunk's. Assumes nothing.
 use borrow.Author.Needs.{needs}
-use Prim.Native.Nat.{ℕ, _+_, _-_, _*_, _/_, _%_, _^_, _≤_}
-use mathlib.Core.Path.{_≡_, refl, sym, _∙_}
-use native.Mathlib.Nat.{add-zero, zero-add}
+use Prim.Native.Nat.{_-_, _%_, _^_}
+use mathlib.Core.Path.{_≡_, ap, _∙_}
+use native.Mathlib.Nat.{mod-lt}
 use native.Mathlib.Omega.{arith}
-use lib.ListN.{getD, drop}
+use lib.Bits.{bitAnd, and-mask}
+use lib.Pow.{pow-pos, pow-mono}
 use Rattle.bits.specs.Bits.{digits}
-use Rattle.bits.proofs.Laws.{bit-at, bits-digits, digits-at, length-digits}
 use Rattle.vt.specs.Sum.{total}
-use Rattle.vt.proofs.Totals.{times-bit, total-end}
-use Rattle.message.proofs.Positions.{total-step}
+use Rattle.lines.proofs.Turns.{digits-low}
 use Rattle.lines.proofs.chunk_total.Statement.{statement}
 use Rattle.lines.proofs.chunk_total.Tie as tie
 
-abbrev Inv-loop : tie.InvT-loop
-Inv-loop nc v first t₀ i₀ t i =
-    (i ≤ nc) × ((t ≤ 2049 * i) × (t + total (first + i) (drop i (digits nc v)) ≡ total first (digits nc v)))
+power-requires : tie.Need-power-requires
+power-requires c κs = search needs
 
-abbrev μ-loop : tie.MeasureT-loop
-μ-loop nc v first t₀ i₀ t i = nc - i
+sub-ones : tie.Need-sub-ones
+sub-ones c = omega (arith, c .power .ensures, pow-pos (c .before .args .nc))
 
--- the bit of a turn, and what it adds
-adds : (c : tie.After-wide Inv-loop μ-loop) → let p = c .before .before .loop in let a = c .before .before .before .args in
-    (c .wide .result ≡ getD (digits (a .nc) (a .v)) (p .i) 0) × ((a .first + p .i) * c .wide .result ≤ a .first + p .i)
-adds c =
-    let a = c .before .before .before .args in
-    let p = c .before .before .loop in
-    let k : ℕ = a .nc in
-    let shift : k - 1 - p .i ≡ k - (p .i + 1) = omega arith in
-    let bit : a .v / 2 ^ (k - 1 - p .i) % 2 ≡ getD (digits k (a .v)) (p .i) 0 =
-    rw shift (sym (digits-at k (a .v) (p .i) (omega arith)))
-    in
-    let e : c .wide .result ≡ getD (digits k (a .v)) (p .i) 0 = c .wide .ensures ∙ bit in
-    (e, times-bit (a .first + p .i) (c .wide .result) (rw e (bit-at (digits k (a .v)) (bits-digits k (a .v)) (p .i))))
+cast-ones : tie.Need-cast-ones
+cast-ones c =
+    let n = c .before .args .nc in
+    record { fits = omega (arith, c .power .ensures, pow-mono {i = n} {j = 8} (c .before .pre .0 .1)) }
 
-loop-holds : tie.Need-loop-holds Inv-loop μ-loop
-loop-holds c = (search needs, (search needs, rw (add-zero (c .args .first), zero-add) refl))
+-- the number that is weighed
+low : (c : tie.After-power) → let a = c .before .args in bitAnd (a .v) (c .power .result - 1) ≡ a .v % 2 ^ a .nc
+low c = let a = c .before .args in rw (c .power .ensures) (and-mask (a .v) (a .nc))
 
-sub-shift : tie.Need-sub-shift Inv-loop μ-loop
-sub-shift c = search needs
+chunk-total-requires : tie.Need-chunk-total-requires
+chunk-total-requires c κs =
+    let a = c .before .args in
+    let p = c .before .pre in
+    (p .0, (rw (low c) (mod-lt (a .v) (pow-pos (a .nc))), p .1))
 
-sub-shift-2 : tie.Need-sub-shift-2 Inv-loop μ-loop
-sub-shift-2 c = search needs
-
-cast-bit : tie.Need-cast-bit Inv-loop μ-loop
-cast-bit c = search needs
-
-shr-bit : tie.Need-shr-bit Inv-loop μ-loop
-shr-bit c = search needs
-
-add-t : tie.Need-add-t Inv-loop μ-loop
-add-t c = search needs
-
-wide-requires : tie.Need-wide-requires Inv-loop μ-loop
-wide-requires c κs = search needs
-
-mul-t : tie.Need-mul-t Inv-loop μ-loop
-mul-t c = omega (arith, adds c .1)
-
-add-t-2 : tie.Need-add-t-2 Inv-loop μ-loop
-add-t-2 c = omega (arith, adds c .1)
-
-add-i : tie.Need-add-i Inv-loop μ-loop
-add-i c = search needs
-
-loop-less : tie.Need-loop-less Inv-loop μ-loop
-loop-less c = search needs
-
-loop-again : tie.Need-loop-again Inv-loop μ-loop
-loop-again c =
-    let a = c .before .before .before .args in
-    let p = c .before .before .loop in
-    let d = digits (a .nc) (a .v) in
-    let step = total-step (a .first) d (p .i) (omega (arith, length-digits (a .nc) (a .v))) in
-    (omega arith, (omega (arith, adds c .1), rw (adds c .0) (omega (arith, p .inv .1 .1, step))))
-
-returns : tie.Need-returns Inv-loop μ-loop
+returns : tie.Need-returns
 returns c =
     let a = c .before .before .args in
-    let p = c .before .loop in
-    let end = total-end (a .first + p .i) (digits (a .nc) (a .v)) (p .i) (omega (arith, length-digits (a .nc) (a .v))) in
-    (omega arith, omega (arith, p .inv .1 .0))
+    let e = c .chunk-total .ensures in (
+      e .0 ∙ ap (total (a .first)) (ap (digits (a .nc)) (low (c .before)) ∙ digits-low (a .nc) (a .v)),
+      e .1,
+    )
 
 pub chunk-total-spec : {M : Type 1} → statement M
 chunk-total-spec =
-    tie.close
-    (tie.spec
-    Inv-loop
-    μ-loop
-    loop-holds
-    sub-shift
-    sub-shift-2
-    cast-bit
-    shr-bit
-    add-t
-    wide-requires
-    mul-t
-    add-t-2
-    add-i
-    loop-less
-    loop-again
-    returns)
+    tie.close (tie.spec power-requires sub-ones cast-ones chunk-total-requires returns)

@@ -1,120 +1,33 @@
--- `lines::line_sum` meets its contract. The loop's invariant: what is added so far and the rest of the line make its whole total.
--- Assumes nothing.
+-- `lines::line_sum` meets its contract: what is left of the total of the positions. Assumes nothing.
 use borrow.Author.Needs.{needs}
-use Prim.Native.Nat.{ℕ, _+_, _-_, _*_, _%_, _≤_}
-use mathlib.Core.Path.{_≡_, ap, _∙_}
-use native.Mathlib.Nat.{zero-add}
-use native.Mathlib.Omega.{arith}
-use lib.ListN.{length}
-use Rattle.vt.specs.Sum.{total}
-use Rattle.lines.specs.Lines.{line}
-use Rattle.lines.proofs.Turns.{Chunk, chunk-of, total-turn, total-start, total-done, total-most, sum-of-total}
+use Prim.Native.Nat.{ℕ, _+_, _*_, _%_}
+use mathlib.Core.Path.{ap, _∙_}
+use Rattle.lines.proofs.Turns.{sum-of-total}
 use Rattle.lines.proofs.line_sum.Statement.{statement}
 use Rattle.lines.proofs.line_sum.Tie as tie
 
-abbrev Inv-loop : tie.InvT-loop
-Inv-loop nc start stride count vs sum₀ t₀ sum t =
-    (t ≤ count)
-    × (sum + total (t * nc + 1) (line nc (start + t * stride) stride (count - t) vs) ≡ total 1 (line nc start stride count vs))
+weights-requires : tie.Need-weights-requires
+weights-requires c κs = search needs
 
-abbrev μ-loop : tie.MeasureT-loop
-μ-loop nc start stride count vs sum₀ t₀ sum t = count - t
+line-total-requires : tie.Need-line-total-requires
+line-total-requires c κs = search needs
 
--- the chunk of a turn
-turn : (c : tie.In-loop Inv-loop μ-loop) → let a = c .before .before .before .args in
-    Chunk (a .nc) (a .start) (a .stride) (a .count) (length (a .vs .now)) (c .before .loop .t)
-turn c =
-    let s = c .before .before .before in
-    let a = s .args in
-    chunk-of (a .nc) (a .start) (a .stride) (a .count) (length (a .vs .now)) (c .before .loop .t) (s .pre) (omega arith)
+mul-result : tie.Need-mul-result
+mul-result c = search needs
 
-loop-holds : tie.Need-loop-holds Inv-loop μ-loop
-loop-holds c =
-    let a = c .before .args in
-    (search needs, zero-add _ ∙ total-start (a .nc) (a .start) (a .stride) (a .count) (a .vs .now))
+add-result : tie.Need-add-result
+add-result c = search needs
 
-mul-chunk-total : tie.Need-mul-chunk-total Inv-loop μ-loop
-mul-chunk-total c = omega (arith, turn c .stands)
-
-add-chunk-total : tie.Need-add-chunk-total Inv-loop μ-loop
-add-chunk-total c = omega (arith, turn c .stands)
-
-shared-slice-read-chunk-total : tie.Need-shared-slice-read-chunk-total Inv-loop μ-loop
-shared-slice-read-chunk-total c = turn (c .before) .stands
-
-mul-chunk-total-2 : tie.Need-mul-chunk-total-2 Inv-loop μ-loop
-mul-chunk-total-2 c = omega (arith, turn (c .before) .room, c .before .before .before .before .pre .short)
-
-add-chunk-total-2 : tie.Need-add-chunk-total-2 Inv-loop μ-loop
-add-chunk-total-2 c = omega (arith, turn (c .before) .room, c .before .before .before .before .pre .short)
-
-chunk-total-requires : tie.Need-chunk-total-requires Inv-loop μ-loop
-chunk-total-requires c κs =
-    let s = c .before .before .before .before in
-    (s .pre .nc-high, omega (arith, turn (c .before) .room, s .pre .short))
-
--- what the turn adds and what is left are what was left before it
-added : (c : tie.After-chunk-total Inv-loop μ-loop)
-    → let p = c .before .before .before .loop in let a = c .before .before .before .before .before .args in
-    p .sum + c .chunk-total .result
-    + total ((p .t + 1) * a .nc + 1) (line (a .nc) (a .start + (p .t + 1) * a .stride) (a .stride) (a .count - (p .t + 1)) (a .vs .now))
-    ≡ total 1 (line (a .nc) (a .start) (a .stride) (a .count) (a .vs .now))
-added c =
-    let p = c .before .before .before .loop in
-    let a = c .before .before .before .before .before .args in
-    let step = total-turn (a .nc) (a .start) (a .stride) (a .count) (p .t) (a .vs .now) (omega arith) in
-    omega (arith, p .inv .1, step, c .chunk-total .ensures .0)
-
-add-sum : tie.Need-add-sum Inv-loop μ-loop
-add-sum c =
-    let s = c .before .before .before .before .before in
-    let a = s .args in
-    omega (arith, added c, total-most (a .nc) (a .start) (a .stride) (a .count) (a .vs .now) (s .pre .short))
-
-add-t : tie.Need-add-t Inv-loop μ-loop
-add-t c = search needs
-
-loop-less : tie.Need-loop-less Inv-loop μ-loop
-loop-less c = search needs
-
-loop-again : tie.Need-loop-again Inv-loop μ-loop
-loop-again c = (omega arith, added c)
-
-mul-result : tie.Need-mul-result Inv-loop μ-loop
-mul-result c = omega (arith, c .before .before .before .pre .short)
-
-add-result : tie.Need-add-result Inv-loop μ-loop
-add-result c = omega (arith, c .before .before .before .pre .short)
-
-rem-result : tie.Need-rem-result Inv-loop μ-loop
+rem-result : tie.Need-rem-result
 rem-result c = search needs
 
-returns : tie.Need-returns Inv-loop μ-loop
+returns : tie.Need-returns
 returns c =
-    let a = c .before .before .before .args in
-    let p = c .before .loop in
-    let done = total-done (a .nc) (a .start) (a .stride) (a .count) (p .t) (a .vs .now) (omega arith) in
-    let e : p .sum ≡ total 1 (line (a .nc) (a .start) (a .stride) (a .count) (a .vs .now)) = omega (arith, p .inv .1, done) in
-    ap (λ (t : ℕ). t % (a .count * a .nc + 1)) e ∙ sum-of-total (a .nc) (a .start) (a .stride) (a .count) (a .vs .now)
+    let a = c .before .before .before .before .args in
+    ap (λ (t : ℕ). t % (a .count * a .nc + 1)) (c .line-total .ensures)
+    ∙ sum-of-total (a .nc) (a .start) (a .stride) (a .count) (a .vs .now)
 
 pub line-sum-spec : {M : Type 1} → statement M
 line-sum-spec =
     tie.close
-    (tie.spec
-    Inv-loop
-    μ-loop
-    loop-holds
-    mul-chunk-total
-    add-chunk-total
-    shared-slice-read-chunk-total
-    mul-chunk-total-2
-    add-chunk-total-2
-    chunk-total-requires
-    add-sum
-    add-t
-    loop-less
-    loop-again
-    mul-result
-    add-result
-    rem-result
-    returns)
+    (tie.spec weights-requires line-total-requires mul-result add-result rem-result returns)

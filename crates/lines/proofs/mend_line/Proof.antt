@@ -1,165 +1,161 @@
--- `lines::mend_line` meets its contract: what the local arrays hold, and that they hold the line of a row that can be mended, is said
--- in Holes. Assumes nothing.
+-- `lines::mend_line` meets its contract: the line's sum says what the lost bit adds, and that says the chunk. Assumes nothing.
 use borrow.Author.Needs.{needs}
-use Prim.Native.Nat.{ℕ, _+_, _-_, _*_}
-use mathlib.Core.Path.{_≡_, _∙_}
-use mathlib.Core.List.{List}
+use Prim.Native.Nat.{ℕ, _+_, _-_, _*_, _≤_}
+use mathlib.Core.Path.{_∙_}
+use native.Mathlib.Nat.{mul-le-mul}
 use native.Mathlib.Omega.{arith}
-use lib.ListN.{take}
-use Rattle.vt.specs.Mend.{mended}
-use Rattle.lines.specs.Lines.{holed}
-use Rattle.lines.proofs.Holes.{parts, front-holed, front-mended, asks-mending, asks-around, asks-number, as-around, chunk-there}
-use borrow.Author.Needs.{needs}
+use lib.ListN.{length, getD}
+use Rattle.bits.specs.Bits.{longest, digits}
+use Rattle.bits.proofs.Laws.{bits-digits}
+use Rattle.vt.specs.Ones.{ones}
+use Rattle.vt.specs.Sum.{total}
+use Rattle.lines.proofs.Lost.{few-bits, weighed, lost-adds, lost-number}
+use Rattle.lines.proofs.Parts.{total-own}
+use Rattle.lines.proofs.Turns.{Chunk, chunk-of, total-most}
 use Rattle.lines.proofs.mend_line.Statement.{statement}
 use Rattle.lines.proofs.mend_line.Tie as tie
 
--- the bits of the line in its parts
-counted : (c : tie.Start) → let a = c .args in a .hole * a .nc + a .nc + (a .count - (a .hole + 1)) * a .nc ≡ a .count * a .nc
-counted c = parts (c .args .count) (c .args .hole) (c .pre .1 .0) (c .args .nc)
+-- the chunk stands among the numbers, and its bits in the line
+stands : (s : tie.Start) → let a = s .args in Chunk (a .nc) (a .start) (a .stride) (a .count) (length (a .vs .now)) (a .hole)
+stands s =
+    let a = s .args in
+    chunk-of (a .nc) (a .start) (a .stride) (a .count) (length (a .vs .now)) (a .hole) (s .pre .0 .0) (s .pre .1 .0)
 
-mul-w : tie.Need-mul-w
-mul-w c = search needs
-
-sub-n : tie.Need-sub-n
-sub-n c = let s = c .before .before in omega (arith, counted s, s .pre .1 .1 .0 .0)
+-- what the bits at hand weigh is little, also behind the chunks before them
+small : (s : tie.Start) → let a = s .args in
+    ((total 1 (a .bits .now) ≤ 7 * 8) × (ones (a .bits .now) ≤ 7)) × (a .hole * a .nc * ones (a .bits .now) ≤ longest * 7)
+small s =
+    let a = s .args in
+    let i = s .pre .0 .0 in
+    let few = few-bits (a .bits .now) (s .pre .1 .1 .0 .1) (omega (arith, s .pre .1 .1 .0 .0, i .nc-high)) in
+    let before : a .hole * a .nc ≤ longest = omega (arith, stands s .room, i .short) in
+    (few, mul-le-mul {n₂ = longest} {m₂ = 7} before (few .1))
 
 mul-at : tie.Need-mul-at
-mul-at c = let s = c .before .before in omega (arith, counted s, s .pre .0 .0 .short)
+mul-at c = let s = c .before .before in omega (arith, stands s .stands, s .pre .0 .1)
 
-slice-aggregate-gather : tie.Need-slice-aggregate-gather
-slice-aggregate-gather c = search needs
+add-at : tie.Need-add-at
+add-at c = let s = c .before .before in omega (arith, stands s .stands, s .pre .0 .1)
 
-gather-requires : tie.Need-gather-requires
-gather-requires c κs = search needs
+mul-before : tie.Need-mul-before
+mul-before c = let s = c .before .before in omega (arith, stands s .room, s .pre .0 .0 .short)
 
-sub-mend-bits : tie.Need-sub-mend-bits
-sub-mend-bits c = search needs
+add-first : tie.Need-add-first
+add-first c = let s = c .before .before in omega (arith, stands s .room, s .pre .0 .0 .short)
 
-part-mend-bits-start : tie.Need-part-mend-bits-start
-part-mend-bits-start c = search needs
+weights-requires : tie.Need-weights-requires
+weights-requires c κs = search needs
 
-part-mend-bits-end : tie.Need-part-mend-bits-end
-part-mend-bits-end c = search needs
+line-total-requires : tie.Need-line-total-requires
+line-total-requires c κs = search needs
 
-slice-aggregate-mend-bits : tie.Need-slice-aggregate-mend-bits
-slice-aggregate-mend-bits c = search needs
+shared-slice-read-chunk-total : tie.Need-shared-slice-read-chunk-total
+shared-slice-read-chunk-total c = stands (c .before .before .before .before .before .before .before) .stands
 
--- the place where the gathered bits are lent, and the function's entry seen from there
-abbrev Lent : Type 0
-Lent = tie.After-long
+chunk-total-requires : tie.Need-chunk-total-requires
+chunk-total-requires c κs =
+    let s = c .before .before .before .before .before .before .before in
+    let i = s .pre .0 .0 in
+    ((c .before .before .before .before .weights .ensures, i .nc-high), (omega arith, omega (arith, stands s .room, i .short)))
 
-abbrev start : Lent → tie.Start
-start c = c .before .before .before .before .before .before .before .before
+weigh-requires : tie.Need-weigh-requires
+weigh-requires c κs = search needs
 
--- what is lent: the line with the bits at hand
-abbrev lent : Lent → List ℕ
-lent c = take (start c .args .count * start c .args .nc - 1 - 0) (c .before .before .before .before .gather .last .1 .1 .1 .1 .1 .1 .1 .0)
+-- where the bits at hand are weighed: the function's start
+abbrev start : tie.After-weigh → tie.Start
+start c = c .before .before .before .before .before .before .before .before .before
 
-lent-bits : (c : Lent) → let a = start c .args in
-    lent c ≡ holed (a .nc) (a .start) (a .stride) (a .count) (a .hole) (a .bits .now) (a .vs .now)
-lent-bits c =
+-- what the chunk brings is part of the line's total, which is not large
+parts : (c : tie.After-weigh) → let a = start c .args in
+    (c .before .chunk-total .result ≤ c .before .before .before .before .line-total .result)
+    × (c .before .before .before .before .line-total .result ≤ longest * (1 + longest))
+parts c =
     let s = start c in
     let a = s .args in
-    let g = c .before .before .before .before .gather in
-    front-holed (a .nc) (a .start) (a .stride) (a .count) (a .hole) (a .sum) (a .bits .now) (a .vs .now) (s .pre)
-    (g .last .1 .1 .1 .1 .1 .1 .1 .0) _ (g .ensures)
+    let whole = c .before .before .before .before .line-total .ensures in
+    let own = total-own (a .nc) (a .start) (a .stride) (a .count) (a .hole) (s .pre .1 .0) (a .vs .now) in
+    let most = total-most (a .nc) (a .start) (a .stride) (a .count) (a .vs .now) (s .pre .0 .0 .short) in
+    (omega (arith, own, whole, c .before .chunk-total .ensures .0), omega (arith, most, whole))
 
-mend-bits-requires : tie.Need-mend-bits-requires
-mend-bits-requires c κs =
-    let s = start c in
-    let a = s .args in
-    asks-mending (a .nc) (a .start) (a .stride) (a .count) (a .hole) (a .sum) (a .bits .now) (a .vs .now) (s .pre) (lent c) (lent-bits c)
+sub-short : tie.Need-sub-short
+sub-short c = parts c .0
 
--- the place after mending, and the mended string there
-abbrev long : tie.After-mend-bits → List ℕ
-long c = take (start (c .before) .args .count * start (c .before) .args .nc - 0) (c .mend-bits .last .1 .1 .0)
+mul-short : tie.Need-mul-short
+mul-short c =
+    let w = c .before in
+    rw (w .weigh .ensures .1) (record { fits = omega (arith, small (start w) .1) })
 
-long-bits : (c : tie.After-mend-bits) → let a = start (c .before) .args in
-    long c ≡ mended (a .count * a .nc) (a .sum) (holed (a .nc) (a .start) (a .stride) (a .count) (a .hole) (a .bits .now) (a .vs .now))
-long-bits c =
-    let s = start (c .before) in
-    let a = s .args in
-    front-mended (a .nc) (a .start) (a .stride) (a .count) (a .hole) (a .sum) (a .bits .now) (a .vs .now) (s .pre)
-    (lent (c .before)) (c .mend-bits .last .1 .1 .0) _ (lent-bits (c .before)) (c .mend-bits .ensures)
+add-short : tie.Need-add-short
+add-short c =
+    let w = c .before .before in
+    let l = small (start w) in
+    rw (w .weigh .ensures .1, w .weigh .ensures .0) (record { fits = omega (arith, l .1, l .0 .0) })
 
-sub-around : tie.Need-sub-around
-sub-around c = search needs
+add-short-2 : tie.Need-add-short-2
+add-short-2 c =
+    let w = c .before .before in
+    let l = small (start w) in
+    rw (w .weigh .ensures .1, w .weigh .ensures .0) (record { fits = omega (arith, l .1, l .0 .0, parts w .1) })
 
-part-around-start : tie.Need-part-around-start
-part-around-start c = search needs
+mul-lacking : tie.Need-mul-lacking
+mul-lacking c = search needs
 
-part-around-end : tie.Need-part-around-end
-part-around-end c = search needs
+lacking-requires : tie.Need-lacking-requires
+lacking-requires c κs = search needs
 
-sub-around-2 : tie.Need-sub-around-2
-sub-around-2 c = search needs
-
-part-around-start-2 : tie.Need-part-around-start-2
-part-around-start-2 c = search needs
-
-part-around-end-2 : tie.Need-part-around-end-2
-part-around-end-2 c = search needs
-
-around-requires : tie.Need-around-requires
-around-requires c κs =
-    let m = c .before .before .before .before .before in
-    let s = start (m .before) in
-    let a = s .args in
-    asks-around (a .nc) (a .start) (a .stride) (a .count) (a .hole) (a .sum) (a .bits .now) (a .vs .now) (s .pre)
-    (lent (m .before)) (long m) (lent-bits (m .before)) (long-bits m)
-
-sub-number-at : tie.Need-sub-number-at
-sub-number-at c = search needs
-
-part-number-at-start : tie.Need-part-number-at-start
-part-number-at-start c = search needs
-
-part-number-at-end : tie.Need-part-number-at-end
-part-number-at-end c = search needs
-
-number-at-requires : tie.Need-number-at-requires
-number-at-requires c κs =
-    let m = c .before .before .before .before .before .before .before .before in
-    let s = start (m .before) in
-    let a = s .args in
-    asks-number (a .nc) (a .start) (a .stride) (a .count) (a .hole) (a .sum) (a .bits .now) (a .vs .now) (s .pre)
-    (lent (m .before)) (long m) (lent-bits (m .before)) (long-bits m)
+mend-chunk-requires : tie.Need-mend-chunk-requires
+mend-chunk-requires c κs =
+    let w = c .before .before .before in
+    let s = start w in
+    let i = s .pre .0 .0 in
+    let n = s .pre .1 .1 .0 .0 in
+    let g = c .lacking .ensures .0 in (
+      ((n, i .nc-high), s .pre .1 .1 .0 .1),
+      ((omega arith, omega (arith, stands s .room, i .short, n), omega (arith, g, i .short)), w .weigh .ensures),
+    )
 
 returns : tie.Need-returns
-returns c =
-    let m = c .before .before .before .before .before .before .before .before .before in
-    let s = start (m .before) in
+returns c us m =
+    let k = c .before in
+    let w = k .before .before .before in
+    let s = start w in
     let a = s .args in
-    λ us k. (
-      c .before .before .before .around .ensures ∙ as-around (a .nc) (a .start) (a .stride) (a .count) (a .hole) (a .sum) (a .bits .now) (a .vs .now) (s .pre)
-          us k (lent (m .before)) (long m) (lent-bits (m .before)) (long-bits m),
-      c .number-at .ensures ∙ chunk-there (a .nc) (a .start) (a .stride) (a .count) (a .hole) (a .sum) (a .bits .now) (a .vs .now) (s .pre)
-          us k (lent (m .before)) (long m) (lent-bits (m .before)) (long-bits m),
+    let p = s .pre .1 in
+    let before : ℕ = a .hole * a .nc in
+    let y = a .bits .now in
+    let whole = w .before .before .before .before .line-total in
+    let own = w .before .chunk-total in
+    let rest : ℕ = whole .result - own .result in
+    let e = w .weigh .ensures in
+    let short = weighed rest before (w .weigh .result .ones) (w .weigh .result .total) y (e .1) (e .0) in
+    let adds = lost-adds (a .nc) (a .start) (a .stride) (a .count) (a .hole) (a .sum) y (a .vs .now) us (p .0) (p .1 .0 .0)
+    (p .1 .0 .1) m rest (k .lacking .result) (omega (arith, parts w .0, whole .ensures, own .ensures .0)) (k .lacking .ensures .0)
+    (rw short at (k .lacking .ensures .1)) in
+    let x = digits (a .nc) (getD us (a .start + a .hole * a .stride) 0) in
+    let r = c .mend-chunk .ensures x (bits-digits (a .nc) _) (m .comes) adds in (
+      r .0,
+      r .1 ∙ lost-number (a .nc) (a .start) (a .stride) (a .count) (a .hole) (a .sum) y (a .vs .now) us (p .0) (p .1 .0 .0)
+          (p .1 .0 .1) m,
     )
 
 pub mend-line-spec : {M : Type 1} → statement M
 mend-line-spec =
     tie.close
     (tie.spec
-    mul-w
-    sub-n
     mul-at
-    slice-aggregate-gather
-    gather-requires
-    sub-mend-bits
-    part-mend-bits-start
-    part-mend-bits-end
-    slice-aggregate-mend-bits
-    mend-bits-requires
-    sub-around
-    part-around-start
-    part-around-end
-    sub-around-2
-    part-around-start-2
-    part-around-end-2
-    around-requires
-    sub-number-at
-    part-number-at-start
-    part-number-at-end
-    number-at-requires
+    add-at
+    mul-before
+    add-first
+    weights-requires
+    line-total-requires
+    shared-slice-read-chunk-total
+    chunk-total-requires
+    weigh-requires
+    sub-short
+    mul-short
+    add-short
+    add-short-2
+    mul-lacking
+    lacking-requires
+    mend-chunk-requires
     returns)

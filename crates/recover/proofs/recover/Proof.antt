@@ -1,16 +1,16 @@
 -- `recover::recover` meets its contract: what is missing of the checks is what the erased chunks bring, and only their
 -- contents bring it. Assumes nothing.
 use borrow.Author.Needs.{needs}
-use Prim.Native.Nat.{_≤_}
+use Prim.Native.Nat.{_-_, _*_, _≤_}
 use mathlib.Core.Path.{_≡_}
 use native.Mathlib.Omega.{arith}
 use lib.ListN.{length, getD, replicate}
 use Rattle.field.specs.Field.{Elements}
-use Rattle.field.proofs.Double.{size-high}
+use Rattle.field.proofs.Double.{size-high, size-low}
 use Rattle.message.proofs.Legal.{Bounds, legal-bounds, sizes}
 use Rattle.erasures.specs.Erasures.{Places}
 use Rattle.recover.specs.Recover.{Spots}
-use Rattle.recover.proofs.Recovered.{blank-at, solved}
+use Rattle.recover.proofs.Recovered.{blank-at, elements-take, solved}
 use Rattle.recover.proofs.recover.Statement.{statement}
 use Rattle.recover.proofs.recover.Tie as tie
 
@@ -36,7 +36,7 @@ places s =
 
 -- where the row in hand is in the field: the function's start
 abbrev start : tie.After-reduce → tie.Start
-start c = c .before .before .before .before .before .before .before .before
+start c = c .before .before .before .before .before .before .before .before .before
 
 long : (c : tie.After-reduce) → 255 ≤ length (c .reduce .result)
 long c =
@@ -58,30 +58,48 @@ fill-logs-requires c κs =
 table-requires : tie.Need-table-requires
 table-requires c κs = search needs
 
-mul-reduce : tie.Need-mul-reduce
-mul-reduce c =
+mul-count : tie.Need-mul-count
+mul-count c =
     let s = c .before .before .before .before .before .before in
     record { fits = omega (arith, sizes (s .args .l) (bounds s) .chunks) }
 
 put-requires : tie.Need-put-requires
 put-requires c κs =
-    let s = c .before .before .before .before .before .before in
+    let s = c .before .before .before .before .before .before .before in
     (s .pre .1 .1 .0, spots s)
 
 reduce-requires : tie.Need-reduce-requires
 reduce-requires c κs =
-    let s = c .before .before .before .before .before .before .before in
+    let s = c .before .before .before .before .before .before .before .before in
     let b = bounds s in
     ((b .nc-low, b .nc-high), sizes (s .args .l) b .chunks)
 
 slice-aggregate-missing : tie.Need-slice-aggregate-missing
 slice-aggregate-missing c = search needs
 
+sub-missing : tie.Need-sub-missing
+sub-missing c = search needs
+
+part-missing-start : tie.Need-part-missing-start
+part-missing-start c = search needs
+
+part-missing-end : tie.Need-part-missing-end
+part-missing-end c =
+    let k = c .before .before in
+    let s = start k in
+    omega (arith, sizes (s .args .l) (bounds s) .chunks, long k)
+
 missing-requires : tie.Need-missing-requires
 missing-requires c κs =
-    let k = c .before in
+    let k = c .before .before .before in
     let s = start k in
-    (s .pre .0, (k .before .before .before .before .before .fill-logs .ensures .1, (elements k, s .pre .1 .0)))
+    let l = s .args .l in
+    let b = bounds s in
+    let n = elements-take (l .nc) (l .l1 * l .l2 - 0) (k .reduce .result) (elements k) in
+    let low = size-low (l .nc) (b .nc-low) in (
+      (s .pre .0, s .pre .1 .1 .1 .0),
+      ((k .before .before .before .before .before .before .fill-logs .ensures .1, s .pre .1 .0), (n .0, omega (arith, n .1, b .chunks-high, low))),
+    )
 
 slice-aggregate-solve : tie.Need-slice-aggregate-solve
 slice-aggregate-solve c = search needs
@@ -89,30 +107,31 @@ slice-aggregate-solve c = search needs
 solve-requires : tie.Need-solve-requires
 solve-requires c κs =
     let m = c .before .before .before in
-    let k = m .before .before in
+    let k = m .before .before .before .before in
     let s = start k in
     let b = bounds s in (
-      (k .before .before .before .table .ensures, b .nc-low, b .nc-high, k .before .before .before .before .before .fill-logs .ensures .1),
+      (k .before .before .before .before .table .ensures, b .nc-low, b .nc-high, k .before .before .before .before .before .before .fill-logs .ensures .1),
       (omega arith, s .pre .1 .1 .0, places s, m .missing .ensures .0),
     )
 
 put-requires-2 : tie.Need-put-requires-2
 put-requires-2 c κs =
-    let s = start (c .before .before .before .before .before .before) in
+    let s = start (c .before .before .before .before .before .before .before .before) in
     (s .pre .1 .1 .0, spots s)
 
 returns : tie.Need-returns
 returns c cells collected y x given sent under =
     let m = c .before .before .before .before .before in
-    let k = m .before .before in
+    let k = m .before .before .before .before in
     let s = start k in
     let a = s .args in
     let p = k .before .put in
     let v = c .before .solve in
     let few : a .e .n ≤ a .l .r = omega (arith, s .pre .1 .1 .1 .0) in
-    solved (a .l) (a .numbers .now) y x (a .row) cells (a .e .n) (a .e .places) given sent under collected (replicate 12 0)
+    let all : a .l .l1 * a .l .l2 - 0 ≡ a .l .l1 * a .l .l2 = omega arith in
+    solved (a .l) (a .numbers .now) y x (a .row .now) cells (a .e .n) (a .e .places) given sent under collected (replicate 12 0)
     (p .result) (k .reduce .result) (long k) (blank-at 12) (p .ensures) (k .reduce .ensures .0) (m .missing .result)
-    (v .result) (c .put2 .result) few (m .missing .ensures .1) (v .ensures .1) (c .put2 .ensures)
+    (v .result) (c .put2 .result) few (rw all at (m .missing .ensures .1)) (v .ensures .1) (c .put2 .ensures)
 
 pub recover-spec : {M : Type 1} → statement M
 recover-spec =
@@ -121,10 +140,13 @@ recover-spec =
     slice-aggregate-fill-logs
     fill-logs-requires
     table-requires
-    mul-reduce
+    mul-count
     put-requires
     reduce-requires
     slice-aggregate-missing
+    sub-missing
+    part-missing-start
+    part-missing-end
     missing-requires
     slice-aggregate-solve
     solve-requires
