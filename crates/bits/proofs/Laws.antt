@@ -170,7 +170,7 @@ pow-more : (c j : ℕ) → c * 2 ^ suc j ≡ c * 2 * 2 ^ j
 pow-more c j = ap (λ (p : ℕ). c * p) (pow-suc 2 j ∙ mul-comm (2 ^ j) 2) ∙ sym (mul-assoc c 2 (2 ^ j))
 
 -- digits above the j-th do not matter
-digits-above : (j c n : ℕ) → digits j (c * 2 ^ j + n) ≡ digits j n
+pub digits-above : (j c n : ℕ) → digits j (c * 2 ^ j + n) ≡ digits j n
 unfolding digits
 digits-above zero c n = refl
 digits-above (suc j) c n =

@@ -1,5 +1,6 @@
--- The laws of specs/Bits.antt, for the proofs of this crate and of the crates that stand on it.
+-- The laws of specs/, for the proofs of this crate and of the crates that stand on it.
 pub mod Laws
 pub mod Packing
 pub mod Copy
 pub mod Spans
+pub mod Filling

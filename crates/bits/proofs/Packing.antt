@@ -24,6 +24,15 @@ bytes-drop zero s a = a
 bytes-drop (suc n) [] a = tt
 bytes-drop (suc n) (v ∷ s) a = bytes-drop n s (a .1)
 
+pub bytes-take : (n : ℕ) (s : List ℕ) → AllBytes s → AllBytes (take n s)
+bytes-take zero s a = tt
+bytes-take (suc n) [] a = tt
+bytes-take (suc n) (v ∷ s) a = (a .0, bytes-take n s (a .1))
+
+pub bytes-snoc : (s : List ℕ) (b : ℕ) → AllBytes s → b < 256 → AllBytes (s ++ (b ∷ []))
+bytes-snoc [] b a h = (h, tt)
+bytes-snoc (v ∷ s) b a h = (a .0, bytes-snoc s b (a .1) h)
+
 -- ---- the bit at a place
 pub unpack-at : (s : List ℕ) (i : ℕ) → getD (unpack s) i 0 ≡ getD s (i / 8) 0 / 2 ^ (7 - i % 8) % 2
 unfolding unpack

@@ -1,9 +1,10 @@
-// Strings of bits: packed into bytes, unpacked to one byte a bit, and read or written field by field through a bit cursor
-// that is passed by value. Contracts cite specs/Bits.antt.
+// Strings of bits: packed into bytes, unpacked to one byte a bit, read field by field through a bit cursor, and put into bytes
+// field by field through a filler, both passed by value. Contracts cite specs/Bits.antt and specs/Filling.antt.
 ghost use mathlib.Core.Path.{_≡_};
 ghost use mathlib.Core.List.{_++_};
 ghost use Prim.Native.Nat.{_+_, _-_, _*_, _^_, _<_, _≤_};
 ghost use lib.ListN.{length, take, drop, getD};
+ghost use Rattle.bits.specs.Filling.{filled, Ready, Goes};
 ghost use Rattle.bits.specs.Bits.{AllBits, longest, number, digits, bytes, bytesFor, pack as packed, unpack as unpacked, fits as fit};
 
 // The most bits that a string has.
@@ -188,6 +189,48 @@ fn three_bytes(s: &[u8], i: usize) -> usize
     byte_at(s, i) * 65536 + byte_at(s, i + 1) * 256 + byte_at(s, i + 2)
 }
 
+// Bits on their way into packed bytes: so many bytes are whole, and the bits behind them are held as a number.
+pub struct Filler {
+    pub at: usize,
+    pub held: usize,
+    pub count: usize,
+}
+
+impl Filler {
+    // v as k binary digits behind the bits that were taken, whole bytes of them at their place in a slice.
+    pub fn put(self, out: &mut [u8], k: usize, v: usize) -> Filler
+        requires { ⌜ ((k ≤ 16) × Ready self) × (self .at * 8 + self .count + k ≤ length (now out) * 8) ⌝ }
+        ensures { λ r. ⌜ Goes self (now (out .entry)) (digits k v) r (now (out .exit)) ⌝ }
+    {
+        let size = power(k);
+        let all = self.held * size + v % size;
+        let mut at = self.at;
+        let mut count = self.count + k;
+        while 8 <= count {
+            count -= 8;
+            out[at] = ((all >> count) % 256) as u8;
+            at += 1;
+        }
+        Filler {
+            at,
+            held: all % power(count),
+            count,
+        }
+    }
+
+    // The last bits in a byte of their own, with zeros behind them.
+    pub fn end(self, out: &mut [u8])
+        requires { ⌜ Ready self × (self .at * 8 + self .count ≤ length (now out) * 8) ⌝ }
+        ensures { λ _. ⌜ now (out .exit) ≡ packed (filled self (now (out .entry))) ++ drop (bytesFor (self .at * 8 + self .count)) (now (out .entry)) ⌝ }
+    {
+        let at = self.at;
+        let count = self.count;
+        if 0 < count {
+            out[at] = (self.held * power(8 - count)) as u8;
+        }
+    }
+}
+
 // A place among bits.
 pub struct BitCursor {
     pub at: usize,
@@ -213,20 +256,5 @@ impl BitCursor {
             value: value as u16,
             next: BitCursor { at: at + k },
         }
-    }
-
-    // v as k binary digits at the cursor, one byte a bit, and the cursor after them.
-    pub fn put(self, bits: &mut [u8], k: usize, v: u16) -> BitCursor
-        requires { ⌜ (k ≤ 16) × (self .at + k ≤ length (now bits)) ⌝ }
-        ensures { λ r. ⌜ (r .at ≡ self .at + k) × (now (bits .exit) ≡ take (self .at) (now (bits .entry)) ++ digits k v ++ drop (self .at + k) (now (bits .entry))) ⌝ }
-    {
-        let at = self.at;
-        let mut i: usize = 0;
-        while i < k {
-            let shift = k - 1 - i;
-            bits[at + i] = ((v >> shift) % 2) as u8;
-            i += 1;
-        }
-        BitCursor { at: at + k }
     }
 }

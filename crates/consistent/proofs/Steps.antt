@@ -3,19 +3,19 @@ use Prim.Native.Nat.{ℕ, suc, _+_, _-_, _*_, _<_, _≤_}
 use mathlib.Core.Path.{_≡_, refl, sym, ap, ap₂, _∙_}
 use mathlib.Core.Bool.{Bool, true, false, _&&_}
 use mathlib.Core.List.{List, [], _∷_, _++_}
-use native.Mathlib.Nat.{add-mul, one-mul}
+use native.Mathlib.Nat.{add-mul, one-mul, sub-zero}
 use native.Mathlib.Numerals.{add-one}
 use native.Mathlib.Omega.{arith}
-use borrow.Author.Tests.{eq-eqb, ne-eqb}
+use borrow.Author.Tests.{eq-eqb, ne-eqb, eqb-true}
 use borrow.Rule.Slice.PartAt.{part-to-end}
 use lib.Dec.{eqb}
 use lib.ListN.{length, getD, take, drop, drop-of-length-le, take-append-drop, length-drop}
 use lib.Seq.{drop-cons, drop-drop, length-take-le}
 use Rattle.bits.specs.Bits.{same, cut}
-use Rattle.bits.proofs.Laws.{refuted}
+use Rattle.bits.proofs.Laws.{both-ways}
 use Rattle.rows.specs.Deletion.{comesFrom}
 use Rattle.consistent.specs.Greedy.{eat, losses, table, used}
-use Rattle.consistent.proofs.Greedy.{eat-append, losses-append, comes-eat, eat-comes}
+use Rattle.consistent.proofs.Greedy.{eat-append, losses-append, comes-eat, eat-comes, piece, reads-whole}
 
 -- ---- one bit
 -- after a bit b, y goes on at place r instead of j
@@ -57,11 +57,31 @@ bits-end x y i j h = rw (drop-of-length-le x h) (refl, refl)
 
 -- ---- the whole string
 -- y comes from x exactly when x takes all of it
-pub comes-used : (x y : List ℕ) → eat x y ≡ [] → true ≡ comesFrom x (length x - length y) y
-comes-used x y e = sym (eat-comes x y e)
+pub comes-is : (x y : List ℕ) (r : ℕ) → r ≤ length y → eat x y ≡ drop r y → eqb r (length y) ≡ comesFrom x (length x - length y) y
+comes-is x y r h e =
+    both-ways (eqb r (length y)) (comesFrom x (length x - length y) y)
+    (λ t. eat-comes x y (e ∙ drop-of-length-le y {i = r} (omega (arith, eqb-true r (length y) t))))
+    (λ t. eq-eqb r (length y) (omega (arith, length-drop r y, ap length (sym e ∙ comes-eat x (length x - length y) y t))))
 
-pub comes-not : (x y : List ℕ) → (eat x y ≡ [] → ⊥) → false ≡ comesFrom x (length x - length y) y
-comes-not x y n = refuted (comesFrom x (length x - length y) y) (λ e. n (comes-eat x (length x - length y) y e))
+-- a piece that is the first bits of y takes just these
+pub whole-eats : (p y : List ℕ) → p ≡ take (length p) y → eat p y ≡ drop (length p) y
+whole-eats p y e = piece (length p) 0 p y refl (reads-whole p y e) .rest ∙ ap (λ (n : ℕ). drop n y) (sub-zero (length p))
+
+-- what is left to be matched after the piece of x from i up to e, which takes r bits of y from place at on; the code has both as parts
+-- of their slices
+pub piece-eaten : (x y : List ℕ) (i e at r : ℕ) → i ≤ e → at ≤ length y
+    → (r ≤ length (take (length y - at) (drop at y))) × (eat (take (e - i) (drop i x)) (take (length y - at) (drop at y)) ≡ drop r (take (length y - at) (drop at y)))
+    → (at + r ≤ length y) × (eat (drop e x) (drop (at + r) y) ≡ eat (drop i x) (drop at y))
+piece-eaten x y i e at r h k f =
+    let p : List ℕ = take (e - i) (drop i x) in
+    let g : (r ≤ length (drop at y)) × (eat p (drop at y) ≡ drop r (drop at y)) = rw (part-to-end y at) at f in
+    let n : i + (e - i) ≡ e = omega arith in
+    let d : drop i x ≡ p ++ drop e x =
+    sym (take-append-drop (e - i) (drop i x)) ∙ ap (λ (t : List ℕ). p ++ t) (drop-drop (e - i) i x ∙ ap (λ (m : ℕ). drop m x) n)
+    in (
+      omega (arith, g .0, length-drop at y),
+      sym (ap (λ (t : List ℕ). eat t (drop at y)) d ∙ eat-append p (drop e x) (drop at y) ∙ ap (eat (drop e x)) (g .1 ∙ drop-drop r at y)),
+    )
 
 -- ---- piece by piece
 -- the pieces of x lose these counts against y, and y is used up

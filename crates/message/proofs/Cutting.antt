@@ -10,7 +10,7 @@ use lib.ListN.{length, getD, take, drop, length-append, length-drop, length-map,
 use lib.Pow.{pow-pos}
 use lib.Seq.{drop-cons, drop-drop, take-take, length-take-le}
 use Rattle.bits.specs.Bits.{cut, AllBits, number}
-use Rattle.bits.proofs.Laws.{bits-append, bits-take, bits-drop}
+use Rattle.bits.proofs.Laws.{bits-take, bits-drop}
 use Rattle.field.specs.Field.{Elements, check}
 use Rattle.vt.specs.Sum.{sum}
 use Rattle.message.specs.Encoding.{FitAll}
@@ -89,11 +89,6 @@ module _ (f : List ℕ → List ℕ) where
   length-joined k [] h = sym (zero-mul k)
   length-joined k (p ∷ ps) h = length-append (f p) (flatMap f ps) ∙ omega (arith, h 0 (omega arith), length-joined k ps (λ i e. h (suc i) (omega arith)), suc-mul (length ps) k)
 
-  pub bits-joined : (ps : List (List ℕ)) → ((i : ℕ) → i < length ps → AllBits (f (getD ps i []))) → AllBits (flatMap f ps)
-  unfolding flatMap
-  bits-joined [] h = tt
-  bits-joined (p ∷ ps) h = bits-append (f p) (flatMap f ps) (h 0 (omega arith)) (bits-joined ps (λ i e. h (suc i) (omega arith)))
-
   -- the pieces from piece i on, joined
   pub joined-next : (ps : List (List ℕ)) (i : ℕ) → i < length ps → flatMap f (drop i ps) ≡ f (getD ps i []) ++ flatMap f (drop (i + 1) ps)
   unfolding flatMap
@@ -162,16 +157,6 @@ module _ (l : Layout) (x : List ℕ) where
   -- pieces of a string of bits are bits
   pub bits-block : AllBits x → (i : ℕ) → AllBits (take (blockBits l) (drop (i * blockBits l) x))
   bits-block a i = bits-take (blockBits l) (drop (i * blockBits l) x) (bits-drop (i * blockBits l) x a)
-
-  pub bits-chunk : (b : List ℕ) → AllBits b → (j : ℕ) → AllBits (chunk l j b)
-  unfolding chunk
-  bits-chunk b a j = bits-take (l .nc) (drop (j * l .nc) b) (bits-drop (j * l .nc) b a)
-
-  pub bits-chunk-string : AllBits x → (j : ℕ) → AllBits (chunkString l x j)
-  unfolding chunkString
-  bits-chunk-string a j =
-      bits-joined (chunk l j) (blocks l x)
-      (λ i h. rw (block-at i (omega (arith, h, length-blocks))) (bits-chunk (take (blockBits l) (drop (i * blockBits l) x)) (bits-block a i) j))
 
   -- a row of the length that its layout gives
   module _ (n : length x ≡ rowBits l) where

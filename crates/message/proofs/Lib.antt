@@ -9,9 +9,8 @@ pub mod Answers
 pub mod Positions
 pub mod Cutting
 pub mod RowSums
-mod Turns
 mod Placing
-mod Assembly
+pub mod Assembly
 mod Writes
 pub mod Roundtrip
 pub mod Picking

@@ -1,19 +1,13 @@
 -- All sums of a row one after another: the block sums, then the chunk-string sums. Assumes nothing.
 use Prim.Native.Nat.{ℕ, _+_, _-_, _<_, _≤_}
 use mathlib.Core.Path.{_≡_, sym, ap, _∙_}
-use mathlib.Core.Bool.{true}
-use mathlib.Core.Logic.{⊎-elim}
 use mathlib.Core.List.{List, _++_}
 use native.Mathlib.Omega.{arith}
 use lib.ListN.{length, getD, take, drop, length-append, length-drop, List·getD-append}
 use lib.Seq.{getD-append-add, getD-take, getD-drop, take-at, take-all, drop-at, length-take-le}
-use Rattle.bits.specs.Bits.{longest}
-use Rattle.bits.proofs.Laws.{lt-or-ge}
-use Rattle.message.specs.Layout.{legal, rowBits}
 use Rattle.message.specs.Message.{blockSums, stringSums}
 use Rattle.message.specs.declared.Layout.{Layout}
-use Rattle.message.proofs.Cutting.{length-block-sums, length-string-sums, block-sum-low, string-sum-low}
-use Rattle.message.proofs.Legal.{legal-bounds, sizes}
+use Rattle.message.proofs.Cutting.{length-block-sums, length-string-sums}
 
 module _ (l : Layout) (x : List ℕ) where
   pub sum-of-block : (k : ℕ) → k < l .l1 → getD (blockSums l x) k 0 ≡ getD (blockSums l x ++ stringSums l x) k 0
@@ -26,15 +20,6 @@ module _ (l : Layout) (x : List ℕ) where
 
   pub length-sums : length (blockSums l x ++ stringSums l x) ≡ l .l1 + l .l2
   length-sums = length-append (blockSums l x) (stringSums l x) ∙ omega (arith, length-block-sums l x, length-string-sums l x)
-
-  -- every sum is small
-  pub sum-low : legal l ≡ true → length x ≡ rowBits l → (k : ℕ) → k < l .l1 + l .l2 → getD (blockSums l x ++ stringSums l x) k 0 ≤ longest
-  sum-low e n k h =
-      let z = sizes l (legal-bounds l e) in
-      ⊎-elim
-      (λ (i : k < l .l1). omega (arith, sum-of-block k i, block-sum-low l x n k i, z .block))
-      (λ (i : l .l1 ≤ k). omega (arith, sum-of-string k i, string-sum-low l x n (k - l .l1) (omega arith), z .string))
-      (lt-or-ge k (l .l1))
 
   -- so many sums from a first one on
   pub length-part : (first count : ℕ) → first + count ≤ l .l1 + l .l2 → length (take count (drop first (blockSums l x ++ stringSums l x))) ≡ count

@@ -80,11 +80,14 @@ pub fn sum_of(
     line_sum(t, nc, chunks, k - l1, l2, l1)
 }
 
-// The checks of a row at the start of a slice; what stands behind them is free.
+// The checks of a row at the start of a slice, if there are any; what stands behind them is free.
 pub fn fill_checks(l1: usize, l2: usize, nc: usize, r: usize, chunks: &[u8], out: &mut [u8])
     requires { ⌜ (isLegal (layout l1 l2 nc r) ≡ true) × (Chunked (layout l1 l2 nc r) (now chunks) × (r ≤ length (now out))) ⌝ }
     ensures { λ _. ⌜ take r (now (out .exit)) ≡ checks (layout l1 l2 nc r) (rowOf nc (now (chunks .entry))) ⌝ }
 {
+    if r == 0 {
+        return;
+    }
     let mut logs: [u8; 256] = [0; 256];
     field::fill_logs(nc, &mut logs);
     field::checks(nc, r, &logs, chunks, out);

@@ -8,7 +8,7 @@ ghost use mathlib.Core.Bool.{true};
 ghost use Prim.Native.Nat.{_+_, _-_, _*_, _/_, _%_, _^_, _<_, _≤_};
 ghost use lib.ListN.{length, take, drop};
 ghost use Rattle.bits.specs.Bits.{AllBits, longest, digits, bytes, bytesFor, pack, unpack, fits};
-ghost use Rattle.vt.specs.Sum.{total, sum as sumOf};
+ghost use Rattle.vt.specs.Sum.{total};
 ghost use Rattle.vt.specs.Ones.{ones};
 ghost use Rattle.vt.specs.Weights.{weights as weightsOf};
 ghost use Rattle.vt.specs.Places.{Reach, PartOf};
@@ -338,15 +338,6 @@ pub fn weigh(bits: &[u8]) -> Weight
         total: total,
         ones: ones,
     }
-}
-
-// The sum of a string, one byte a bit.
-pub fn sum(bits: &[u8]) -> usize
-    requires { ⌜ AllBits (now bits) × (length (now bits) ≤ longest) ⌝ }
-    ensures { λ r. ⌜ r ≡ sumOf (now (bits .entry)) ⌝ }
-{
-    let w = weigh(bits);
-    w.total % (bits.len() + 1)
 }
 
 // Where a deleted bit goes back, and which bit it is.

@@ -1,82 +1,78 @@
--- `consistent::agrees` meets its contract: the sums settle it, or the checks do. Assumes nothing.
+-- `consistent::agrees` meets its contract: the row's chunks decide, which make the row again. Assumes nothing.
 use borrow.Author.Needs.{needs}
-use Prim.Native.Nat.{_+_, _-_}
-use mathlib.Core.Path.{_≡_, sym, ap, _∙_}
+use Prim.Native.Nat.{ℕ, _*_, _≤_}
+use mathlib.Core.Path.{_≡_, ap, _∙_}
+use mathlib.Core.List.{List, _++_}
 use native.Mathlib.Omega.{arith}
-use borrow.Author.Tests.{not-true, not-false}
-use borrow.Rule.Slice.PartAt.{part-to-end}
-use lib.ListN.{length, length-drop}
-use lib.Seq.{length-take-le}
-use Rattle.message.specs.Layout.{layout}
+use lib.ListN.{length}
+use lib.Seq.{take-all}
+use Rattle.bits.specs.Bits.{same}
+use Rattle.message.specs.Layout.{layout, rowBits}
+use Rattle.message.specs.Message.{blockSums, stringSums, checks}
 use Rattle.message.specs.declared.Layout.{Layout}
-use Rattle.consistent.proofs.Candidate.{sums-differ, sums-same}
+use Rattle.message.proofs.Assembly.{chunks-elements, length-lent, row-again}
+use Rattle.message.proofs.Legal.{legal-bounds, sizes}
 use Rattle.consistent.proofs.agrees.Statement.{statement}
 use Rattle.consistent.proofs.agrees.Tie as tie
 
+-- the layout, which has few chunks
 abbrev named : tie.Start → Layout
 named c = layout (c .args .l1) (c .args .l2) (c .args .nc) (c .args .r)
 
-add-n : tie.Need-add-n
-add-n c = search needs
+few : (c : tie.Start) → c .args .l1 * c .args .l2 ≤ 255
+few c = sizes (named c) (legal-bounds (named c) (c .pre .0)) .chunks
 
-sub-sums-agree : tie.Need-sub-sums-agree
-sub-sums-agree c = search needs
+-- where the function starts, seen from where the chunks are filled in
+abbrev start : tie.After-fill-chunks → tie.Start
+start c = c .before .before .before .before
 
-part-sums-agree-start : tie.Need-part-sums-agree-start
-part-sums-agree-start c = search needs
+slice-aggregate-fill-chunks : tie.Need-slice-aggregate-fill-chunks
+slice-aggregate-fill-chunks c = search needs
 
-part-sums-agree-end : tie.Need-part-sums-agree-end
-part-sums-agree-end c = search needs
-
-sums-agree-requires : tie.Need-sums-agree-requires
-sums-agree-requires c κs =
+fill-chunks-requires : tie.Need-fill-chunks-requires
+fill-chunks-requires c κs =
     let s = c .before .before .before in
-    let a = s .args in
-    let n : a .l1 + a .l2 - 0 ≡ a .l1 + a .l2 = omega arith in
-    (s .pre .0, (s .pre .1 .0, (s .pre .1 .1 .0, length-take-le (a .l1 + a .l2 - 0) (a .numbers .now) (omega (arith, s .pre .1 .1 .1)) ∙ n)))
+    (s .pre .0, (s .pre .1 .0, (s .pre .1 .1 .0, few s)))
+
+mul-n : tie.Need-mul-n
+mul-n c = record { fits = omega (arith, few (start (c .before))) }
+
+sub-chunks-agree : tie.Need-sub-chunks-agree
+sub-chunks-agree c = search needs
+
+part-chunks-agree-start : tie.Need-part-chunks-agree-start
+part-chunks-agree-start c = search needs
+
+part-chunks-agree-end : tie.Need-part-chunks-agree-end
+part-chunks-agree-end c = omega (arith, few (start (c .before .before)))
+
+chunks-agree-requires : tie.Need-chunks-agree-requires
+chunks-agree-requires c κs =
+    let k = c .before .before .before in
+    let s = start k in
+    let x = s .args .x .now in
+    let e = k .fill-chunks .ensures in
+    (s .pre .0, ((length-lent (named s) x (s .pre .1 .0) _ _ e, chunks-elements (named s) x (s .pre .1 .0) _ _ e), s .pre .1 .1 .1))
 
 returns : tie.Need-returns
 returns c =
-    let s = c .before .before .before .before .before in
-    sums-differ (named s) (s .args .x .now) (s .args .numbers .now) (s .pre .1 .1 .1) (sym (c .before .sums-agree .ensures) ∙ not-true _ (c .if1 .taken))
-
-mul-checks-agree : tie.Need-mul-checks-agree
-mul-checks-agree c = search needs
-
-sub-checks-agree : tie.Need-sub-checks-agree
-sub-checks-agree c = search needs
-
-part-checks-agree-start : tie.Need-part-checks-agree-start
-part-checks-agree-start c = search needs
-
-part-checks-agree-end : tie.Need-part-checks-agree-end
-part-checks-agree-end c = search needs
-
-checks-agree-requires : tie.Need-checks-agree-requires
-checks-agree-requires c κs =
-    let s = c .before .before .before .before .before .before in
-    let a = s .args in
-    (s .pre .0, (s .pre .1 .0, (s .pre .1 .1 .0, ap length (part-to-end (a .numbers .now) (a .l1 + a .l2)) ∙ omega (arith, length-drop (a .l1 + a .l2) (a .numbers .now), s .pre .1 .1 .1))))
-
-returns-2 : tie.Need-returns-2
-returns-2 c =
-    let s = c .before .before .before .before .before .before .before in
-    let e = c .before .before in
-    c .checks-agree .ensures ∙ sums-same (named s) (s .args .x .now) (s .args .numbers .now) (s .pre .1 .1 .1) (sym (e .before .sums-agree .ensures) ∙ not-false _ (e .if1 .left))
+    let k = c .before .before .before .before in
+    let s = start k in
+    let x : List ℕ = s .args .x .now in
+    let n : length x ≡ rowBits (named s) = s .pre .1 .1 .0 in
+    let again = row-again (named s) x (s .pre .1 .0) _ _ (k .fill-chunks .ensures) (omega arith) ∙ take-all (rowBits (named s)) x (omega arith) in
+    c .chunks-agree .ensures
+    ∙ ap (λ (z : List ℕ). same (blockSums (named s) z ++ stringSums (named s) z ++ checks (named s) z) (s .args .numbers .now)) again
 
 pub agrees-spec : {M : Type 1} → statement M
 agrees-spec =
     tie.close
     (tie.spec
-    add-n
-    sub-sums-agree
-    part-sums-agree-start
-    part-sums-agree-end
-    sums-agree-requires
-    returns
-    mul-checks-agree
-    sub-checks-agree
-    part-checks-agree-start
-    part-checks-agree-end
-    checks-agree-requires
-    returns-2)
+    slice-aggregate-fill-chunks
+    fill-chunks-requires
+    mul-n
+    sub-chunks-agree
+    part-chunks-agree-start
+    part-chunks-agree-end
+    chunks-agree-requires
+    returns)

@@ -20,7 +20,7 @@ slice-aggregate-fill-checks c = search needs
 fill-checks-requires : tie.Need-fill-checks-requires
 fill-checks-requires c κs =
     let s = c .before .before .before in
-    (s .pre .0, (s .pre .1 .0, (s .pre .1 .1 .0, bounds s .r-high)))
+    (s .pre .0, (s .pre .1 .0, bounds s .r-high))
 
 sub-equal : tie.Need-sub-equal
 sub-equal c = search needs

@@ -7,26 +7,33 @@ use native.Mathlib.Omega.{arith}
 use lib.ListN.{length, drop}
 use Rattle.bits.specs.Bits.{same}
 use Rattle.bits.proofs.Laws.{same-next, same-stop, same-end}
+use Rattle.message.specs.Chunks.{rowOf}
 use Rattle.message.specs.Layout.{layout}
 use Rattle.message.specs.Message.{blockSums, stringSums}
 use Rattle.message.proofs.RowSums.{length-sums}
 use Rattle.consistent.proofs.sums_agree.Statement.{statement}
 use Rattle.consistent.proofs.sums_agree.Tie as tie
 
+-- the sums of the row with these chunks
+abbrev sums : (l1 l2 nc r : ℕ) → List ℕ → List ℕ
+sums l1 l2 nc r chunks = blockSums (layout l1 l2 nc r) (rowOf nc chunks) ++ stringSums (layout l1 l2 nc r) (rowOf nc chunks)
+
 abbrev Inv-loop : tie.InvT-loop
-Inv-loop l1 l2 nc r x numbers k₀ k = (k ≤ length numbers) × (same (drop k (blockSums (layout l1 l2 nc r) x ++ stringSums (layout l1 l2 nc r) x)) (drop k numbers) ≡ same (blockSums (layout l1 l2 nc r) x ++ stringSums (layout l1 l2 nc r) x) numbers)
+Inv-loop l1 l2 nc r chunks numbers t k₀ k = (k ≤ length numbers) × (same (drop k (sums l1 l2 nc r chunks)) (drop k numbers) ≡ same (sums l1 l2 nc r chunks) numbers)
 
 abbrev μ-loop : tie.MeasureT-loop
-μ-loop l1 l2 nc r x numbers k₀ k = length numbers - k
+μ-loop l1 l2 nc r chunks numbers t k₀ k = length numbers - k
 
--- the sums of the row, which are as many as the numbers
-abbrev sums : tie.Start Inv-loop μ-loop → List ℕ
-sums c =
-    let l = layout (c .args .l1) (c .args .l2) (c .args .nc) (c .args .r) in
-    blockSums l (c .args .x .now) ++ stringSums l (c .args .x .now)
+-- those of the function's row, which are as many as the numbers
+abbrev own : tie.Start Inv-loop μ-loop → List ℕ
+own c = sums (c .args .l1) (c .args .l2) (c .args .nc) (c .args .r) (c .args .chunks .now)
 
-count : (c : tie.Start Inv-loop μ-loop) → length (sums c) ≡ length (c .args .numbers .now)
-count c = length-sums (layout (c .args .l1) (c .args .l2) (c .args .nc) (c .args .r)) (c .args .x .now) ∙ sym (c .pre .1 .1 .1)
+count : (c : tie.Start Inv-loop μ-loop) → length (own c) ≡ length (c .args .numbers .now)
+count c =
+    length-sums (layout (c .args .l1) (c .args .l2) (c .args .nc) (c .args .r)) (rowOf (c .args .nc) (c .args .chunks .now)) ∙ sym (c .pre .1 .1)
+
+weights-requires : tie.Need-weights-requires Inv-loop μ-loop
+weights-requires c κs = search needs
 
 loop-holds : tie.Need-loop-holds Inv-loop μ-loop
 loop-holds c = (search needs, refl)
@@ -40,17 +47,17 @@ shared-slice-read-number c = search needs
 cast-number : tie.Need-cast-number Inv-loop μ-loop
 cast-number c = record { fits = omega (arith, c .shared-slice-known3 .given (c .before .before .loop .k)) }
 
-sum-at-requires : tie.Need-sum-at-requires Inv-loop μ-loop
-sum-at-requires c κs =
-    let s = c .before .before .before .before .before in
-    (s .pre .0, (s .pre .1 .0, (s .pre .1 .1 .0, omega (arith, s .pre .1 .1 .1))))
+sum-of-requires : tie.Need-sum-of-requires Inv-loop μ-loop
+sum-of-requires c κs =
+    let w = c .before .before .before .before in
+    let s = w .before .before .before in
+    (w .weights .ensures, (s .pre .0, (s .pre .1 .0, omega (arith, s .pre .1 .1))))
 
 returns : tie.Need-returns Inv-loop μ-loop
 returns c =
-    let s = c .before .before .before .before .before .before .before in
-    let a = s .args in
-    let p = c .before .before .before .before .loop in
-    sym (sym (p .inv .1) ∙ same-stop (sums s) (a .numbers .now) (p .k) (omega (arith, count s)) (omega arith) (λ e. c .if1 .taken (c .before .sum-at .ensures ∙ e)))
+    let s = c .before .before .before .before .before .before .before .before .before in
+    let p = c .before .before .before .before .before .loop in
+    sym (sym (p .inv .1) ∙ same-stop (own s) (s .args .numbers .now) (p .k) (omega (arith, count s)) (omega arith) (λ e. c .if1 .taken (c .before .sum-of .ensures ∙ e)))
 
 add-k : tie.Need-add-k Inv-loop μ-loop
 add-k c = search needs
@@ -60,16 +67,16 @@ loop-less c = search needs
 
 loop-again : tie.Need-loop-again Inv-loop μ-loop
 loop-again c =
-    let s = c .before .before .before .before .before .before .before in
-    let a = s .args in
-    let p = c .before .before .before .before .loop in
-    (omega arith, same-next (sums s) (a .numbers .now) (p .k) (omega (arith, count s)) (omega arith) (sym (c .before .sum-at .ensures) ∙ c .if1 .left) ∙ p .inv .1)
+    let s = c .before .before .before .before .before .before .before .before .before in
+    let p = c .before .before .before .before .before .loop in
+    let equal = sym (c .before .sum-of .ensures) ∙ c .if1 .left in
+    (omega arith, same-next (own s) (s .args .numbers .now) (p .k) (omega (arith, count s)) (omega arith) equal ∙ p .inv .1)
 
 returns-2 : tie.Need-returns-2 Inv-loop μ-loop
 returns-2 c =
-    let s = c .before .before .before .before in
+    let s = c .before .before .before .before .before in
     let p = c .before .loop in
-    sym (sym (p .inv .1) ∙ same-end (sums s) (s .args .numbers .now) (p .k) (omega (arith, count s)) (omega arith))
+    sym (sym (p .inv .1) ∙ same-end (own s) (s .args .numbers .now) (p .k) (omega (arith, count s)) (omega arith))
 
 pub sums-agree-spec : {M : Type 1} → statement M
 sums-agree-spec =
@@ -77,11 +84,12 @@ sums-agree-spec =
     (tie.spec
     Inv-loop
     μ-loop
+    weights-requires
     loop-holds
     mul-number
     shared-slice-read-number
     cast-number
-    sum-at-requires
+    sum-of-requires
     returns
     add-k
     loop-less

@@ -1,6 +1,5 @@
--- `message::chunks::fill_checks` meets its contract: the logs, and the checks of the chunks. Assumes nothing.
+-- `message::chunks::fill_checks` meets its contract: there are no checks, or the logs, and the checks of the chunks. Assumes nothing.
 use borrow.Author.Needs.{needs}
-use Prim.Native.Nat.{_≤_}
 use mathlib.Core.Path.{_≡_}
 use native.Mathlib.Omega.{arith}
 use lib.ListN.{length}
@@ -19,12 +18,17 @@ named c = layout (c .args .l1) (c .args .l2) (c .args .nc) (c .args .r)
 bounds : (c : tie.Start) → Bounds (named c)
 bounds c = legal-bounds (named c) (c .pre .0)
 
+returns : tie.Need-returns
+returns c =
+    let s = c .before .before .before in
+    checks-are (named s) (s .args .chunks .now) (s .args .out .now) (s .pre .1 .0) (s .pre .1 .1) (λ i h. absurd (omega arith))
+
 slice-aggregate-fill-logs : tie.Need-slice-aggregate-fill-logs
 slice-aggregate-fill-logs c = search needs
 
 fill-logs-requires : tie.Need-fill-logs-requires
 fill-logs-requires c κs =
-    let s = c .before .before .before in
+    let s = c .before .before .before .before in
     let b = bounds s in
     (b .nc-low, b .nc-high, size-high (s .args .nc) (b .nc-high))
 
@@ -34,17 +38,17 @@ slice-aggregate-checks c = search needs
 checks-requires : tie.Need-checks-requires
 checks-requires c κs =
     let k = c .before .before .before in
-    let s = k .before .before .before .before in
+    let s = k .before .before .before .before .before in
     let b = bounds s in
     ((b .nc-low, b .nc-high, k .fill-logs .ensures .1, s .pre .1 .0 .1), (omega (arith, s .pre .1 .0 .0, b .chunks-high, size-low (s .args .nc) (b .nc-low)), s .pre .1 .1))
 
 same-length : tie.Need-same-length
 same-length c = search needs
 
-returns : tie.Need-returns
-returns c =
+returns-2 : tie.Need-returns-2
+returns-2 c =
     let k = c .before .before in
-    let s = k .before .before .before .before .before .before .before .before in
+    let s = k .before .before .before .before .before .before .before .before .before in
     let kept : length (k .checks .last .1 .1 .1 .1 .0) ≡ length (s .args .out .now) = search needs in
     checks-are (named s) (s .args .chunks .now) (k .checks .last .1 .1 .1 .1 .0) (s .pre .1 .0) (omega (arith, s .pre .1 .1)) (k .checks .ensures)
 
@@ -52,9 +56,10 @@ pub fill-checks-spec : {M : Type 1} → statement M
 fill-checks-spec =
     tie.close
     (tie.spec
+    returns
     slice-aggregate-fill-logs
     fill-logs-requires
     slice-aggregate-checks
     checks-requires
     same-length
-    returns)
+    returns-2)

@@ -10,9 +10,8 @@ use Rattle.bits.proofs.Packing.{fits-length}
 use Rattle.message.specs.Chunks.{rowOf}
 use Rattle.message.specs.Layout.{layout, rowBits}
 use Rattle.message.specs.declared.Layout.{Layout}
-use Rattle.message.proofs.Assembly.{held, fieldsOf, enough, row-lent, row-asks, head-room, fields-lent, body-room, pack-asks, assembled}
+use Rattle.message.proofs.Assembly.{held, enough, row-lent, lent-chunked, head-room, body-room, fields-room, assembled}
 use Rattle.message.proofs.Legal.{Sizes, legal-bounds, sizes}
-use Rattle.message.proofs.Longest.{fields-high}
 use Rattle.message.proofs.writing.put_message.Statement.{statement}
 use Rattle.message.proofs.writing.put_message.Tie as tie
 
@@ -35,18 +34,6 @@ fill-requires c κs =
     let n = fits-length (rowBits (lay s)) (s .args .row .now) (s .pre .1 .0) in
     ((legal-bounds (lay s) (s .pre .0) .nc-high, omega (arith, e .1)), (e .0, high s .chunks))
 
-sub-put-fields : tie.Need-sub-put-fields
-sub-put-fields c = search needs
-
-part-put-fields-start : tie.Need-part-put-fields-start
-part-put-fields-start c = search needs
-
-part-put-fields-end : tie.Need-part-put-fields-end
-part-put-fields-end c = omega (arith, high (c .before .before .before .before .before .before) .chunks)
-
-slice-aggregate-put-fields : tie.Need-slice-aggregate-put-fields
-slice-aggregate-put-fields c = search needs
-
 -- what the function is given, seen from where the chunks are filled in, and their numbers, lent
 abbrev start : tie.After-fill → tie.Start
 start c = c .before .before .before .before
@@ -62,64 +49,46 @@ row-is c =
     let s = start c in
     row-lent (lay s) (s .args .row .now) (s .args .out .now) (s .pre .0) (s .pre .1 .0) (s .pre .1 .1) (c .fill .last .1 .1 .1 .0) _ (c .fill .ensures)
 
-put-fields-requires : tie.Need-put-fields-requires
-put-fields-requires c κs =
-    let u = c .before .before .before .before in
-    let s = start u in
-    row-asks (lay s) (s .args .row .now) (s .args .out .now) (s .pre .0) (s .pre .1 .0) (s .pre .1 .1) (u .fill .last .1 .1 .1 .0) _ (u .fill .ensures)
-
 put-head-requires : tie.Need-put-head-requires
 put-head-requires c κs =
-    let s = start (c .before .before .before .before .before .before .before) in
+    let s = start (c .before .before) in
     (s .pre .0, head-room (lay s) (s .args .row .now) (s .args .out .now) (s .pre .0) (s .pre .1 .0) (s .pre .1 .1))
 
-fields-length-requires : tie.Need-fields-length-requires
-fields-length-requires c κs = search needs
+sub-put-fields : tie.Need-sub-put-fields
+sub-put-fields c = search needs
 
-sub-pack : tie.Need-sub-pack
-sub-pack c = search needs
+part-put-fields-start : tie.Need-part-put-fields-start
+part-put-fields-start c = search needs
 
-part-pack-start : tie.Need-part-pack-start
-part-pack-start c = search needs
+part-put-fields-end : tie.Need-part-put-fields-end
+part-put-fields-end c = omega (arith, high (start (c .before .before .before .before .before .before)) .chunks)
 
-part-pack-end : tie.Need-part-pack-end
-part-pack-end c =
-    let s = start (c .before .before .before .before .before .before .before .before .before .before .before .before) in
-    omega (arith, c .before .fields-length .ensures, fields-high (lay s) (s .pre .0))
-
--- the chunks seen from where the head is written, and the fields, lent
+-- the chunks seen from where the head is written, and room for it
 abbrev filled : tie.After-put-head → tie.After-fill
-filled c = c .before .before .before .before .before .before .before .before
+filled c = c .before .before .before
 
-fields-are : (c : tie.After-fields-length) → let u = filled (c .before .before .before) in
-    take (c .fields-length .result - 0) (c .before .before .before .before .before .before .put-fields .last .1 .1 .1 .1 .1 .0) ≡ fieldsOf (lay (start u)) (row u)
-fields-are c =
-    let u = filled (c .before .before .before) in
-    let s = start u in
-    let q = c .before .before .before .before .before .before .put-fields in
-    fields-lent (lay s) (s .args .row .now) (s .args .out .now) (s .pre .0) (s .pre .1 .0) (s .pre .1 .1) (row u) (q .last .1 .1 .1 .1 .1 .0) _ (c .fields-length .result) (c .fields-length .ensures) (q .ensures)
-
--- there is a head in front of the packed fields
 headed : (c : tie.After-put-head) → 9 ≤ length (c .put-head .last .1 .1 .1 .1 .0)
 headed c =
     let s = start (filled c) in
     body-room (lay s) (s .args .row .now) (s .args .out .now) (s .pre .0) (s .pre .1 .0) (s .pre .1 .1) (c .put-head .last .1 .1 .1 .1 .0) (c .put-head .ensures)
 
-sub-pack-2 : tie.Need-sub-pack-2
-sub-pack-2 c = headed (c .before .before .before .before .before)
+sub-put-fields-2 : tie.Need-sub-put-fields-2
+sub-put-fields-2 c = headed (c .before .before .before .before)
 
-part-pack-start-2 : tie.Need-part-pack-start-2
-part-pack-start-2 c = headed (c .before .before .before .before .before)
+part-put-fields-start-2 : tie.Need-part-put-fields-start-2
+part-put-fields-start-2 c = headed (c .before .before .before .before)
 
-part-pack-end-2 : tie.Need-part-pack-end-2
-part-pack-end-2 c = search needs
+part-put-fields-end-2 : tie.Need-part-put-fields-end-2
+part-put-fields-end-2 c = search needs
 
-pack-requires : tie.Need-pack-requires
-pack-requires c κs =
-    let f = c .before .before .before in
-    let h = f .before .before .before in
-    let s = start (filled h) in
-    pack-asks (lay s) (s .args .row .now) (s .args .out .now) (s .pre .0) (s .pre .1 .0) (s .pre .1 .1) (h .put-head .last .1 .1 .1 .1 .0) (h .put-head .ensures) (row (filled h)) _ (fields-are f)
+put-fields-requires : tie.Need-put-fields-requires
+put-fields-requires c κs =
+    let h = c .before .before .before .before .before in
+    let u = filled h in
+    let s = start u in
+    let chunked = lent-chunked (lay s) (s .args .row .now) (s .args .out .now) (s .pre .0) (s .pre .1 .0) (s .pre .1 .1) (u .fill .last .1 .1 .1 .0) _ (u .fill .ensures) in
+    let room = fields-room (lay s) (s .args .row .now) (s .args .out .now) (s .pre .0) (s .pre .1 .0) (s .pre .1 .1) (h .put-head .last .1 .1 .1 .1 .0) (h .put-head .ensures) in
+    ((s .pre .0, chunked), room)
 
 same-length : tie.Need-same-length
 same-length c = search needs
@@ -127,11 +96,10 @@ same-length c = search needs
 returns : tie.Need-returns
 returns c =
     let q = c .before .before in
-    let f = q .before .before .before .before in
-    let h = f .before .before .before in
+    let h = q .before .before .before .before .before .before in
     let u = filled h in
     let s = start u in
-    assembled (lay s) (s .args .row .now) (s .args .out .now) (s .pre .0) (s .pre .1 .0) (s .pre .1 .1) (h .put-head .last .1 .1 .1 .1 .0) (h .put-head .ensures) (row u) _ (q .pack .last .1 .0) (row-is u) (fields-are f) (q .pack .ensures)
+    assembled (lay s) (s .args .row .now) (s .args .out .now) (s .pre .0) (s .pre .1 .0) (s .pre .1 .1) (h .put-head .last .1 .1 .1 .1 .0) (h .put-head .ensures) (row u) (q .put-fields .last .1 .1 .1 .1 .1 .0) (row-is u) (q .put-fields .ensures)
 
 pub put-message-spec : {M : Type 1} → statement M
 put-message-spec =
@@ -140,19 +108,13 @@ put-message-spec =
     mul-n
     slice-aggregate-fill
     fill-requires
+    put-head-requires
     sub-put-fields
     part-put-fields-start
     part-put-fields-end
-    slice-aggregate-put-fields
+    sub-put-fields-2
+    part-put-fields-start-2
+    part-put-fields-end-2
     put-fields-requires
-    put-head-requires
-    fields-length-requires
-    sub-pack
-    part-pack-start
-    part-pack-end
-    sub-pack-2
-    part-pack-start-2
-    part-pack-end-2
-    pack-requires
     same-length
     returns)

@@ -1,7 +1,7 @@
 -- `message::writing::put_row_checks` meets its contract: the checks are filled in, then put. Assumes nothing.
 use borrow.Author.Needs.{needs}
 use Prim.Native.Nat.{ℕ, _-_}
-use mathlib.Core.Path.{_≡_, refl, ap, _∙_}
+use mathlib.Core.Path.{_≡_, ap, _∙_}
 use mathlib.Core.List.{List}
 use native.Mathlib.Omega.{arith}
 use lib.ListN.{take}
@@ -54,7 +54,7 @@ put-checks-requires : tie.Need-put-checks-requires
 put-checks-requires c κs =
     let k = c .before .before .before .before in
     let s = start k in
-    (omega (arith, bounds s .nc-high), rw (values k, length-checks (named s) (row s)) (s .pre .1))
+    (omega (arith, bounds s .nc-high), (s .pre .1 .0, rw (values k, length-checks (named s) (row s)) (s .pre .1 .1)))
 
 same-length : tie.Need-same-length
 same-length c = search needs
@@ -62,9 +62,7 @@ same-length c = search needs
 returns : tie.Need-returns
 returns c =
     let k = c .before .before .before .before .before .before .before in
-    let s = start k in
-    let n = length-checks (named s) (row s) in
-    c .before .before .put-checks .ensures ∙ rw (values k, n) refl
+    rw (values k) at (c .before .before .put-checks .ensures)
 
 pub put-row-checks-spec : {M : Type 1} → statement M
 put-row-checks-spec =

@@ -1,4 +1,4 @@
--- `message::writing::put_sums` meets its contract. The loop's invariant: the first i sums are placed, and the cursor is behind them.
+-- `message::writing::put_sums` meets its contract. The loop's invariant: the first i sums are put.
 -- Assumes nothing.
 use borrow.Author.Needs.{needs}
 use Prim.Native.Nat.{ℕ, _+_, _-_, _≤_}
@@ -11,17 +11,18 @@ use Rattle.message.specs.Layout.{layout}
 use Rattle.message.specs.Message.{blockSums, stringSums}
 use Rattle.message.specs.declared.Layout.{Layout}
 use Rattle.message.proofs.Legal.{legal-bounds, sizes}
-use Rattle.message.proofs.Picking.{row-length}
 use Rattle.message.proofs.Placing.{Placed, placed-start, placed-room, placed-next, placed-end}
-use Rattle.message.proofs.RowSums.{sum-low, length-part, sum-of-part}
+use Rattle.message.proofs.RowSums.{length-part, sum-of-part}
 use Rattle.message.proofs.writing.put_sums.Statement.{statement}
 use Rattle.message.proofs.writing.put_sums.Tie as tie
 
 abbrev Inv-loop : tie.InvT-loop
-Inv-loop table l1 l2 nc r chunks first count k bits₀ c₀ i₀ bits c i = (i ≤ count) × Placed bits₀ (c₀ .at) k (take count (drop first (blockSums (layout l1 l2 nc r) (rowOf nc chunks) ++ stringSums (layout l1 l2 nc r) (rowOf nc chunks)))) i bits (c .at)
+Inv-loop table l1 l2 nc r chunks first count k out₀ f₀ i₀ out f i =
+    (i ≤ count)
+    × Placed f₀ out₀ k (take count (drop first (blockSums (layout l1 l2 nc r) (rowOf nc chunks) ++ stringSums (layout l1 l2 nc r) (rowOf nc chunks)))) i f out
 
 abbrev μ-loop : tie.MeasureT-loop
-μ-loop table l1 l2 nc r chunks first count k bits₀ c₀ i₀ bits c i = count - i
+μ-loop table l1 l2 nc r chunks first count k out₀ f₀ i₀ out f i = count - i
 
 -- the layout, the sums that are placed, and their count
 abbrev lay : tie.Start Inv-loop μ-loop → Layout
@@ -34,37 +35,32 @@ abbrev vs : tie.Start Inv-loop μ-loop → List ℕ
 vs c = take (c .args .count) (drop (c .args .first) (blockSums (lay c) (row c) ++ stringSums (lay c) (row c)))
 
 count : (c : tie.Start Inv-loop μ-loop) → length (vs c) ≡ c .args .count
-count c = length-part (lay c) (row c) (c .args .first) (c .args .count) (c .pre .1 .0)
+count c = length-part (lay c) (row c) (c .args .first) (c .args .count) (c .pre .1 .0 .0)
 
 loop-holds : tie.Need-loop-holds Inv-loop μ-loop
 loop-holds c =
     let s = c .before .before in
     let a = s .args in
-    (search needs, placed-start (a .bits .now) (a .start .at) (a .k) (vs s) (a .count) (count s) (s .pre .1 .1 .1))
+    (search needs, placed-start (a .start) (a .out .now) (a .k) (vs s) (s .pre .1 .1 .0))
 
 add-sum-of : tie.Need-add-sum-of Inv-loop μ-loop
 add-sum-of c =
     let s = c .before .before .before .before in
     let z = sizes (lay s) (legal-bounds (lay s) (s .pre .0 .1 .0)) in
-    omega (arith, s .pre .1 .0, z .l1-high, z .l2-high)
+    omega (arith, s .pre .1 .0 .0, z .l1-high, z .l2-high)
 
 sum-of-requires : tie.Need-sum-of-requires Inv-loop μ-loop
 sum-of-requires c κs =
     let s = c .before .before .before .before in
-    (s .pre .0 .0, (s .pre .0 .1 .0, (s .pre .0 .1 .1, omega (arith, s .pre .1 .0))))
-
-cast-sum : tie.Need-cast-sum Inv-loop μ-loop
-cast-sum c =
-    let s = c .before .before .before .before .before in
-    let a = s .args in
-    omega (arith, c .sum-of .ensures, sum-low (lay s) (row s) (s .pre .0 .1 .0) (row-length (lay s) (a .chunks .now) (s .pre .0 .1 .1)) (a .first + c .before .before .loop .i) (omega (arith, s .pre .1 .0)))
+    (s .pre .0 .0, (s .pre .0 .1 .0, (s .pre .0 .1 .1, omega (arith, s .pre .1 .0 .0))))
 
 put-requires : tie.Need-put-requires Inv-loop μ-loop
 put-requires c κs =
     let s = c .before .before .before .before .before .before in
     let a = s .args in
     let p = c .before .before .before .loop in
-    (s .pre .1 .1 .0, placed-room (a .bits .now) (a .start .at) (a .k) (vs s) (a .count) (count s) (s .pre .1 .1 .1) (p .i) (p .c .at) (p .bits) (p .inv .1) (omega arith))
+    let room = placed-room (a .start) (a .out .now) (a .k) (vs s) (a .count) (count s) (s .pre .1 .1 .1) (p .i) (p .f) (p .out) (p .inv .1) (omega arith) in
+    ((s .pre .1 .0 .1, p .inv .1 .ready), room)
 
 add-i : tie.Need-add-i Inv-loop μ-loop
 add-i c = search needs
@@ -79,7 +75,7 @@ loop-again c =
     let p = c .before .before .before .before .before .before .loop in
     let q = c .before .before .put in
     let v = c .before .before .before .before .sum-of .ensures ∙ sum-of-part (lay s) (row s) (a .first) (a .count) (p .i) (omega arith) in
-    (omega arith, placed-next (a .bits .now) (a .start .at) (a .k) (vs s) (a .count) (count s) (s .pre .1 .1 .1) (p .i) (p .c .at) (p .bits) (p .inv .1) (omega arith) _ _ (q .last .1 .0) v (q .ensures .0) (q .ensures .1))
+    (omega arith, placed-next (a .start) (a .out .now) (a .k) (vs s) (p .i) (p .f) (p .out) (p .inv .1) (omega (arith, count s)) _ v _ _ (q .ensures))
 
 same-length : tie.Need-same-length Inv-loop μ-loop
 same-length c = search needs
@@ -89,7 +85,7 @@ returns c =
     let s = c .before .before .before .before in
     let a = s .args in
     let p = c .before .loop in
-    placed-end (a .bits .now) (a .start .at) (a .k) (vs s) (a .count) (count s) (s .pre .1 .1 .1) (p .i) (p .c .at) (p .bits) (p .inv .1) (omega arith)
+    placed-end (a .start) (a .out .now) (a .k) (vs s) (p .i) (p .f) (p .out) (p .inv .1) (omega (arith, count s))
 
 pub put-sums-spec : {M : Type 1} → statement M
 put-sums-spec =
@@ -100,7 +96,6 @@ put-sums-spec =
     loop-holds
     add-sum-of
     sum-of-requires
-    cast-sum
     put-requires
     add-i
     loop-less
