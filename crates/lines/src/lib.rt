@@ -108,7 +108,7 @@ fn put_back(nc: usize, whole: usize, bits: &[u8]) -> Mended
 }
 
 // The chunk of nc bits that the bits at hand, which weigh so much, make with a bit that adds g to the total of their positions, the
-// first of which is given. A 0 adds at most the number of their ones; a 1 adds at least as much, and its own position.
+// first of which is given. A 0 adds at most the number of their ones; a 1 adds at least that and the first position.
 fn mend_chunk(nc: usize, first: usize, w: Weight, g: usize, bits: &[u8]) -> Mended
     requires { ⌜ (((length (now bits) + 1 ≡ nc) × (nc ≤ 8)) × AllBits (now bits)) × (((1 ≤ first) × (first ≤ longest) × (g ≤ longest))
         × ((w .total ≡ total 1 (now bits)) × (w .ones ≡ ones (now bits)))) ⌝ }
