@@ -8,7 +8,7 @@ use native.Mathlib.Nat.{suc-mul, zero-mul, mul-le-mul-right}
 use native.Mathlib.Numerals.{add-one}
 use native.Mathlib.Omega.{arith}
 use lib.ListN.{length, take, drop, getD, set, length-append, length-drop, take-append-drop, drop-of-length-le, List·getD-append}
-use lib.Seq.{take-at, take-append-le, drop-at, drop-drop, take-take, take-add, take-suc, drop-cons, getD-take, set-at, append-snoc, length-take-le, drop-append-add}
+use lib.Seq.{take-at, take-append-le, drop-append-le, drop-at, drop-drop, take-take, take-add, take-suc, drop-cons, getD-take, set-at, append-snoc, length-take-le, drop-append-add}
 use Rattle.bits.specs.Bits.{cut}
 use Rattle.rows.specs.Held.{Held, insert}
 use Rattle.rows.specs.Order.{Less, byOrder, order, Mem, Ascending}
@@ -243,6 +243,43 @@ module _ (s : List ℕ) (to w i : ℕ) (fits : to + w ≤ length s) (low : i < t
       let r : List ℕ = take (to - suc i) (drop (suc i) s) ++ drop (to + w) s in
       rw (e, add-one i, f, take-suc s (i + w) 0 (omega arith), drop-cons s i 0 (omega arith), append-snoc)
       (set-at (take (i + w) s) (getD s (i + w) 0) r (getD s i 0) (i + w) (length-take-le (i + w) s (omega arith)))
+
+-- as many bytes stand there as before
+pub length-moved : (s : List ℕ) (to w i : ℕ) → i ≤ to → to + w ≤ length s → length (Moved s to w i) ≡ length s
+length-moved s to w i low fits =
+    let a = length-take-le (i + w) s (omega arith) in
+    let b = length-take-le (to - i) (drop i s) (omega (arith, length-drop i s)) in
+    length-append (take (i + w) s) (take (to - i) (drop i s) ++ drop (to + w) s)
+    ∙ omega (arith, a, b, length-append (take (to - i) (drop i s)) (drop (to + w) s), length-drop (to + w) s)
+
+-- a part of the bytes that stand before those moved is still the one at entry
+part-of : (p r : List ℕ) (n k : ℕ) → k + n ≤ length p → take n (drop k (p ++ r)) ≡ take n (drop k p)
+part-of p r n k h =
+    ap (take n) (drop-append-le k p r (omega arith))
+    ∙ take-append-le n (drop k p) r (omega (arith, length-drop k p))
+
+-- bytes moved up from byte i on, and then those from byte k to byte i
+pub moved-part : (s : List ℕ) (to w i k : ℕ) → to + w ≤ length s → k ≤ i → i ≤ to → Moved (Moved s to w i) i w k ≡ Moved s to w k
+moved-part s to w i k fits low high =
+    let p : List ℕ = take (i + w) s in
+    let r : List ℕ = take (to - i) (drop i s) ++ drop (to + w) s in
+    let l : length p ≡ i + w = length-take-le (i + w) s (omega arith) in
+    let a : take (k + w) (p ++ r) ≡ take (k + w) s =
+    take-append-le (k + w) p r (omega arith) ∙ take-take (k + w) (i + w) s (omega arith)
+    in
+    let b : take (i - k) (drop k (p ++ r)) ≡ take (i - k) (drop k s) =
+    part-of p r (i - k) k (omega arith) ∙ sym (part-of p (drop (i + w) s) (i - k) k (omega arith))
+    ∙ ap (λ (u : List ℕ). take (i - k) (drop k u)) (take-append-drop (i + w) s)
+    in
+    let c : drop (i + w) (p ++ r) ≡ r = drop-at p r (i + w) l in
+    let e : to - k ≡ i - k + (to - i) = omega arith in
+    let from : k + (i - k) ≡ i = omega arith in
+    let d : take (to - k) (drop k s) ≡ take (i - k) (drop k s) ++ take (to - i) (drop i s) =
+    ap (λ (n : ℕ). take n (drop k s)) e ∙ take-add (i - k) (to - i) (drop k s)
+    ∙ ap (λ (u : List ℕ). take (i - k) (drop k s) ++ take (to - i) u)
+    (drop-drop (i - k) k s ∙ ap (λ (n : ℕ). drop n s) from)
+    in
+    rw (a, b, c, d, append-assoc) refl
 
 -- ---- the place of a row, found by halving
 -- what the answer of a comparison says

@@ -56,8 +56,23 @@ pub fn place(list: &[u8], count: usize, x: &[u8]) -> usize
     low
 }
 
-// The bytes from one place to another are moved up by w.
-fn move_up(list: &mut [u8], from: usize, to: usize, w: usize)
+// The bytes that are moved at a time.
+const PIECE: usize = 64;
+
+// A piece from one place on is moved up by w.
+fn move_piece(list: &mut [u8], from: usize, w: usize)
+    requires { ⌜ from + 64 + w ≤ length (now list) ⌝ }
+    ensures { λ _. ⌜ now (list .exit) ≡ take (from + w) (now (list .entry))
+        ++ (take 64 (drop from (now (list .entry))) ++ drop (from + 64 + w) (now (list .entry))) ⌝ }
+{
+    let end = from + PIECE;
+    let mut held: [u8; PIECE] = [0; PIECE];
+    bits::copy_to(&list[from..end], &mut held, 0);
+    bits::copy_to(&held, list, from + w);
+}
+
+// The bytes from one place to another are moved up by w, one by one.
+fn move_bytes(list: &mut [u8], from: usize, to: usize, w: usize)
     requires { ⌜ (from ≤ to) × ((to + w ≤ length (now list)) × (1 ≤ w)) ⌝ }
     ensures { λ _. ⌜ now (list .exit) ≡ take (from + w) (now (list .entry))
         ++ (take (to - from) (drop from (now (list .entry))) ++ drop (to + w) (now (list .entry))) ⌝ }
@@ -68,6 +83,20 @@ fn move_up(list: &mut [u8], from: usize, to: usize, w: usize)
         let b = list[i];
         list[i + w] = b;
     }
+}
+
+// The bytes from one place to another are moved up by w: whole pieces from the last down, and what is left one by one.
+fn move_up(list: &mut [u8], from: usize, to: usize, w: usize)
+    requires { ⌜ (from ≤ to) × ((to + w ≤ length (now list)) × (1 ≤ w)) ⌝ }
+    ensures { λ _. ⌜ now (list .exit) ≡ take (from + w) (now (list .entry))
+        ++ (take (to - from) (drop from (now (list .entry))) ++ drop (to + w) (now (list .entry))) ⌝ }
+{
+    let mut i = to;
+    while PIECE <= i - from {
+        i -= PIECE;
+        move_piece(list, i, w);
+    }
+    move_bytes(list, from, i, w);
 }
 
 // A row goes to a place of the list slice, and what stands from there up to another place moves up by one row.
