@@ -5,3 +5,4 @@ mod Levels
 mod First
 mod Paths
 mod Near
+mod Floors

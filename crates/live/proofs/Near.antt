@@ -5,6 +5,7 @@ use Prim.Native.Nat.{ℕ, zero, suc, _+_, _-_, _*_, _<_, _≤_}
 use mathlib.Core.Path.{_≡_, refl, sym, ap, _∙_}
 use mathlib.Core.Bool.{Bool, true, false, cond}
 use mathlib.Core.List.{List}
+use native.Mathlib.Nat.{mul-le-mul-right}
 use native.Mathlib.Numerals.{add-one}
 use native.Mathlib.Omega.{arith}
 use lib.Dec.{eqb}
@@ -19,7 +20,7 @@ use Rattle.column.proofs.Rows.{no-loss}
 use Rattle.far.specs.Far.{Reads, readApart, Walk, stepAt, blockAt}
 use Rattle.live.specs.Live.{Path, apartBefore, apartFrom}
 use Rattle.live.specs.Passes.{Kept}
-use Rattle.live.specs.Near.{Counted, mostIn, most}
+use Rattle.live.specs.Near.{CountedIn, Counted, mostIn, most, mostAfter}
 use Rattle.live.proofs.Paths.{own-within}
 
 -- one at most
@@ -158,6 +159,26 @@ module _ (l : Layout) (y numbers : List ℕ) (heavy : Heavy) (row : List ℕ) (s
         let e : shape .n ≡ heavy .n = kept .blocks in
         rw e (omega (arith, most-blocks (heavy .n) (omega arith), by-blocks l heavy z vs (l .l2)))
 
+  -- and of what it counts from a column on
+  module _ (after : List ℕ) (counted : CountedIn l y heavy z (shape .size) false after) (j : ℕ) (inside : j ≤ l .l2) where
+    after-blocks : (n : ℕ) → n ≤ heavy .n
+        → inBlocks l heavy z vs (l .l2) n ≤ inBlocks l heavy z vs j n + mostAfter (l .l2) after (own j) j n
+    unfolding inBlocks mostAfter
+    after-blocks zero h = omega arith
+    after-blocks (suc n) h =
+        let e : l .l2 - (l .l2 - j) ≡ j = omega arith in
+        let b = rw e at (counted n (omega arith) _ _ (walks-back n (omega arith)) (l .l2 - j) (omega arith)) in
+        omega (arith, after-blocks n (omega arith), b)
+
+    pub after-covers : apartFrom l heavy z vs j ≤ mostAfter (l .l2) after (own j) j (shape .n)
+    after-covers =
+        let e : shape .n ≡ heavy .n = kept .blocks in
+        rw e (omega (arith, after-blocks (heavy .n) (omega arith), by-blocks l heavy z vs (l .l2), by-blocks l heavy z vs j))
+
+-- the table of a block ends before that of the last
+pub next-block : (columns s n : ℕ) → s < n → blockAt columns (s + 1) ≤ blockAt columns n
+next-block columns s n h = mul-le-mul-right {m = s + 1} {n = n} ((columns + 1) * 13) (omega arith)
+
 -- ---- states
 module _ (columns : ℕ) (before after : List ℕ) (size : ℕ → ℕ) where
   -- only the losses left in the blocks count
@@ -168,3 +189,11 @@ module _ (columns : ℕ) (before after : List ℕ) (size : ℕ → ℕ) where
   most-same a b j (suc n) h =
       let e = ap (λ (v : ℕ). mostIn columns before after n (size n) v j) (h n (omega arith)) in
       omega (arith, most-same a b j n (λ s k. h s (omega arith)), e)
+
+pub after-same : (columns : ℕ) (after : List ℕ) (a b : ℕ → ℕ) (j n : ℕ) → ((s : ℕ) → s < n → a s ≡ b s)
+    → mostAfter columns after a j n ≡ mostAfter columns after b j n
+unfolding mostAfter
+after-same columns after a b j zero h = refl
+after-same columns after a b j (suc n) h =
+    let e = ap (λ (v : ℕ). getD after (stepAt (blockAt columns n) (columns - j) + v) 0) (h n (omega arith)) in
+    omega (arith, after-same columns after a b j n (λ s k. h s (omega arith)), e)

@@ -16,7 +16,7 @@ use Rattle.states.proofs.States.{state-none}
 use Rattle.column.specs.Column.{Light, apartIn}
 use Rattle.column.specs.declared.Heavy.{Heavy}
 use Rattle.live.specs.Live.{Covers, markAt, Path, apartBefore, Through}
-use Rattle.live.specs.Passes.{Within, numberOf, Kept, Remade, Joined, Gained, Goes, Pass}
+use Rattle.live.specs.Passes.{Within, numberOf, Kept, Remade, Joined, Regained, Goes, Pass}
 use Rattle.live.proofs.Columns.{other-column}
 use Rattle.live.proofs.Steps.{covers-less, number-low}
 
@@ -101,18 +101,19 @@ module _ (l : Layout) (y numbers : List ℕ) (heavy : Heavy) (row : List ℕ) (s
       go (no d) = rw (other-column (shape .states) c at entry marks e r i (numberOf shape (own i)) d (own-low i h)) (t
           i h)
 
-  -- one column more is passed: column c, by column b
-  pub passing-next : (known z : List ℕ) (j : ℕ) (ahead : Bool) (c b : ℕ) (entry marks : List ℕ) (f : ℕ → ℕ) (done done'
+  -- one column more is passed: column c, by column b, where the row counts no less than the floor of its state
+  pub passing-next : (known z : List ℕ) (j : ℕ) (ahead : Bool) (c b : ℕ) (entry marks floors : List ℕ) (f : ℕ → ℕ) (done done'
       : ℕ → Type 0)
       → c ≤ l .l2 → b ≤ l .l2 → Remade (shape .states) (c * shape .states) entry marks
       → ((left : ℕ → ℕ) → Within shape left → 0 < getD entry (c * shape .states + numberOf shape left) 0
-      → Gained l y numbers heavy known z shape j ahead entry (b * shape .states) (shape .states) left
+      → Regained l y numbers heavy known z shape j ahead entry (b * shape .states) (getD floors (numberOf shape left) 0) left
       (getD marks (c * shape .states + numberOf shape left) 0))
       → Joined l y numbers heavy known j ahead (own c) (own b) vs
       → f c ≤ f b + apartIn l heavy z vs j (heavy .n)
+      → getD floors (numberOf shape (own c)) 0 ≤ f b + apartIn l heavy z vs j (heavy .n)
       → done b → ((i : ℕ) → done' i → (i ≡ c) ⊎ done i)
       → Passing l shape entry own f done → Passing l shape marks own f done'
-  passing-next known z j ahead c b entry marks f done done' hc hb r g k low d dd p =
+  passing-next known z j ahead c b entry marks floors f done done' hc hb r g k low floor d dd p =
       record {
         lets = λ i h. lets-at i h (ℕ-discrete i c);
         covers = λ i h e. covers-at i h (dd i e) (ℕ-discrete i c);
@@ -121,8 +122,7 @@ module _ (l : Layout) (y numbers : List ℕ) (heavy : Heavy) (row : List ℕ) (s
       here : Covers (getD marks (markAt shape c (own c)) 0) (f c)
       here =
           covers-less _ (f b + apartIn l heavy z vs j (heavy .n)) (f c) low
-          (g (own c) (own-within c hc) (p .lets c hc) (own b) (own-within b hb) (own-low b hb) vs (f b) k (p .covers b
-          hb d))
+          (g (own c) (own-within c hc) (p .lets c hc) (own b) (own-within b hb) vs (f b) k (p .covers b hb d) floor)
 
       unchanged : (i : ℕ) → i ≤ l .l2 → (i ≡ c → ⊥)
           → getD marks (markAt shape i (own i)) 0 ≡ getD entry (markAt shape i (own i)) 0
@@ -191,28 +191,15 @@ split-down j i h = go (ℕ-discrete i j)
     go (no e) = inr (omega arith)
 
 -- ---- passes
-module _ (l : Layout) (y numbers : List ℕ) (heavy : Heavy) (known : List ℕ) (shape : Shape) (f : List ℕ → ℕ → ℕ) (entry
-    marks : List ℕ)
-    (pass : Pass l y numbers heavy known shape f entry marks) where
-  -- after a pass the mark after the last column covers the number there
-  pub pass-end : Kept heavy shape → (l .l2 + 1) * shape .states ≤ length entry → (row vs : List ℕ) (own : ℕ → ℕ → ℕ)
-      → Light l heavy row known → Path l y numbers heavy row (each (shape .size)) vs own → Through l shape entry own (λ
-      j. 0)
-      → Covers (getD marks (l .l2 * shape .states) 0) (f vs (l .l2))
-  pass-end kept room row vs own light path t =
-      let last = own-last l y numbers heavy row shape vs own kept path in
-      let e : markAt shape (l .l2) (own (l .l2)) ≡ l .l2 * shape .states = omega arith in
-      let place = own-place l y numbers heavy row shape vs own kept path marks (omega (arith, pass .long)) (l .l2)
-      (omega arith) in
-      rw e at (pass .through row vs own light path t (l .l2) (omega arith) place)
-
+module _ (l : Layout) (y numbers : List ℕ) (heavy : Heavy) (known z : List ℕ) (shape : Shape) (room : ℕ) (f : List ℕ → ℕ → ℕ) (entry
+    marks : List ℕ) (pass : Pass l y numbers heavy known z shape room f entry marks) where
   -- one pass after another
-  pub pass-then : (g : List ℕ → ℕ → ℕ) (exit : List ℕ) → Pass l y numbers heavy known shape g marks exit
-      → Pass l y numbers heavy known shape g entry exit
+  pub pass-then : (g : List ℕ → ℕ → ℕ) (exit : List ℕ) → Pass l y numbers heavy known z shape 0 g marks exit
+      → Pass l y numbers heavy known z shape room g entry exit
   pass-then g exit next =
       record {
         long = next .long ∙ pass .long;
-        through = λ row vs own light path t. next .through row vs own light path
+        through = λ row vs own light path far t. next .through row vs own light path (omega arith)
             (λ i h b. covers-less (getD marks (markAt shape i (own i)) 0) (f vs i) 0 (omega arith)
-            (pass .through row vs own light path t i h b));
+            (pass .through row vs own light path far t i h b));
       }

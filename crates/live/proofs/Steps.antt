@@ -12,12 +12,12 @@ use lib.Seq.{getD-set-same, getD-set-other}
 use Rattle.bits.specs.Bits.{digits}
 use Rattle.message.specs.declared.Layout.{Layout}
 use Rattle.consistent.specs.Greedy.{losses}
-use Rattle.states.specs.States.{state, each}
+use Rattle.states.specs.States.{stride, state, each}
 use Rattle.states.specs.declared.Shape.{Shape}
 use Rattle.states.proofs.States.{stride-pos, state-low, state-up, digitsOf, state-of, digits-most}
 use Rattle.column.specs.Column.{Crosses, chunkAt}
 use Rattle.column.specs.declared.Heavy.{Heavy}
-use Rattle.live.specs.Live.{Covers}
+use Rattle.live.specs.Live.{many, Covers}
 use Rattle.steps.specs.Steps.{Above}
 use Rattle.live.specs.Passes.{Within, numberOf, Digits, entryOf, Kept, Joined, Gains, SpreadBy, Gained, OneLess}
 
@@ -28,6 +28,12 @@ covers-more a b n h c = (omega (arith, c .0), ⊎-elim (λ u. inl (omega arith))
 -- and a mark covers what is no more
 pub covers-less : (a m n : ℕ) → n ≤ m → Covers a m → Covers a n
 covers-less a m n h c = (c .0, ⊎-elim (λ u. inl (omega arith)) (λ u. inr u) (c .1))
+
+-- and as much from its floor on if it is kept where it is above the floor
+pub covers-kept : (fresh floor mark n : ℕ) → floor < many → (floor < fresh → mark ≡ fresh) → floor ≤ n → Covers fresh n → Covers mark n
+covers-kept fresh floor mark n low kept h c =
+    let is = kept (⊎-elim (λ u. omega arith) (λ u. omega arith) (c .1)) in
+    rw is c
 
 -- a mark that is above another one by so many chunks covers so many more
 pub above-covers : (there a mark n : ℕ) → Above there a mark → Covers there n → Covers mark (n + a)
@@ -100,19 +106,14 @@ module _ {heavy : Heavy} {shape : Shape} (kept : Kept heavy shape) where
       → (s : ℕ) → s < heavy .n → own s ≡ entryOf table q s
   entry-is {table} d own w q e s h = rw (← e) (sym (d .entry own w s (omega (arith, kept .blocks))))
 
-  -- and no block has more left there than it has at most
-  pub entry-low : {table : List ℕ} → Digits shape table → (q : ℕ) → q < shape .states → (s : ℕ) → s < shape .n
-      → entryOf table q s ≤ each (shape .size) s
-  entry-low {table} d q low s h =
-      let size = each (shape .size) in
-      let most : Within shape (digitsOf size q) = λ t k. digits-most size q t in
-      let number = state-of size q (shape .n) (omega (arith, low, kept .shaped .all)) in
-      omega (arith, rw number at (d .entry (digitsOf size q) most s h), most s h)
-
-  pub digits-are : {table : List ℕ} → Digits shape table → heavy .n ≤ 6 → (own : ℕ → ℕ) → Within shape own
-      → (found : List ℕ) (q : ℕ) → numberOf shape own ≡ q → ((s : ℕ) → s < 6 → getD found s 0 ≡ entryOf table q s)
-      → (s : ℕ) → s < heavy .n → own s ≡ each found s
-  digits-are d few own w found q e f s h = entry-is d own w q e s h ∙ sym (f s (omega arith))
+-- no block has more left in a state than it has at most
+pub entry-low : {shape : Shape} {table : List ℕ} → shape .states ≡ stride (each (shape .size)) (shape .n) → Digits shape table
+    → (q : ℕ) → q < shape .states → (s : ℕ) → s < shape .n → entryOf table q s ≤ each (shape .size) s
+entry-low {shape} all d q low s h =
+    let size = each (shape .size) in
+    let most : Within shape (digitsOf size q) = λ t k. digits-most size q t in
+    let number = state-of size q (shape .n) (omega (arith, low, all)) in
+    omega (arith, rw number at (d .entry (digitsOf size q) most s h), most s h)
 
 -- ---- the mark of a state by the marks of others
 module _ (l : Layout) (y numbers : List ℕ) (heavy : Heavy) (known z : List ℕ) (j : ℕ) (ahead : Bool) where

@@ -2,7 +2,7 @@
 -- block by block.
 use Prim.Native.Nat.{ℕ, zero, suc, _+_, _-_, _*_, _<_, _≤_}
 use mathlib.Core.Path.{_≡_}
-use mathlib.Core.Bool.{true, false}
+use mathlib.Core.Bool.{Bool, true, false}
 use mathlib.Core.List.{List}
 use lib.ListN.{length, getD}
 use Rattle.message.specs.declared.Layout.{Layout}
@@ -10,21 +10,26 @@ use Rattle.states.specs.States.{each}
 use Rattle.states.specs.declared.Shape.{Shape}
 use Rattle.column.specs.declared.Heavy.{Heavy}
 use Rattle.far.specs.Far.{lefts, Covered, stepAt, blockAt}
+use Rattle.live.specs.Live.{many}
+use Rattle.live.specs.Passes.{mostStates, Within, numberOf}
 
--- the tables of what rows count in the columns before each, by the losses used, and from each on, by the losses left
+-- a table of what rows count in each heavy block: ahead, in the columns before each, by the losses used; otherwise from each on, by the
+-- losses left
+abbrev pub CountedIn : Layout → (y : List ℕ) → Heavy → (z size : List ℕ) (ahead : Bool) (table : List ℕ) → Type 0
+CountedIn l y heavy z size ahead table =
+    (s : ℕ) → s < heavy .n → Covered l y heavy z s (each size s) ahead (blockAt (l .l2) s) (l .l2) table
+
+-- both tables
 pub record Counted (l : Layout) (y : List ℕ) (heavy : Heavy) (z size before after : List ℕ) : Type 0 where
-  pub ahead : (s : ℕ) → s < heavy .n
-      → Covered l y heavy z s (each size s) true (blockAt (l .l2) s) (l .l2) before
-  pub back : (s : ℕ) → s < heavy .n
-      → Covered l y heavy z s (each size s) false (blockAt (l .l2) s) (l .l2) after
+  pub ahead : CountedIn l y heavy z size true before
+  pub back : CountedIn l y heavy z size false after
 
--- tables that have room for the blocks of a shape, each of which has few losses
-pub record Sized (columns : ℕ) (shape : Shape) (before after : List ℕ) : Type 0 where
+-- a table that has room for the blocks of a shape, each of which has few losses
+pub record Sized (columns : ℕ) (shape : Shape) (table : List ℕ) : Type 0 where
   pub narrow : columns ≤ 255
   pub few : shape .n ≤ 6
   pub small : (s : ℕ) → s < shape .n → getD (shape .size) s 0 < lefts
-  pub long-before : blockAt columns (shape .n) ≤ length before
-  pub long-after : blockAt columns (shape .n) ≤ length after
+  pub long : blockAt columns (shape .n) ≤ length table
 
 -- what the tables say of block s, which has so many losses, where at column j so many are left
 abbrev pub mostIn : (columns : ℕ) (before after : List ℕ) (s size left j : ℕ) → ℕ
@@ -37,3 +42,16 @@ unfoldable pub most : (columns : ℕ) (before after : List ℕ) (size left : ℕ
 most columns before after size left j zero = 0
 most columns before after size left j (suc s) =
     most columns before after size left j s + mostIn columns before after s (size s) (left s) j
+
+-- what the second table says of the first n blocks from column j on, where at its start so many are left
+unfoldable pub mostAfter : (columns : ℕ) (after : List ℕ) (left : ℕ → ℕ) (j n : ℕ) → ℕ
+mostAfter columns after left j zero = 0
+mostAfter columns after left j (suc s) =
+    mostAfter columns after left j s + getD after (stepAt (blockAt columns s) (columns - j) + left s) 0
+
+-- the floors of the states of column j: what a row that comes through a state counts before the column, at least, if it differs in room
+-- chunks
+pub record Floors (columns : ℕ) (shape : Shape) (after : List ℕ) (room j : ℕ) (floors : List ℕ) : Type 0 where
+  pub low : (q : ℕ) → q < mostStates → getD floors q 0 < many
+  pub under : (left : ℕ → ℕ) → Within shape left → (n : ℕ) → room ≤ n + mostAfter columns after left j (shape .n)
+      → getD floors (numberOf shape left) 0 ≤ n

@@ -11,7 +11,7 @@ use Rattle.states.specs.States.{state, each, Shaped}
 use Rattle.states.specs.declared.Shape.{Shape}
 use Rattle.column.specs.Column.{Fit, Light, Crosses, apartIn}
 use Rattle.column.specs.declared.Heavy.{Heavy}
-use Rattle.live.specs.Live.{Covers, Path, Through}
+use Rattle.live.specs.Live.{Covers, Path, apartFrom, Through}
 
 -- the most loss states whose marks are kept
 abbrev pub mostStates : ℕ
@@ -104,6 +104,15 @@ Gained l y numbers heavy known z shape j ahead marks base p own mark =
     (other : ℕ → ℕ) → Within shape other → numberOf shape other < p
     → Gains l y numbers heavy known z j ahead own other (getD marks (base + numberOf shape other) 0) mark
 
+-- the mark of the state own covers what each mark of the other states, which stand at base, covers and the chunks of column j that are
+-- others than in z, where these are floor together at least
+abbrev pub Regained : Layout → (y numbers : List ℕ) → Heavy → (known z : List ℕ) → Shape → (j : ℕ) (ahead : Bool) (marks : List ℕ)
+    (base floor : ℕ) (own : ℕ → ℕ) (mark : ℕ) → Type 0
+Regained l y numbers heavy known z shape j ahead marks base floor own mark =
+    (other : ℕ → ℕ) → Within shape other → (vs : List ℕ) (m : ℕ) → Joined l y numbers heavy known j ahead own other vs
+    → Covers (getD marks (base + numberOf shape other) 0) m → floor ≤ m + apartIn l heavy z vs j (heavy .n)
+    → Covers mark (m + apartIn l heavy z vs j (heavy .n))
+
 -- the state left is marked if a row crosses column j from it to a marked state
 abbrev pub Goes : Layout → (y numbers : List ℕ) → Heavy → (known : List ℕ) → Shape → (j : ℕ) (marks : List ℕ) (base : ℕ)
     (left : ℕ → ℕ) (mark : ℕ) → Type 0
@@ -127,11 +136,11 @@ pub record FirstMark (l : Layout) (y numbers : List ℕ) (heavy : Heavy) (known 
       → Crosses l y numbers heavy row j left next vs → OneLess (heavy .n) left next s → getD (shape .stride) s 0 ≤ q
       → 0 < level → 0 < getD marks (base + (q - getD (shape .stride) s 0)) 0 → 0 < mark
 
--- a pass over the marks: every row that they let through at entry they let through at exit, and cover the number f of
--- it
-pub record Pass (l : Layout) (y numbers : List ℕ) (heavy : Heavy) (known : List ℕ) (shape : Shape) (f : List ℕ → ℕ → ℕ)
+-- a pass over the marks: every row that they let through at entry and that differs from z in room chunks of the heavy blocks they let
+-- through at exit, and cover the number f of it
+pub record Pass (l : Layout) (y numbers : List ℕ) (heavy : Heavy) (known z : List ℕ) (shape : Shape) (room : ℕ) (f : List ℕ → ℕ → ℕ)
     (entry exit : List ℕ) : Type 0 where
   pub long : length exit ≡ length entry
   pub through : (row vs : List ℕ) (own : ℕ → ℕ → ℕ) → Light l heavy row known
-      → Path l y numbers heavy row (each (shape .size)) vs own → Through l shape entry own (λ j. 0)
-      → Through l shape exit own (f vs)
+      → Path l y numbers heavy row (each (shape .size)) vs own → room ≤ apartFrom l heavy z vs 0
+      → Through l shape entry own (λ j. 0) → Through l shape exit own (f vs)

@@ -13,12 +13,12 @@ ghost use lib.ListN.{length, getD};
 ghost use Rattle.windows.specs.Windows.{Tables};
 ghost use Rattle.states.specs.States.{each, Shaped};
 ghost use Rattle.column.specs.Column.{Fit, Light, Crosses, apartIn};
-ghost use Rattle.live.specs.Live.{Path, apartBefore, apartFrom, Covers, Through};
+ghost use Rattle.live.specs.Live.{many, Path, apartBefore, apartFrom, Covers, Through};
 ghost use Rattle.live.specs.Passes.{Ready, Within, numberOf, PutAt, entryOf, Digits, Kept, Remade, Joined};
 ghost use Rattle.steps.specs.Steps.{Counts};
 ghost use Rattle.far.specs.Far.{lefts, blockAt};
-ghost use Rattle.live.specs.Near.{Counted, Sized, mostIn, most};
-ghost use Rattle.live.specs.Passes.{Gains, Spread, SpreadBy, Gained, Goes, OneLess, FirstMark, Pass};
+ghost use Rattle.live.specs.Near.{CountedIn, Counted, Sized, mostIn, most, mostAfter, Floors};
+ghost use Rattle.live.specs.Passes.{mostStates, Gains, Spread, SpreadBy, Regained, Goes, OneLess, FirstMark, Pass};
 
 // The most loss states whose marks are kept.
 const MOST_STATES: usize = 729;
@@ -29,13 +29,12 @@ const MOST_COUNTS: usize = 730;
 // From here on a mark says nothing of a number.
 pub const MANY: u8 = 40;
 
-// What is prepared: the shape of the loss states; whether their marks are kept; whether no row comes through them but those near
-// another row; and whether each that does is near it.
+// What is prepared: the shape of the loss states; whether their marks are kept; and whether no row comes through them but those near
+// another row.
 pub struct Prepared {
     pub shape: Shape,
     pub kept: bool,
     pub none: bool,
-    pub near: bool,
 }
 
 // Sets the losses left in state q.
@@ -373,20 +372,37 @@ fn spread(
     );
 }
 
-// Sets the marks of a column.
-fn put_column(states: usize, at: usize, fresh: &[u8], marks: &mut [u8])
-    requires { ⌜ (states ≤ length (now fresh)) × (at + states ≤ length (now marks)) ⌝ }
-    ensures { λ _. ⌜ Remade states at (now (marks .entry)) (now (marks .exit))
-        × ((p : ℕ) → p < states → getD (now (marks .exit)) (at + p) 0 ≡ getD (now (fresh .entry)) p 0) ⌝ }
+// A mark, if it is above its floor; zero otherwise.
+fn above_floor(mark: u8, floor: u8) -> u8
+    ensures { λ r. ⌜ (floor < mark → r ≡ mark) ⌝ }
 {
-    let mut p: usize = 0;
-    while p < states {
-        marks[at + p] = fresh[p];
-        p += 1;
+    if mark <= floor {
+        return 0;
     }
+    mark
 }
 
-// New marks of one column, at a place, by those of a column next to it, at base, for the states that had one.
+// Sets the marks of a column, those that are above their floors. It answers the greatest.
+fn put_column(states: usize, at: usize, floors: &[u8], fresh: &[u8], marks: &mut [u8]) -> u8
+    requires { ⌜ (states ≤ length (now floors)) × ((states ≤ length (now fresh)) × (at + states ≤ length (now marks))) ⌝ }
+    ensures { λ r. ⌜ Remade states at (now (marks .entry)) (now (marks .exit))
+        × (((p : ℕ) → p < states → getD (now (marks .exit)) (at + p) 0 ≤ r)
+        × ((p : ℕ) → p < states → getD (now (floors .entry)) p 0 < getD (now (fresh .entry)) p 0
+        → getD (now (marks .exit)) (at + p) 0 ≡ getD (now (fresh .entry)) p 0)) ⌝ }
+{
+    let mut highest: u8 = 0;
+    let mut p: usize = 0;
+    while p < states {
+        let mark = above_floor(fresh[p], floors[p]);
+        marks[at + p] = mark;
+        highest = higher(highest, mark);
+        p += 1;
+    }
+    highest
+}
+
+// New marks of one column, at a place, by those of a column next to it, at base, for the states that had one; those that are not above
+// their floors are left out. It answers the greatest.
 fn remake(
     l: Layout,
     y: &[u8],
@@ -402,19 +418,22 @@ fn remake(
     ahead: bool,
     at: usize,
     base: usize,
+    floors: [u8; MOST_STATES],
     marks: &mut [u8],
-)
+) -> u8
     requires { ⌜ Ready l (now y) (now totals) (now counts) (now numbers) heavy (now known) (now z) × ((j < l .l2)
         × (Kept heavy shape × (Digits shape (now digits)
-        × ((at + shape .states ≤ length (now marks)) × (base + shape .states ≤ length (now marks)))))) ⌝ }
-    ensures { λ _. ⌜ Remade (shape .states) at (now (marks .entry)) (now (marks .exit))
+        × ((at + shape .states ≤ length (now marks)) × ((base + shape .states ≤ length (now marks))
+        × ((q : ℕ) → q < mostStates → getD floors q 0 < many)))))) ⌝ }
+    ensures { λ r. ⌜ Remade (shape .states) at (now (marks .entry)) (now (marks .exit))
+        × (((p : ℕ) → p < shape .states → getD (now (marks .exit)) (at + p) 0 ≤ r)
         × ((own : ℕ → ℕ) → Within shape own → 0 < getD (now (marks .entry)) (at + numberOf shape own) 0
-        → Gained l (now (y .entry)) (now (numbers .entry)) heavy (now (known .entry)) (now (z .entry)) shape j ahead
-        (now (marks .entry)) base (shape .states) own
-        (getD (now (marks .exit)) (at + numberOf shape own) 0)) ⌝ }
+        → Regained l (now (y .entry)) (now (numbers .entry)) heavy (now (known .entry)) (now (z .entry)) shape j ahead
+        (now (marks .entry)) base (getD floors (numberOf shape own) 0) own
+        (getD (now (marks .exit)) (at + numberOf shape own) 0))) ⌝ }
 {
     let states = shape.states;
-    let mut fresh: [u8; MOST_STATES] = [0; MOST_STATES];
+    let mut fresh = floors;
     let mut some: [u16; MOST_COUNTS] = [0; MOST_COUNTS];
     steps::count_marked(marks, at, states, &mut some);
     let mut p: usize = 0;
@@ -441,7 +460,7 @@ fn remake(
         );
         p += 1;
     }
-    put_column(states, at, &fresh, marks);
+    put_column(states, at, &floors, &fresh, marks)
 }
 
 // Gives one state of a column a mark, and the others none.
@@ -458,7 +477,94 @@ fn only(states: usize, at: usize, q: usize, mark: u8, marks: &mut [u8])
     marks[at + q] = mark;
 }
 
-// Marks that count the chunks that can be others than in z, from the first column on: in the columns before each.
+// What the second table says of all heavy blocks together from column j on, where at its start so many losses are left.
+fn most_after(
+    columns: usize,
+    shape: Shape,
+    after: &[u8],
+    j: usize,
+    left: [u8; states::MOST_HEAVY],
+) -> usize
+    requires { ⌜ Sized columns shape (now after) × ((j ≤ columns) × ((s : ℕ) → s < shape .n → getD left s 0 < lefts)) ⌝ }
+    ensures { λ r. ⌜ r ≡ mostAfter columns (now (after .entry)) (each left) j (shape .n) ⌝ }
+{
+    let n = shape.n;
+    let stride = (columns + 1) * far::LEFTS;
+    let from = (columns - j) * far::LEFTS;
+    let mut most: usize = 0;
+    let mut s: usize = 0;
+    while s < n {
+        most += bits::wide(after[s * stride + from + bits::wide(left[s])]);
+        s += 1;
+    }
+    most
+}
+
+// What a row must count before a column, at least, where it can differ from z in so many chunks from there on and is not near.
+fn floor_by(room: usize, most: usize) -> u8
+    ensures { λ r. ⌜ (r < many) × ((n : ℕ) → room ≤ n + most → r ≤ n) ⌝ }
+{
+    if room <= most {
+        return 0;
+    }
+    let floor = room - most;
+    if bits::wide(MANY) <= floor {
+        return MANY - 1;
+    }
+    floor as u8
+}
+
+// The floor of state q of column j, which has this mark. A state without a mark needs none.
+fn floor_of(
+    columns: usize,
+    shape: Shape,
+    digits: &[u8],
+    after: &[u8],
+    room: usize,
+    j: usize,
+    q: usize,
+    mark: u8,
+) -> u8
+    requires { ⌜ Sized columns shape (now after) × ((j ≤ columns) × ((q * 6 + 6 ≤ length (now digits))
+        × ((s : ℕ) → s < shape .n → entryOf (now digits) q s < lefts))) ⌝ }
+    ensures { λ r. ⌜ (r < many) × ((n : ℕ)
+        → room ≤ n + mostAfter columns (now (after .entry)) (entryOf (now (digits .entry)) q) j (shape .n) → r ≤ n) ⌝ }
+{
+    if mark == 0 {
+        return 0;
+    }
+    let left = digits_of(digits, q);
+    floor_by(room, most_after(columns, shape, after, j, left))
+}
+
+// The floors of the states of column j, whose marks stand at a place.
+fn floors_of(
+    columns: usize,
+    shape: Shape,
+    digits: &[u8],
+    after: &[u8],
+    room: usize,
+    j: usize,
+    marks: &[u8],
+    at: usize,
+) -> [u8; MOST_STATES]
+    requires { ⌜ Sized columns shape (now after) × ((j ≤ columns) × (Digits shape (now digits)
+        × ((Shaped (shape .n) (shape .size) (shape .stride) (shape .states) × (shape .states ≤ mostStates))
+        × (at + shape .states ≤ length (now marks))))) ⌝ }
+    ensures { λ r. ⌜ Floors columns shape (now (after .entry)) room j r ⌝ }
+{
+    let states = shape.states;
+    let mut floors: [u8; MOST_STATES] = [0; MOST_STATES];
+    let mut q: usize = 0;
+    while q < states {
+        floors[q] = floor_of(columns, shape, digits, after, room, j, q, marks[at + q]);
+        q += 1;
+    }
+    floors
+}
+
+// Marks that count the chunks that can be others than in z, from the first column on: in the columns before each. It answers whether a row
+// that is not near can come to the end.
 fn ahead(
     l: Layout,
     y: &[u8],
@@ -470,20 +576,28 @@ fn ahead(
     z: &[u8],
     shape: Shape,
     digits: &[u8],
+    after: &[u8],
+    room: usize,
     marks: &mut [u8],
-)
+) -> bool
     requires { ⌜ Ready l (now y) (now totals) (now counts) (now numbers) heavy (now known) (now z)
-        × (Kept heavy shape × (Digits shape (now digits) × ((l .l2 + 1) * shape .states ≤ length (now marks)))) ⌝ }
-    ensures { λ _. ⌜ Pass l (now (y .entry)) (now (numbers .entry)) heavy (now (known .entry)) shape
-        (apartBefore l heavy (now (z .entry)))
-        (now (marks .entry)) (now (marks .exit)) ⌝ }
+        × (Kept heavy shape × (Digits shape (now digits) × ((Sized (l .l2) shape (now after)
+        × (0 < room → CountedIn l (now y) heavy (now z) (shape .size) false (now after)))
+        × ((l .l2 + 1) * shape .states ≤ length (now marks))))) ⌝ }
+    ensures { λ r. ⌜ Pass l (now (y .entry)) (now (numbers .entry)) heavy (now (known .entry)) (now (z .entry)) shape room
+        (apartBefore l heavy (now (z .entry))) (now (marks .entry)) (now (marks .exit))
+        × ((row vs : List ℕ) (own : ℕ → ℕ → ℕ) → Light l heavy row (now (known .entry))
+        → Path l (now (y .entry)) (now (numbers .entry)) heavy row (each (shape .size)) vs own
+        → room ≤ apartFrom l heavy (now (z .entry)) vs 0 → Through l shape (now (marks .entry)) own (λ j. 0) → r ≡ true) ⌝ }
 {
     let states = shape.states;
     let columns = l.l2;
     only(states, 0, states - 1, 1, marks);
     let mut j: usize = 0;
     while j < columns {
-        remake(
+        let at = (j + 1) * states;
+        let floors = floors_of(columns, shape, digits, after, room, j + 1, marks, at);
+        let highest = remake(
             l,
             y,
             totals,
@@ -496,12 +610,17 @@ fn ahead(
             digits,
             j,
             true,
-            (j + 1) * states,
+            at,
             j * states,
+            floors,
             marks,
         );
+        if highest == 0 {
+            return false;
+        }
         j += 1;
     }
+    0 < marks[columns * states]
 }
 
 // Marks that count the chunks that can be others than in z, from the last column back: in the columns from each on.
@@ -520,11 +639,11 @@ fn back(
 )
     requires { ⌜ Ready l (now y) (now totals) (now counts) (now numbers) heavy (now known) (now z)
         × (Kept heavy shape × (Digits shape (now digits) × ((l .l2 + 1) * shape .states ≤ length (now marks)))) ⌝ }
-    ensures { λ _. ⌜ Pass l (now (y .entry)) (now (numbers .entry)) heavy (now (known .entry)) shape
-        (apartFrom l heavy (now (z .entry)))
-        (now (marks .entry)) (now (marks .exit)) ⌝ }
+    ensures { λ _. ⌜ Pass l (now (y .entry)) (now (numbers .entry)) heavy (now (known .entry)) (now (z .entry)) shape 0
+        (apartFrom l heavy (now (z .entry))) (now (marks .entry)) (now (marks .exit)) ⌝ }
 {
     let states = shape.states;
+    let none: [u8; MOST_STATES] = [0; MOST_STATES];
     let mut j = l.l2;
     only(states, j * states, 0, 1, marks);
     while 0 < j {
@@ -544,6 +663,7 @@ fn back(
             false,
             j * states,
             (j + 1) * states,
+            none,
             marks,
         );
     }
@@ -900,7 +1020,7 @@ fn most_apart(
     j: usize,
     left: [u8; states::MOST_HEAVY],
 ) -> usize
-    requires { ⌜ Sized columns shape (now before) (now after) × (j ≤ columns) ⌝ }
+    requires { ⌜ (Sized columns shape (now before) × Sized columns shape (now after)) × (j ≤ columns) ⌝ }
     ensures { λ r. ⌜ (((s : ℕ) → s < shape .n → getD left s 0 ≤ getD (shape .size) s 0)
         → r ≡ most columns (now (before .entry)) (now (after .entry)) (each (shape .size)) (each left) j (shape .n)) ⌝ }
 {
@@ -927,7 +1047,7 @@ fn far_level(
     q: usize,
     level: u8,
 ) -> u8
-    requires { ⌜ Sized columns shape (now before) (now after) × ((j ≤ columns) × (Digits shape (now digits) × (q < shape .states))) ⌝ }
+    requires { ⌜ (Sized columns shape (now before) × Sized columns shape (now after)) × ((j ≤ columns) × (Digits shape (now digits) × (q < shape .states))) ⌝ }
     ensures { λ r. ⌜ ((left : ℕ → ℕ) → Within shape left → numberOf shape left ≡ q
         → room ≤ most columns (now (before .entry)) (now (after .entry)) (each (shape .size)) left j (shape .n) → r ≡ level) ⌝ }
 {
@@ -980,7 +1100,7 @@ fn complete_column(
     marks: &mut [u8],
 ) -> u8
     requires { ⌜ Ready l (now y) (now totals) (now counts) (now numbers) heavy (now known) (now z) × ((j < l .l2)
-        × (Kept heavy shape × (Digits shape (now digits) × (Sized (l .l2) shape (now before) (now after)
+        × (Kept heavy shape × (Digits shape (now digits) × ((Sized (l .l2) shape (now before) × Sized (l .l2) shape (now after))
         × ((at + shape .states ≤ base) × (base + shape .states ≤ length (now marks))))))) ⌝ }
     ensures { λ r. ⌜ Remade (shape .states) at (now (marks .entry)) (now (marks .exit))
         × (((p : ℕ) → p < shape .states → getD (now (marks .exit)) (at + p) 0 ≤ r)
@@ -1044,7 +1164,7 @@ fn complete(
     marks: &mut [u8],
 ) -> bool
     requires { ⌜ Ready l (now y) (now totals) (now counts) (now numbers) heavy (now known) (now z)
-        × (Kept heavy shape × (Digits shape (now digits) × (Sized (l .l2) shape (now before) (now after)
+        × (Kept heavy shape × (Digits shape (now digits) × ((Sized (l .l2) shape (now before) × Sized (l .l2) shape (now after))
         × ((l .l2 + 1) * shape .states ≤ length (now marks))))) ⌝ }
     ensures { λ r. ⌜ (length (now (marks .exit)) ≡ length (now (marks .entry)))
         × ((row vs : List ℕ) (own : ℕ → ℕ → ℕ) → Light l heavy row (now (known .entry))
@@ -1085,17 +1205,7 @@ fn complete(
     0 < marks[states - 1]
 }
 
-// Whether each number that a mark covers is below room.
-fn is_near(mark: u8, room: usize) -> bool
-    ensures { λ r. ⌜ (r ≡ true → (n : ℕ) → Covers mark n → n < room) ⌝ }
-{
-    if MANY <= mark {
-        return false;
-    }
-    mark as usize <= room
-}
-
-// The counts of marks that let every row through: from the first column on, and back if not each row is near already.
+// The counts of marks that let every row through that is not near: from the first column on, and back if one comes to the end.
 fn count_marks(
     l: Layout,
     y: &[u8],
@@ -1107,19 +1217,21 @@ fn count_marks(
     z: &[u8],
     shape: Shape,
     digits: &[u8],
+    after: &[u8],
     room: usize,
     marks: &mut [u8],
 ) -> Prepared
     requires { ⌜ Ready l (now y) (now totals) (now counts) (now numbers) heavy (now known) (now z)
-        × (Kept heavy shape × (Digits shape (now digits) × ((l .l2 + 1) * shape .states ≤ length (now marks)))) ⌝ }
+        × (Kept heavy shape × (Digits shape (now digits) × ((Sized (l .l2) shape (now after)
+        × (0 < room → CountedIn l (now y) heavy (now z) (shape .size) false (now after)))
+        × ((l .l2 + 1) * shape .states ≤ length (now marks))))) ⌝ }
     ensures { λ r. ⌜ (r .shape ≡ shape) × ((row vs : List ℕ) (own : ℕ → ℕ → ℕ) → Light l heavy row (now (known .entry))
         → Path l (now (y .entry)) (now (numbers .entry)) heavy row (each (shape .size)) vs own
-        → Through l shape (now (marks .entry)) own (λ j. 0)
-        → (r .none ≡ true → ⊥) × ((r .near ≡ true → apartFrom l heavy (now (z .entry)) vs 0 < room)
-        × (r .kept ≡ true → Through l shape (now (marks .exit)) own (apartFrom l heavy (now (z .entry)) vs)))) ⌝ }
+        → room ≤ apartFrom l heavy (now (z .entry)) vs 0 → Through l shape (now (marks .entry)) own (λ j. 0)
+        → (r .none ≡ true → ⊥)
+        × (r .kept ≡ true → Through l shape (now (marks .exit)) own (apartFrom l heavy (now (z .entry)) vs))) ⌝ }
 {
-    let end = l.l2 * shape.states;
-    ahead(
+    if !ahead(
         l,
         y,
         totals,
@@ -1130,23 +1242,14 @@ fn count_marks(
         z,
         shape,
         digits,
+        after,
+        room,
         marks,
-    );
-    let last = marks[end];
-    if last == 0 {
+    ) {
         return Prepared {
             shape,
             kept: false,
             none: true,
-            near: false,
-        };
-    }
-    if is_near(last, room) {
-        return Prepared {
-            shape,
-            kept: false,
-            none: false,
-            near: true,
         };
     }
     back(
@@ -1166,7 +1269,6 @@ fn count_marks(
         shape,
         kept: true,
         none: false,
-        near: false,
     }
 }
 
@@ -1213,14 +1315,13 @@ fn make_marks(
     marks: &mut [u8],
 ) -> Prepared
     requires { ⌜ Ready l (now y) (now totals) (now counts) (now numbers) heavy (now known) (now z)
-        × (Kept heavy shape × (Sized (l .l2) shape (now before) (now after)
+        × (Kept heavy shape × ((Sized (l .l2) shape (now before) × Sized (l .l2) shape (now after))
         × ((0 < room → Counted l (now y) heavy (now z) (shape .size) (now before) (now after))
         × ((l .l2 + 1) * shape .states ≤ length (now marks))))) ⌝ }
     ensures { λ r. ⌜ (r .shape ≡ shape) × ((row vs : List ℕ) (own : ℕ → ℕ → ℕ) → Light l heavy row (now (known .entry))
         → Path l (now (y .entry)) (now (numbers .entry)) heavy row (each (shape .size)) vs own
         → room ≤ apartFrom l heavy (now (z .entry)) vs 0 → (r .none ≡ true → ⊥)
-        × ((r .near ≡ true → apartFrom l heavy (now (z .entry)) vs 0 < room)
-        × (r .kept ≡ true → Through l shape (now (marks .exit)) own (apartFrom l heavy (now (z .entry)) vs)))) ⌝ }
+        × (r .kept ≡ true → Through l shape (now (marks .exit)) own (apartFrom l heavy (now (z .entry)) vs))) ⌝ }
 {
     let mut digits: [u8; 4374] = [0; 4374];
     fill_digits(shape, &mut digits);
@@ -1244,7 +1345,6 @@ fn make_marks(
             shape,
             kept: false,
             none: true,
-            near: false,
         };
     }
     count_marks(
@@ -1258,6 +1358,7 @@ fn make_marks(
         z,
         shape,
         &digits,
+        after,
         room,
         marks,
     )
@@ -1285,15 +1386,13 @@ fn fill_marks(
     ensures { λ r. ⌜ (r .shape ≡ shape) × ((row vs : List ℕ) (own : ℕ → ℕ → ℕ) → Light l heavy row (now (known .entry))
         → Path l (now (y .entry)) (now (numbers .entry)) heavy row (each (shape .size)) vs own
         → room ≤ apartFrom l heavy (now (z .entry)) vs 0 → (r .none ≡ true → ⊥)
-        × ((r .near ≡ true → apartFrom l heavy (now (z .entry)) vs 0 < room)
-        × (r .kept ≡ true → Through l shape (now (marks .exit)) own (apartFrom l heavy (now (z .entry)) vs)))) ⌝ }
+        × (r .kept ≡ true → Through l shape (now (marks .exit)) own (apartFrom l heavy (now (z .entry)) vs))) ⌝ }
 {
     if !few_losses(shape) {
         return Prepared {
             shape,
             kept: false,
             none: false,
-            near: false,
         };
     }
     if COUNTS < shape.n * ((l.l2 + 1) * far::LEFTS) {
@@ -1301,7 +1400,6 @@ fn fill_marks(
             shape,
             kept: false,
             none: false,
-            near: false,
         };
     }
     let size = shape.size;
@@ -1346,8 +1444,8 @@ pub fn prepare(
         × (Shaped (r .shape .n) (r .shape .size) (r .shape .stride) (r .shape .states)
         × ((row vs : List ℕ) (own : ℕ → ℕ → ℕ) → Light l heavy row (now (known .entry))
         → Path l (now (y .entry)) (now (numbers .entry)) heavy row (each size) vs own
-        → room ≤ apartFrom l heavy (now (z .entry)) vs 0 → (r .none ≡ true → ⊥) × ((r .near ≡ true → apartFrom l heavy (now (z .entry)) vs 0 < room)
-        × (r .kept ≡ true → Through l (r .shape) (now (marks .exit)) own (apartFrom l heavy (now (z .entry)) vs))))) ⌝ }
+        → room ≤ apartFrom l heavy (now (z .entry)) vs 0 → (r .none ≡ true → ⊥)
+        × (r .kept ≡ true → Through l (r .shape) (now (marks .exit)) own (apartFrom l heavy (now (z .entry)) vs)))) ⌝ }
 {
     let shape = states::shape_of(heavy.n, size);
     if MOST_STATES < shape.states {
@@ -1355,7 +1453,6 @@ pub fn prepare(
             shape,
             kept: false,
             none: false,
-            near: false,
         };
     }
     if marks.len() < (l.l2 + 1) * shape.states {
@@ -1363,7 +1460,6 @@ pub fn prepare(
             shape,
             kept: false,
             none: false,
-            near: false,
         };
     }
     fill_marks(

@@ -615,9 +615,6 @@ pub fn tables(
     if p.none {
         return kept;
     }
-    if p.near {
-        return kept;
-    }
     if p.kept {
         return columns(
             l,

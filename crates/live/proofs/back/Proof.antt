@@ -1,30 +1,32 @@
 -- `live::back` meets its contract. The loop's invariant: from column j on the marks along every row cover its count.
 -- The measure is j. Assumes nothing.
-use Prim.Native.Nat.{ℕ, _+_, _-_, _*_, _≤_}
+use Prim.Native.Nat.{ℕ, _+_, _-_, _*_, _<_, _≤_}
 use mathlib.Core.Path.{_≡_, refl, _∙_}
 use mathlib.Core.Bool.{false, false≢true}
 use mathlib.Core.List.{List}
 use native.Mathlib.Omega.{arith}
 use borrow.Author.Needs.{needs}
-use lib.ListN.{length}
+use lib.ListN.{length, replicate, getD-replicate}
 use Rattle.states.specs.States.{each}
 use Rattle.column.specs.Column.{Light}
 use Rattle.live.specs.Live.{Path, apartFrom}
+use Rattle.live.specs.Passes.{mostStates, numberOf}
 use Rattle.live.proofs.Columns.{two-columns}
+use Rattle.live.proofs.Floors.{no-floors}
 use Rattle.live.proofs.Paths.{Lets, Passing, passing-first, passing-next, passing-through, split-down}
-use Rattle.live.proofs.Paths.{only-lets, through-lets, own-last, before-next}
+use Rattle.live.proofs.Paths.{only-lets, through-lets, own-last, own-low, before-next}
 use Rattle.live.proofs.Steps.{some-state}
 use Rattle.live.proofs.back.Statement.{statement}
 use Rattle.live.proofs.back.Tie as tie
 
 abbrev Inv-loop : tie.InvT-loop
-Inv-loop l y totals counts numbers heavy known z shape digits marks₀ states j₀ marks j =
+Inv-loop l y totals counts numbers heavy known z shape digits marks₀ states none j₀ marks j =
     ((j ≤ l .l2) × (length marks ≡ length marks₀)) × ((row vs : List ℕ) (own : ℕ → ℕ → ℕ) → Light l heavy row known
     → Path l y numbers heavy row (each (shape .size)) vs own → Lets l shape marks₀ own
     → Passing l shape marks own (apartFrom l heavy z vs) (λ i. j ≤ i))
 
 abbrev μ-loop : tie.MeasureT-loop
-μ-loop l y totals counts numbers heavy known z shape digits marks₀ states j₀ marks j = j
+μ-loop l y totals counts numbers heavy known z shape digits marks₀ states none j₀ marks j = j
 
 -- the arguments
 abbrev begin : tie.At-loop Inv-loop μ-loop → tie.Start Inv-loop μ-loop
@@ -88,7 +90,7 @@ remake-requires c κs =
       p .0,
       (
         omega (arith, c .before .loop-test .taken, i .loop .inv .0 .0),
-        (p .1 .0, (p .1 .1 .0, (omega arith, omega arith))),
+        (p .1 .0, (p .1 .1 .0, (omega arith, (omega arith, no-floors)))),
       ),
     )
 
@@ -107,11 +109,18 @@ loop-again c =
     let e : j + 1 ≡ i .loop .j = omega (arith, k) in (
       (omega (arith, k, h), r .remake .ensures .0 .long ∙ i .loop .inv .0 .1),
       λ row vs own light path lets.
+          let low : numberOf (a .shape) (own j) < mostStates =
+          omega (
+            arith,
+            s .pre .1 .0 .few,
+            own-low (a .l) (a .y .now) (a .numbers .now) (a .heavy) row (a .shape) vs own (s .pre .1 .0) path j (omega (arith, k, h)),
+          )
+          in
           passing-next (a .l) (a .y .now) (a .numbers .now) (a .heavy) row (a .shape) vs own (s .pre .1 .0) path (a
           .known .now) (a .z .now)
-          j false j (j + 1) (i .loop .marks) _ (apartFrom (a .l) (a .heavy) (a .z .now) vs) (λ t. j + 1 ≤ t) (λ t. j ≤
+          j false j (j + 1) (i .loop .marks) _ (replicate mostStates 0) (apartFrom (a .l) (a .heavy) (a .z .now) vs) (λ t. j + 1 ≤ t) (λ t. j ≤
           t)
-          (omega (arith, k, h)) (omega (arith, k, h)) (r .remake .ensures .0) (r .remake .ensures .1)
+          (omega (arith, k, h)) (omega (arith, k, h)) (r .remake .ensures .0) (r .remake .ensures .1 .1)
           record {
             row = row;
             light = light;
@@ -120,6 +129,7 @@ loop-again c =
                 (arith, k, h));
           }
           (omega (arith, before-next (a .l) (a .heavy) (a .z .now) vs j))
+          (omega (arith, getD-replicate {A = ℕ} mostStates (numberOf (a .shape) (own j)) 0 0 (omega (arith, low))))
           (omega arith) (split-down j) (rw e (i .loop .inv .1 row vs own light path lets)),
     )
 
@@ -134,7 +144,7 @@ returns c =
     let o = i .before .before .before .only .ensures in
     record {
       long = long i;
-      through = λ row vs own light path through.
+      through = λ row vs own light path far through.
           let last = own-last (a .l) (a .y .now) (a .numbers .now) (a .heavy) row (a .shape) vs own (s .pre .1 .0) path
           in
           let lets = through-lets (a .l) (a .y .now) (a .numbers .now) (a .heavy) row (a .shape) vs own (s .pre .1 .0)

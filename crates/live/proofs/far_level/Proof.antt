@@ -25,7 +25,7 @@ returns-2 c left w e room =
     let s = d .before .before .before .before .before in
     let a = s .args in
     let same : (k : ℕ) → k < a .shape .n → getD (d .digits-of .result) k 0 ≡ left k =
-    λ k h. d .digits-of .ensures k (omega (arith, s .pre .0 .few)) ∙ rw e at (s .pre .1 .1 .0 .entry left w k h)
+    λ k h. d .digits-of .ensures k (omega (arith, s .pre .0 .0 .few)) ∙ rw e at (s .pre .1 .1 .0 .entry left w k h)
     in
     absurd (omega (
       arith,

@@ -30,7 +30,7 @@ few-losses-requires : tie.Need-few-losses-requires
 few-losses-requires c κs = search needs
 
 returns : tie.Need-returns
-returns c = (refl, λ row vs own light path far. (λ e. false≢true e, (λ e. absurd (false≢true e), λ e. absurd (false≢true e))))
+returns c = (refl, λ row vs own light path far. (λ e. false≢true e, λ e. absurd (false≢true e)))
 
 add-if2 : tie.Need-add-if2
 add-if2 c = search needs
@@ -50,7 +50,7 @@ mul-if2-2 c =
     }
 
 returns-2 : tie.Need-returns-2
-returns-2 c = (refl, λ row vs own light path far. (λ e. false≢true e, (λ e. absurd (false≢true e), λ e. absurd (false≢true e))))
+returns-2 c = (refl, λ row vs own light path far. (λ e. false≢true e, λ e. absurd (false≢true e)))
 
 slice-aggregate-count-blocks : tie.Need-slice-aggregate-count-blocks
 slice-aggregate-count-blocks c = search needs
@@ -78,18 +78,16 @@ make-marks-requires c κs =
     let t = c .before .before .before .before .before in
     let b = t .before in
     let s = begin b in
+    let few : s .args .shape .n ≤ 6 = omega (arith, s .pre .0 .fit .few, s .pre .1 .0 .blocks) in
     let room = b .before .before .before .if2 .left in (
       s .pre .0,
       (
         s .pre .1 .0,
         (
-          record {
-            narrow = narrow s;
-            few = omega (arith, s .pre .0 .fit .few, s .pre .1 .0 .blocks);
-            small = small b;
-            long-before = omega (arith, room, t .count-blocks .ensures .0 .0);
-            long-after = omega (arith, room, t .count-blocks .ensures .0 .1);
-          },
+          (
+            record { narrow = narrow s; few = few; small = small b; long = omega (arith, room, t .count-blocks .ensures .0 .0) },
+            record { narrow = narrow s; few = few; small = small b; long = omega (arith, room, t .count-blocks .ensures .0 .1) },
+          ),
           (t .count-blocks .ensures .1, s .pre .1 .1),
         ),
       ),

@@ -75,7 +75,16 @@ count-marks-requires c κs =
     let m = c .before .before .before .before .before in
     let d = m .before .before .before .before in
     let p = begin d .pre in
-    (p .0, (p .1 .0, (d .fill-digits .ensures, omega (arith, p .1 .1 .1 .1, m .complete .ensures .0))))
+    let counted = p .1 .1 .1 .0 in (
+      p .0,
+      (
+        p .1 .0,
+        (
+          d .fill-digits .ensures,
+          ((p .1 .1 .0 .1, λ some. counted some .back), omega (arith, p .1 .1 .1 .1, m .complete .ensures .0)),
+        ),
+      ),
+    )
 
 same-length-2 : tie.Need-same-length-2
 same-length-2 c = search needs
@@ -87,7 +96,7 @@ returns-2 c =
     let s = begin (m .before .before .before .before) in (
       t .count-marks .ensures .0,
       λ row vs own light path far.
-          t .count-marks .ensures .1 row vs own light path
+          t .count-marks .ensures .1 row vs own light path far
           (m .complete .ensures .1 row vs own light path (wide s row vs own path far) .1),
     )
 

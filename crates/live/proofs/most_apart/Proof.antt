@@ -2,14 +2,13 @@
 -- is left of the blocks. Assumes nothing.
 use Prim.Native.Nat.{ℕ, _+_, _-_, _*_, _<_, _≤_}
 use mathlib.Core.Path.{_≡_, refl, ap, _∙_}
-use native.Mathlib.Nat.{mul-le-mul-right}
 use native.Mathlib.Numerals.{add-one}
 use native.Mathlib.Omega.{arith}
 use borrow.Author.Needs.{needs}
 use lib.ListN.{getD}
 use Rattle.states.specs.States.{each}
-use Rattle.far.specs.Far.{blockAt}
 use Rattle.live.specs.Near.{most}
+use Rattle.live.proofs.Near.{next-block}
 use Rattle.live.proofs.most_apart.Statement.{statement}
 use Rattle.live.proofs.most_apart.Tie as tie
 
@@ -20,10 +19,6 @@ Inv-loop columns before after j left n size total₀ s₀ total s =
 
 abbrev μ-loop : tie.MeasureT-loop
 μ-loop columns before after j left n size total₀ s₀ total s = n - s
-
--- the table of a block ends before that of the last
-next-block : (columns s n : ℕ) → s < n → blockAt columns (s + 1) ≤ blockAt columns n
-next-block columns s n h = mul-le-mul-right {m = s + 1} {n = n} ((columns + 1) * 13) (omega arith)
 
 loop-holds : tie.Need-loop-holds Inv-loop μ-loop
 unfolding most
@@ -42,8 +37,8 @@ most-in-requires c κs =
     let f = s .pre .0 in
     let h = c .loop-test .taken in
     let k = next-block (s .args .columns) (p .s) (s .args .shape .n) h in (
-      (f .narrow, (omega (arith, f .few, h), (s .pre .1, f .small (p .s) h))),
-      (omega (arith, k, f .long-before), omega (arith, k, f .long-after)),
+      (f .0 .narrow, (omega (arith, f .0 .few, h), (s .pre .1, f .0 .small (p .s) h))),
+      (omega (arith, k, f .0 .long), omega (arith, k, f .1 .long)),
     )
 
 add-total : tie.Need-add-total Inv-loop μ-loop

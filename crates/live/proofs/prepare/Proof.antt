@@ -23,14 +23,7 @@ returns c =
       g .ensures .0,
       (
         g .ensures .1,
-        λ row vs own light path far. (
-          λ e. false≢true e,
-          (
-            λ e. absurd (false≢true e),
-            λ e.
-                absurd (false≢true e),
-          ),
-        ),
+        λ row vs own light path far. (λ e. false≢true e, λ e. absurd (false≢true e)),
       ),
     )
 
@@ -56,14 +49,7 @@ returns-2 c =
       g .ensures .0,
       (
         g .ensures .1,
-        λ row vs own light path far. (
-          λ e. false≢true e,
-          (
-            λ e. absurd (false≢true e),
-            λ e.
-                absurd (false≢true e),
-          ),
-        ),
+        λ row vs own light path far. (λ e. false≢true e, λ e. absurd (false≢true e)),
       ),
     )
 

@@ -6,36 +6,42 @@ use native.Mathlib.Omega.{arith}
 use borrow.Author.Needs.{needs}
 use lib.ListN.{length}
 use Rattle.live.specs.Passes.{mostStates}
-use Rattle.live.proofs.Steps.{number-low}
+use Rattle.live.proofs.Steps.{covers-kept, number-low}
 use Rattle.live.proofs.Columns.{Remaking, remaking-starts, remaking-next}
 use Rattle.live.proofs.remake.Statement.{statement}
 use Rattle.live.proofs.remake.Tie as tie
 
 abbrev Inv-loop : tie.InvT-loop
-Inv-loop l y totals counts numbers heavy known z shape digits j ahead at base marks states fresh₀ some p₀ fresh p =
+Inv-loop l y totals counts numbers heavy known z shape digits j ahead at base marks floors states fresh₀ some p₀ fresh p =
     ((p ≤ states) × (length fresh ≡ mostStates)) × Remaking l y numbers heavy known z shape j ahead at base marks fresh p
 
 abbrev μ-loop : tie.MeasureT-loop
-μ-loop l y totals counts numbers heavy known z shape digits j ahead at base marks states fresh₀ some p₀ fresh p = states - p
+μ-loop l y totals counts numbers heavy known z shape digits j ahead at base marks floors states fresh₀ some p₀ fresh p = states - p
 
--- the arguments
-abbrev begin : tie.At-loop Inv-loop μ-loop → tie.Start Inv-loop μ-loop
-begin c = c .before .before .before .before .before .before .before .before .before .before .before .before .before
-
--- where the counts are made
+-- where the counts are made, and the arguments
 abbrev counted : tie.At-loop Inv-loop μ-loop → tie.After-count-marked Inv-loop μ-loop
 counted c = c .before .before
+
+abbrev lent : tie.After-some Inv-loop μ-loop → tie.After-shared-slice-known5 Inv-loop μ-loop
+lent c = c .before .before .before .before .before
+
+abbrev begin : tie.At-loop Inv-loop μ-loop → tie.Start Inv-loop μ-loop
+begin c = lent (counted c .before) .before .before .before .before .before
+
+-- there are floors for all states
+long : (s : tie.Start Inv-loop μ-loop) → length (s .args .t15) ≡ mostStates
+long s = search needs
 
 slice-aggregate-count-marked : tie.Need-slice-aggregate-count-marked Inv-loop μ-loop
 slice-aggregate-count-marked c = search needs
 
 count-marked-requires : tie.Need-count-marked-requires Inv-loop μ-loop
 count-marked-requires c κs =
-    let p = c .before .before .before .before .before .before .before .before .before .before .pre in
+    let p = lent c .before .before .before .before .before .pre in
     (p .1 .1 .1 .1 .0, (omega (arith, p .1 .1 .0 .few), p .1 .1 .0 .few))
 
 loop-holds : tie.Need-loop-holds Inv-loop μ-loop
-loop-holds c = ((omega arith, refl), remaking-starts _ _ _ _ _ _ _ _ _ _ _ _ _)
+loop-holds c = ((omega arith, long (lent (c .before .before) .before .before .before .before .before)), remaking-starts _ _ _ _ _ _ _ _ _ _ _ _ _)
 
 add-spread : tie.Need-add-spread Inv-loop μ-loop
 add-spread c =
@@ -43,17 +49,17 @@ add-spread c =
     record {
       fits = omega (
         arith,
-        s .pre .1 .1 .1 .1 .1,
+        s .pre .1 .1 .1 .1 .1 .0,
         c .loop-test .taken,
         s .good .1 .1 .1 .1 .1 .1 .1 .1 .1 .1 .1 .1 .1
-            .1 .0,
+            .1 .1 .0,
       );
     }
 
 slice-read-spread : tie.Need-slice-read-spread Inv-loop μ-loop
 slice-read-spread c =
     let s = begin (c .before .before) in
-    omega (arith, s .pre .1 .1 .1 .1 .1, c .before .loop-test .taken)
+    omega (arith, s .pre .1 .1 .1 .1 .1 .0, c .before .loop-test .taken)
 
 slice-aggregate-spread : tie.Need-slice-aggregate-spread Inv-loop μ-loop
 slice-aggregate-spread c = sym (counted (c .before .before .before .before) .count-marked .ensures .0)
@@ -104,13 +110,16 @@ loop-again c =
     )
 
 slice-aggregate-put-column : tie.Need-slice-aggregate-put-column Inv-loop μ-loop
-slice-aggregate-put-column c = sym (c .before .before .loop .inv .0 .1)
+slice-aggregate-put-column c = sym (long (begin (c .before .before)))
+
+slice-aggregate-put-column-2 : tie.Need-slice-aggregate-put-column-2 Inv-loop μ-loop
+slice-aggregate-put-column-2 c = sym (c .before .before .before .loop .inv .0 .1)
 
 put-column-requires : tie.Need-put-column-requires Inv-loop μ-loop
 put-column-requires c κs =
-    let i = c .before .before .before in
+    let i = c .before .before .before .before in
     let p = begin i .pre in
-    (omega (arith, i .loop .inv .0 .1, p .1 .1 .0 .few), p .1 .1 .1 .1 .0)
+    (omega (arith, long (begin i), p .1 .1 .0 .few), (omega (arith, i .loop .inv .0 .1, p .1 .1 .0 .few), p .1 .1 .1 .1 .0))
 
 same-length : tie.Need-same-length Inv-loop μ-loop
 same-length c = c .before .before .put-column .ensures .0 .long
@@ -118,14 +127,18 @@ same-length c = c .before .before .put-column .ensures .0 .long
 returns : tie.Need-returns Inv-loop μ-loop
 returns c =
     let r = c .before .before in
-    let i = r .before .before .before .before in
+    let e = r .before .before .before .before in
+    let i = e .before in
     let s = begin i in
-    let kept = s .pre .1 .1 .0 in
-    let h = r .before .before .before .loop-test .left in (
+    let kept = s .pre .1 .1 .0 in (
       r .put-column .ensures .0,
-      λ own w m other w' k.
-          rw (r .put-column .ensures .1 _ (number-low kept own w))
-          (i .loop .inv .1 .gained own w m other w' (omega (arith, k, h))),
+      (
+        r .put-column .ensures .1 .0,
+        λ own w m other w' vs n k there floor.
+            let q = number-low kept own w in
+            covers-kept _ _ _ _ (s .pre .1 .1 .1 .1 .1 .1 _ (omega (arith, q, kept .few))) (r .put-column .ensures .1 .1 _ q) floor
+            (i .loop .inv .1 .gained own w m other w' (omega (arith, number-low kept other w', e .loop-test .left)) vs n k there),
+      ),
     )
 
 pub remake-spec : {M : Type 1} → statement M
@@ -146,6 +159,7 @@ remake-spec =
     loop-less
     loop-again
     slice-aggregate-put-column
+    slice-aggregate-put-column-2
     put-column-requires
     same-length
     returns)

@@ -55,7 +55,7 @@ raise-requires c κs =
               omega (
                 arith,
                 d .digits-of .ensures t (omega (arith, kept .blocks, h)),
-                entry-low kept (p .1 .1 .0 .1) (s .args .p) (rest .0) t h,
+                entry-low (kept .shaped .all) (p .1 .1 .0 .1) (s .args .p) (rest .0) t h,
               );
           marked = rest .1 .0;
           long-some = rest .1 .1 .1 .0;

@@ -25,16 +25,35 @@ use Rattle.tables.proofs.Own.{in-hand, own-path}
 use Rattle.tables.proofs.tables.Statement.{statement}
 use Rattle.tables.proofs.tables.Tie as tie
 
--- the function's entry, seen from where the sums are known
-abbrev entry : tie.After-light-sums → tie.Start
-entry c = c .before .before .before .before .before .before .before .before .before .before
+-- the function's entry, seen from where all slices are known, from where the sums are asked for, and from where they are known
+abbrev begin : tie.After-slice-known → tie.Start
+begin c = c .before .before .before .before .before .before
 
--- where the sums are known, and the entry, seen from where the marks are made
+abbrev asked : tie.After-known → tie.Start
+asked c = begin (c .before .before .before)
+
+abbrev entry : tie.After-light-sums → tie.Start
+entry c = asked (c .before)
+
+-- where the sums are known, seen from where the light chunks are compared; that place, and the entry, seen from where the marks are made
+abbrev sums-at : tie.After-apart-light → tie.After-light-sums
+sums-at c = c .before .before .before .before .before
+
+abbrev compared : tie.After-prepare → tie.After-apart-light
+compared c = c .before .before .before .before
+
 abbrev summed : tie.After-prepare → tie.After-light-sums
-summed c = c .before .before .before .before .before .before .before .before .before
+summed c = sums-at (compared c)
 
 abbrev start : tie.After-prepare → tie.Start
 start c = entry (summed c)
+
+-- where the marks are made, seen from where the columns begin with them, and without
+abbrev marked : tie.After-columns-arg → tie.After-prepare
+marked c = c .before .before .before .before .before .before
+
+abbrev unmarked : tie.After-known6 → tie.After-prepare
+unmarked c = c .before .before .before .before
 
 high : (s : tie.Start) → Sizes (s .args .l)
 high s = sizes (s .args .l) (legal-bounds (s .args .l) (s .pre .0 .0 .is-legal))
@@ -43,7 +62,7 @@ slice-aggregate-light-sums : tie.Need-slice-aggregate-light-sums
 slice-aggregate-light-sums c = search needs
 
 light-sums-requires : tie.Need-light-sums-requires
-light-sums-requires c κs = let s = c .before .before .before .before .before .before .before .before .before in (fits (s .pre .0 .0) (s .pre .1 .0 .0), high s .l2-high)
+light-sums-requires c κs = let s = asked c in (fits (s .pre .0 .0) (s .pre .1 .0 .0), high s .l2-high)
 
 slice-aggregate-enough : tie.Need-slice-aggregate-enough
 slice-aggregate-enough c = search needs
@@ -87,17 +106,18 @@ slice-aggregate-prepare-2 c = search needs
 
 prepare-requires : tie.Need-prepare-requires
 prepare-requires c κs =
-    let s = entry (c .before .before .before .before .before .before .before .before) in
-    let long = c .before .before .before .before .before .before .before .before .light-sums .kept .1 .1 .1 .1 .1 .0 in
+    let b = sums-at (c .before .before .before) in
+    let s = entry b in
+    let long = b .light-sums .kept .1 .1 .1 .1 .1 .0 in
     (fits (s .pre .0 .0) (s .pre .1 .0 .0), (s .pre .1 .1 .0, (omega (arith, high s .l2-high, long), s .pre .1 .1 .1 .0)))
 
 -- and it differs from z in at most so many chunks beside those of the heavy blocks
 within : (c : tie.After-prepare) → let a = start c .args in
     (x : List ℕ) → Sent (a .l) (a .numbers .now) (a .y .now) x → Under (a .l) (a .y .now) (a .heavy) 0 0 (a .t) x
-    → apart (a .l) (a .z .now) x ≤ c .before .before .before .before .apart-light .result + apartFrom (a .l) (a .heavy) (a .z .now) (values (a .l) x) 0
+    → apart (a .l) (a .z .now) x ≤ compared c .apart-light .result + apartFrom (a .l) (a .heavy) (a .z .now) (values (a .l) x) 0
 within c x sent u =
     let p = start c .pre in
-    c .before .before .before .before .apart-light .ensures .0 (values (start c .args .l) x) (in-hand (p .0 .0) sent (p .1 .0 .0) u (p .1 .0 .1))
+    compared c .apart-light .ensures .0 (values (start c .args .l) x) (in-hand (p .0 .0) sent (p .1 .0 .0) u (p .1 .0 .1))
 
 -- one that differs from z in fewer chunks of the heavy blocks than are asked for is known
 near-known : (c : tie.After-prepare) → let s = start c in let a = s .args in
@@ -129,22 +149,10 @@ returns-2 c =
     (λ far. absurd (g _ _ _ (summed q .light-sums .ensures) (path (start q) x sent u) far .0 (c .if3 .taken)))
     (lt-or-ge (apartFrom (a .l) (a .heavy) (a .z .now) (values (a .l) x) 0) _))
 
-returns-3 : tie.Need-returns-3
-returns-3 c =
-    let q = c .before .before .before in
-    let a = start q .args in
-    let g = q .prepare .ensures .1 .1 in
-    grown-none (start q .pre .0 .1)
-    (λ x sent u.
-    ⊎-elim
-    (near-known q x sent u)
-    (λ far. near-known q x sent u (g _ _ _ (summed q .light-sums .ensures) (path (start q) x sent u) far .1 .0 (c .if4 .taken)))
-    (lt-or-ge (apartFrom (a .l) (a .heavy) (a .z .now) (values (a .l) x) 0) _))
-
 -- what the columns ask: tables, sums, chunks to compare with
 looked : (c : tie.After-prepare) → let a = start c .args in
     Looked (a .l) (a .y .now) (a .totals .now) (a .counts .now) (summed c .light-sums .last .1 .1 .1 .1 .1 .0) (a .z .now)
-    (c .before .before .before .before .apart-light .result) 0
+    (compared c .apart-light .result) 0
 looked c =
     let s = start c in
     let long = summed c .light-sums .kept .1 .1 .1 .1 .1 .0 in
@@ -152,7 +160,7 @@ looked c =
       tables = s .pre .1 .1 .0;
       sums = omega (arith, high s .l2-high, long);
       others = s .pre .1 .1 .1 .0;
-      small = omega (arith, c .before .before .before .before .apart-light .ensures .1);
+      small = omega (arith, compared c .apart-light .ensures .1);
     }
 
 -- that a row under the first table comes through marked states, where the marks let its own through
@@ -161,7 +169,7 @@ comes : (c : tie.After-prepare) (marks : List ℕ) → let a = start c .args in
     → Through (a .l) (c .prepare .result .shape) marks (ownLeft (a .l) (a .y .now) (a .heavy) x)
     (apartFrom (a .l) (a .heavy) (a .z .now) (values (a .l) x))
     → Comes (a .l) (a .y .now) (a .numbers .now) (a .heavy) (c .prepare .result .shape)
-    (summed c .light-sums .last .1 .1 .1 .1 .1 .0) marks (a .z .now) (c .before .before .before .before .apart-light .result) 0 x
+    (summed c .light-sums .last .1 .1 .1 .1 .1 .0) marks (a .z .now) (compared c .apart-light .result) 0 x
 comes c marks x sent u t =
     let a = start c .args in
     record {
@@ -189,17 +197,18 @@ slice-aggregate-columns-2 c = search needs
 
 columns-requires : tie.Need-columns-requires
 columns-requires c κs =
-    let q = c .before .before .before .before .before .before .before in
+    let q = marked c in
     let p = start q .pre in
     (p .0 .0, (p .0 .1, (p .1 .0 .0, (omega arith, (shape-of q, (looked q, p .1 .1 .1 .1))))))
 
 same-length : tie.Need-same-length
 same-length c = search needs
 
-returns-4 : tie.Need-returns-4
-returns-4 c =
-    let q = c .before .before .before .before .before .before .before .before .before .before in
-    let kept = c .before .before .before .before .before .before .if5 .taken in
+returns-3 : tie.Need-returns-3
+returns-3 c =
+    let m = c .before .before .before in
+    let q = marked m in
+    let kept = m .before .before .before .if4 .taken in
     let a = start q .args in
     let h = start q .pre .0 .1 in
     let g = q .prepare .ensures .1 .1 in
@@ -210,10 +219,10 @@ returns-4 c =
     ⊎ (Under (a .l) (a .y .now) (a .heavy) 0 0 (a .t) x
     × Comes (a .l) (a .y .now) (a .numbers .now) (a .heavy) (q .prepare .result .shape)
     (summed q .light-sums .last .1 .1 .1 .1 .1 .0) (q .prepare .last .1 .1 .1 .1 .1 .1 .1 .1 .1 .1 .0) (a .z .now)
-    (q .before .before .before .before .apart-light .result) 0 x)}
+    (compared q .apart-light .result) 0 x)}
     (λ near. inl (u, near))
     (λ far.
-    inr (u, comes q _ x sent u (g _ _ _ (summed q .light-sums .ensures) (path (start q) x sent u) far .1 .1 kept)))
+    inr (u, comes q _ x sent u (g _ _ _ (summed q .light-sums .ensures) (path (start q) x sent u) far .1 kept)))
     (lt-or-ge (apartFrom (a .l) (a .heavy) (a .z .now) (values (a .l) x) 0) _))
     (grown-then h (grown-none h {P = Near q} (λ x sent p. near-known q x sent (p .0) (p .1))) (c .before .before .columns .ensures))
 
@@ -231,16 +240,16 @@ part-columns-end c = search needs
 
 columns-requires-2 : tie.Need-columns-requires-2
 columns-requires-2 c κs =
-    let q = c .before .before .before .before .before .before .before .before in
+    let q = unmarked (c .before .before .before) in
     let p = start q .pre in
     (p .0 .0, (p .0 .1, (p .1 .0 .0, (omega arith, (shape-of q, (looked q, p .1 .1 .1 .1))))))
 
 same-length-2 : tie.Need-same-length-2
 same-length-2 c = search needs
 
-returns-5 : tie.Need-returns-5
-returns-5 c =
-    let q = c .before .before .before .before .before .before .before .before .before .before .before in
+returns-4 : tie.Need-returns-4
+returns-4 c =
+    let q = unmarked (c .before .before .before .before .before .before) in
     grown-weaken (λ x sent u. (u, comes q _ x sent u (λ j h k. absurd (omega (arith, k))))) (c .before .before .columns2 .ensures)
 
 pub tables-spec : {M : Type 1} → statement M
@@ -258,16 +267,15 @@ tables-spec =
     slice-aggregate-prepare-2
     prepare-requires
     returns-2
-    returns-3
     slice-aggregate-columns
     slice-aggregate-columns-2
     columns-requires
     same-length
-    returns-4
+    returns-3
     slice-aggregate-columns-3
     sub-columns
     part-columns-start
     part-columns-end
     columns-requires-2
     same-length-2
-    returns-5)
+    returns-4)
