@@ -20,9 +20,13 @@ size s = sizes (s .args .l) (legal-bounds (s .args .l) (s .pre .0 .0 .is-legal))
 room : (s : tie.Start) → s .args .b * s .args .l .l2 + s .args .l .l2 ≤ s .args .l .l1 * s .args .l .l2
 room s = field-room (s .args .l .l1) (s .args .l .l2) (s .args .b) (s .pre .1 .1 .0)
 
+-- where the function starts, seen from the test
+abbrev start : tie.After-struct-known → tie.Start
+start c = c .before .before .before .before .before
+
 mul-from : tie.Need-mul-from
 mul-from c =
-    let s = c .before .before .before .before .before in
+    let s = start c in
     omega (arith, size s .chunks, room s)
 
 sub-count-unlike : tie.Need-sub-count-unlike
@@ -33,12 +37,12 @@ part-count-unlike-start c = search needs
 
 part-count-unlike-end : tie.Need-part-count-unlike-end
 part-count-unlike-end c =
-    let s = c .before .before .before .before .before .before in
+    let s = start (c .before) in
     omega (arith, s .pre .0 .1)
 
 count-unlike-requires : tie.Need-count-unlike-requires
 count-unlike-requires c κs =
-    let s = c .before .before .before .before .before .before .before in
+    let s = start (c .before .before) in
     let d = s .args .desk .now in
     let n = length-drop 1 d in
     let w = length-take-le 255 (drop 1 d) (omega (arith, s .pre .0 .1)) in
@@ -46,7 +50,7 @@ count-unlike-requires c κs =
 
 returns : tie.Need-returns
 returns c =
-    let s = c .before .before .before .before .before .before .before .before in
+    let s = start (c .before .before .before) in
     let a = s .args in
     let l = a .l in (
       λ vs x p q lo hi same.
@@ -61,17 +65,17 @@ returns c =
 
 count-wide-requires : tie.Need-count-wide-requires
 count-wide-requires c κs =
-    let s = c .before .before .before .before .before .before in
+    let s = start (c .before) in
     (s .pre .0 .1, (omega (arith, room s, size s .chunks), s .pre .1 .1 .1 .0))
 
 add-result : tie.Need-add-result
 add-result c =
-    let s = c .before .before .before .before .before .before .before in
+    let s = start (c .before .before) in
     omega (arith, c .count-wide .ensures .1, size s .l2-high, s .pre .1 .1 .1 .1)
 
 returns-2 : tie.Need-returns-2
 returns-2 c =
-    let s = c .before .before .before .before .before .before .before in
+    let s = start (c .before .before) in
     let a = s .args in
     let l = a .l in (
       λ vs x p q lo hi same.

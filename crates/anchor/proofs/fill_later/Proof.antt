@@ -34,21 +34,25 @@ later-requires c κs =
 slice-aggregate-copy-to : tie.Need-slice-aggregate-copy-to Inv-loop μ-loop
 slice-aggregate-copy-to c = search needs
 
+-- where the function starts, seen from where `later` has answered
+abbrev start : tie.After-later Inv-loop μ-loop → tie.Start Inv-loop μ-loop
+start c = c .before .before .before .before .before
+
 mul-copy-to : tie.Need-mul-copy-to Inv-loop μ-loop
-mul-copy-to c = omega (arith, c .before .before .before .before .before .before .before .pre .1 .0)
+mul-copy-to c = omega (arith, start (c .before .before) .pre .1 .0)
 
 add-copy-to : tie.Need-add-copy-to Inv-loop μ-loop
-add-copy-to c = omega (arith, c .before .before .before .before .before .before .before .pre .1 .0)
+add-copy-to c = omega (arith, start (c .before .before) .pre .1 .0)
 
 copy-to-requires : tie.Need-copy-to-requires Inv-loop μ-loop
 copy-to-requires c κs =
-    let s = c .before .before .before .before .before .before .before in
+    let s = start (c .before .before) in
     let p = c .before .before .before .before .before .loop in
     let n : length (c .before .before .later .result) ≡ 256 = search needs in
     omega (arith, s .pre .1 .0, s .pre .1 .1, p .inv .1 .size)
 
 add-d : tie.Need-add-d Inv-loop μ-loop
-add-d c = omega (arith, c .before .before .before .before .before .before .before .before .before .before .pre .1 .0)
+add-d c = omega (arith, start (c .before .before .before .before .before) .pre .1 .0)
 
 loop-less : tie.Need-loop-less Inv-loop μ-loop
 loop-less c = search needs
@@ -58,7 +62,7 @@ loop-again c =
     let k = c .before .before in
     let t = k .before .before .before in
     let p = t .before .before .before .loop in
-    let s = t .before .before .before .before .before in
+    let s = start t in
     let a = s .args in
     let n : length (t .later .result) ≡ 256 = search needs in (
       omega arith,

@@ -31,40 +31,48 @@ loop-holds c =
     let a = c .before .before .before .args in
     (omega arith, near-none (a .l .nc) (a .y .now) (a .desk .now))
 
+-- where the function starts, seen from the loop
+abbrev start : tie.At-loop Inv-loop μ-loop → tie.Start Inv-loop μ-loop
+start c = c .before .before .before .before
+
 add-shifts : tie.Need-add-shifts Inv-loop μ-loop
-add-shifts c = omega (arith, size (c .before .before .before .before .before) .chunks)
+add-shifts c = omega (arith, size (start (c .before)) .chunks)
 
 slice-read-shifts : tie.Need-slice-read-shifts Inv-loop μ-loop
 slice-read-shifts c =
-    let s = c .before .before .before .before .before .before in
+    let s = start (c .before .before) in
     let p = c .before .before .loop in
     omega (arith, size s .chunks, s .pre .1 .1 .1, p .inv .1 .size)
 
 shifts-requires : tie.Need-shifts-requires Inv-loop μ-loop
 shifts-requires c κs =
-    let s = c .before .before .before .before .before .before in
+    let s = start (c .before .before) in
     (s .pre .1 .0, (bounds s .nc-high, (omega (arith, size s .chunks), s .pre .1 .1 .0)))
 
 slice-aggregate-copy-to : tie.Need-slice-aggregate-copy-to Inv-loop μ-loop
 slice-aggregate-copy-to c = search needs
 
+-- the loop's head, seen from where `shifts` has answered
+abbrev loop : tie.After-shifts Inv-loop μ-loop → tie.At-loop Inv-loop μ-loop
+loop c = c .before .before .before
+
 mul-copy-to : tie.Need-mul-copy-to Inv-loop μ-loop
-mul-copy-to c = omega (arith, size (c .before .before .before .before .before .before .before .before .before) .chunks)
+mul-copy-to c = omega (arith, size (start (loop (c .before .before))) .chunks)
 
 add-copy-to : tie.Need-add-copy-to Inv-loop μ-loop
-add-copy-to c = omega (arith, size (c .before .before .before .before .before .before .before .before .before) .chunks)
+add-copy-to c = omega (arith, size (start (loop (c .before .before))) .chunks)
 
 copy-to-requires : tie.Need-copy-to-requires Inv-loop μ-loop
 copy-to-requires c κs =
-    let s = c .before .before .before .before .before .before .before .before .before in
-    let p = c .before .before .before .before .before .loop in
+    let s = start (loop (c .before .before)) in
+    let p = loop (c .before .before) .loop in
     let n : length (c .before .before .shifts .result) ≡ 13 = search needs in
     omega (arith, size s .chunks, s .pre .1 .1 .1, p .inv .1 .size)
 
 add-c : tie.Need-add-c Inv-loop μ-loop
 add-c c =
-    let p = c .before .before .before .before .before .before .before .before in
-    omega (arith, size (p .before .before .before .before) .chunks)
+    let p = loop (c .before .before .before .before .before) in
+    omega (arith, size (start p) .chunks)
 
 loop-less : tie.Need-loop-less Inv-loop μ-loop
 loop-less c = search needs
@@ -74,7 +82,7 @@ loop-again c =
     let k = c .before .before in
     let t = k .before .before .before in
     let p = t .before .before .before .loop in
-    let s = t .before .before .before .before .before .before .before in
+    let s = start (loop t) in
     let a = s .args in
     let n : length (t .shifts .result) ≡ 13 = search needs in (
       omega arith,
@@ -88,7 +96,7 @@ same-length c = c .before .loop .inv .1 .size
 returns : tie.Need-returns Inv-loop μ-loop
 returns c =
     let p = c .before .loop in
-    let a = c .before .before .before .before .before .args in
+    let a = start (c .before) .args in
     let e : p .c ≡ a .l .l1 * a .l .l2 = omega arith in
     rw (← e) (p .inv .1)
 

@@ -31,9 +31,13 @@ first-row s =
     let w = length-take-le (bytesFor n) (s .args .list .now) (s .pre .1 .0) in
     (length-take-le n (unpack bytes) (omega (arith, length-unpack bytes)), bits-take n (unpack bytes) (bits-unpack bytes))
 
+-- where the function starts, seen from the call of `unpack`
+abbrev entry : tie.After-unpack-arg → tie.Start
+entry c = c .before .before .before .before .before
+
 -- where the row is unpacked: the function's start, and the bits
 abbrev start : tie.After-unpack → tie.Start
-start k = k .before .before .before .before .before .before .before
+start k = entry (k .before .before)
 
 bits-are : (k : tie.After-unpack) → take (rowBits (start k .args .l) - 0) (k .unpack .last .1 .1 .0) ≡ first (start k)
 bits-are k =
@@ -66,7 +70,7 @@ slice-aggregate-unpack c = search needs
 
 unpack-requires : tie.Need-unpack-requires
 unpack-requires c κs =
-    let s = c .before .before .before .before .before .before in
+    let s = entry (c .before) in
     let w = length-take-le (bytesFor (rowBits (s .args .l)) - 0) (s .args .list .now) (omega (arith, s .pre .1 .0)) in
     (omega arith, size s .row)
 
@@ -77,7 +81,7 @@ part-fill-chunks-start : tie.Need-part-fill-chunks-start
 part-fill-chunks-start c = search needs
 
 part-fill-chunks-end : tie.Need-part-fill-chunks-end
-part-fill-chunks-end c = omega (arith, size (c .before .before .before .before .before .before .before .before .before) .row)
+part-fill-chunks-end c = omega (arith, size (start (c .before .before)) .row)
 
 fill-chunks-requires : tie.Need-fill-chunks-requires
 fill-chunks-requires c κs =
@@ -89,10 +93,14 @@ fill-chunks-requires c κs =
 same-length : tie.Need-same-length
 same-length c = search needs
 
+-- where `unpack` has answered, seen from where `fill_chunks` has answered
+abbrev unpacked : tie.After-fill-chunks → tie.After-unpack
+unpacked c = c .before .before .before .before .before
+
 returns : tie.Need-returns
 unfolding values
 returns c =
-    let k = c .before .before .before .before .before .before .before in
+    let k = unpacked (c .before .before) in
     let a = start k .args in
     c .before .before .fill-chunks .ensures
     ∙ ap (λ (v : List ℕ). values (a .l) v ++ drop (a .l .l1 * a .l .l2) (a .out .now)) (bits-are k)

@@ -27,9 +27,13 @@ Inv-loop l numbers y desk row i counts least most₀ d₀ b₀ most d b =
 abbrev μ-loop : tie.MeasureT-loop
 μ-loop l numbers y desk row i counts least most₀ d₀ b₀ most d b = i - b
 
+-- where the function starts, seen from where `is_set` has answered
+abbrev begin : tie.After-is-set Inv-loop μ-loop → tie.Start Inv-loop μ-loop
+begin c = c .before .before .before .before .before
+
 -- where the function starts, seen from the loop
 abbrev start : tie.At-loop Inv-loop μ-loop → tie.Start Inv-loop μ-loop
-start t = t .before .before .before .before .before .before .before .before
+start t = begin (t .before .before .before)
 
 bounds : (s : tie.Start Inv-loop μ-loop) → Bounds (s .args .l)
 bounds s = legal-bounds (s .args .l) (s .pre .0 .is-legal)
@@ -76,11 +80,11 @@ returns : tie.Need-returns Inv-loop μ-loop
 returns c = λ e. absurd (false≢true e)
 
 add-least : tie.Need-add-least Inv-loop μ-loop
-add-least c = omega (arith, bounds (c .before .before .before .before .before .before .before) .r-high)
+add-least c = omega (arith, bounds (begin (c .before .before)) .r-high)
 
 loop-holds : tie.Need-loop-holds Inv-loop μ-loop
 loop-holds c =
-    let s = c .before .before .before .before .before .before .before in
+    let s = begin (c .before .before) in
     let a = s .args in
     ((omega arith, sym (total-none (a .t5))), (omega arith, counted-none (s .pre .0) (a .desk .now) (a .t5) (a .row .now) (a .i)))
 

@@ -14,9 +14,13 @@ use Rattle.anchor.proofs.prepare.Tie as tie
 size : (s : tie.Start) → Sizes (s .args .l)
 size s = sizes (s .args .l) (legal-bounds (s .args .l) (s .pre .0))
 
+-- where the function starts, seen from where `first_chunks` has answered
+abbrev entry : tie.After-first-chunks → tie.Start
+entry c = c .before .before .before .before .before
+
 -- where the chunks are copied: the function's start, the chunks, and that the desk keeps its length
 abbrev start : tie.After-copy-to → tie.Start
-start k = k .before .before .before .before .before .before .before .before .before
+start k = entry (k .before .before .before .before)
 
 same-size : (k : tie.After-copy-to) → length (k .copy-to .last .1 .0) ≡ length (start k .args .desk .now)
 same-size k =
@@ -38,7 +42,7 @@ slice-aggregate-copy-to c = search needs
 
 copy-to-requires : tie.Need-copy-to-requires
 copy-to-requires c κs =
-    let s = c .before .before .before .before .before .before .before .before in
+    let s = entry (c .before .before .before) in
     let n : length (c .before .before .before .first-chunks .last .1 .1 .0) ≡ 255 = search needs in
     omega (arith, s .pre .1 .1 .1 .1)
 
@@ -57,10 +61,14 @@ fill-near-requires c κs =
     let s = start k in
     (s .pre .0, (s .pre .1 .0, (omega (arith, s .pre .1 .1 .0 .1), omega (arith, s .pre .1 .1 .1 .1, same-size k))))
 
+-- where `copy_to` has answered, seen from where `fill_near` has answered
+abbrev copied : tie.After-fill-near → tie.After-copy-to
+copied c = c .before .before .before .before .before .before
+
 fill-later-requires : tie.Need-fill-later-requires
 fill-later-requires c κs =
     let q = c .before .before .before in
-    let k = q .before .before .before .before .before .before in
+    let k = copied q in
     let s = start k in
     (s .pre .0, (omega (arith, s .pre .1 .1 .0 .1), omega (arith, s .pre .1 .1 .1 .1, same-size k, q .fill-near .ensures .size)))
 
@@ -68,14 +76,14 @@ same-length : tie.Need-same-length
 same-length c =
     let r = c .before .before in
     let q = r .before .before .before .before in
-    let k = q .before .before .before .before .before .before in
+    let k = copied q in
     r .fill-later .ensures .size ∙ q .fill-near .ensures .size ∙ same-size k
 
 returns : tie.Need-returns
 returns c =
     let r = c .before .before in
     let q = r .before .before .before .before in
-    let k = q .before .before .before .before .before .before in
+    let k = copied q in
     let f = k .before .before .before .before in
     let s = start k in
     let a = s .args in

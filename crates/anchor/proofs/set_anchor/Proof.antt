@@ -10,9 +10,13 @@ use Rattle.anchor.proofs.Anchor.{firstRow, first-held, first-room}
 use Rattle.anchor.proofs.set_anchor.Statement.{statement}
 use Rattle.anchor.proofs.set_anchor.Tie as tie
 
+-- where the function starts, seen from where the first test does not hold
+abbrev entry : tie.Else1 → tie.Start
+entry c = c .before .before .before .before .before
+
 -- where the anchor is set: the function's start, that a row is held, and that the desk is long enough
 abbrev start : tie.Else2 → tie.Start
-start k = k .before .before .before .before .before .before .before
+start k = entry (k .before .before)
 
 some : (k : tie.Else2) → 0 < start k .args .kept .count
 some k =

@@ -32,9 +32,13 @@ same-length c = search needs
 stored : (q x o : List ℕ) (v : ℕ) → q ≡ bytes (length x / 8) x ++ drop (length x / 8) o → v ≡ number 8 (drop (length x / 8 * 8) x) → set q (length x / 8) v ≡ set (bytes (length x / 8) x ++ drop (length x / 8) o) (length x / 8) (number 8 (drop (length x / 8 * 8) x))
 stored q x o v e f = rw (e, f) refl
 
+-- where the function starts, seen from where `pack_bytes` has answered
+abbrev start : tie.After-pack-bytes → tie.Start
+start c = c .before .before .before .before
+
 returns : tie.Need-returns
 returns c =
-    let s = c .before .before .before .before .before .before .before .before in
+    let s = start (c .before .before .before .before) in
     let x : List ℕ = s .args .bits .now in
     let p = c .before .before .before .before .pack-bytes in
     stored (p .last .1 .1 .0) x (s .args .out .now) (c .last-byte .result) (p .ensures) (c .last-byte .ensures) ∙ packed-rest x (s .args .out .now) (omega (arith, c .before .if1 .taken)) (omega (arith, s .pre .1 .1))
@@ -44,7 +48,7 @@ same-length-2 c = search needs
 
 returns-2 : tie.Need-returns-2
 returns-2 c =
-    let s = c .before .before .before .before .before .before .before in
+    let s = start (c .before .before .before) in
     let x : List ℕ = s .args .bits .now in
     c .before .before .before .pack-bytes .ensures ∙ packed-whole x (s .args .out .now) (omega (arith, c .if1 .left))
 

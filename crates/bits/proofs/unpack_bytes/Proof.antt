@@ -36,10 +36,18 @@ loop-less c = omega arith
 
 loop-again : tie.Need-loop-again Inv-loop μ-loop
 loop-again c =
-    let a = c .before .before .before .before .before .before .before .before .before .args in
-    let p = c .before .before .before .before .before .before .loop in
-    let t = c .before .before .unpack-byte in
-    (omega arith, (search needs, t .ensures ∙ byte-unpacked (a .s .now) (a .out .now) (p .out) (p .i) (omega (arith, c .before .before .before .before .before .before .before .before .before .pre .0)) (p .inv .1 .1)))
+    let t = c .before .before in
+    let q = t .before .before .before .before in
+    let s = q .before .before .before in
+    let a = s .args in
+    let p = q .loop in (
+      omega arith,
+      (
+        search needs,
+        t .unpack-byte .ensures
+            ∙ byte-unpacked (a .s .now) (a .out .now) (p .out) (p .i) (omega (arith, s .pre .0)) (p .inv .1 .1),
+      ),
+    )
 
 same-length : tie.Need-same-length Inv-loop μ-loop
 same-length c = search needs

@@ -47,18 +47,26 @@ wide-requires c κs = search needs
 add-if1 : tie.Need-add-if1
 add-if1 c = search needs
 
+-- where the function starts, seen from where `spread` has answered
+abbrev start : tie.After-spread → tie.Start
+start c = c .before .before .before .before
+
 -- the bits that the chunk loses
 lost : tie.Start → ℕ
 lost s = losses (digits (s .args .nc) (s .args .v)) (drop (s .args .place) (s .args .y .now))
 
+-- where `spread` has answered, seen from where `taken` has answered
+abbrev at-spread : tie.After-taken → tie.After-spread
+at-spread c = c .before .before .before .before .before
+
 -- with those that it takes they are all its bits
 taken-or-lost : (c : tie.After-wide) →
-    let s = c .before .before .before .before .before .before .before .before .before .before in
+    let s = start (at-spread (c .before)) in
     lost s + c .before .taken .result ≡ s .args .nc
 unfolding lost
 taken-or-lost c =
-    let s = c .before .before .before .before .before .before .before .before .before .before in
-    let o = c .before .before .before .before .before .before .spread in
+    let s = start (at-spread (c .before)) in
+    let o = at-spread (c .before) .spread in
     let n = c .before .taken .result in
     taken-lost (s .args .nc) (s .args .v) (s .args .place) n (o .last .1 .1 .1 .1 .1 .0) _ (s .args .y .now) (o .ensures)
     (c .before .taken .ensures .1 .1)
@@ -66,13 +74,13 @@ taken-or-lost c =
 returns : tie.Need-returns
 unfolding lost
 returns c =
-    let s = c .before .before .before .before .before .before .before .before .before .before .before in
+    let s = start (at-spread (c .before .before)) in
     sym (eq-eqb (lost s) (s .args .a) (omega (arith, taken-or-lost (c .before), c .if1 .taken, c .before .wide .ensures)))
 
 returns-2 : tie.Need-returns-2
 unfolding lost
 returns-2 c =
-    let s = c .before .before .before .before .before .before .before .before .before .before .before in
+    let s = start (at-spread (c .before .before)) in
     sym (ne-eqb (lost s) (s .args .a)
     (λ e. c .if1 .left (omega (arith, taken-or-lost (c .before), e, c .before .wide .ensures))))
 

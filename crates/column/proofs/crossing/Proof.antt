@@ -16,9 +16,13 @@ use Rattle.column.proofs.Rows.{crosses-readable, crosses-can, crosses-a
 use Rattle.column.proofs.crossing.Statement.{statement}
 use Rattle.column.proofs.crossing.Tie as tie
 
+-- where the function starts, seen from the call of `find_chunks`
+abbrev begin : tie.After-shared-slice-known6 → tie.Start
+begin c = c .before .before .before .before .before .before
+
 -- the start of the function
 abbrev entry : tie.After-find-chunks → tie.Start
-entry c = c .before .before .before .before .before .before .before
+entry c = begin (c .before)
 
 -- where the chunks are found, they are placed
 placed : (c : tie.Else1) → let a = entry (c .before .before) .args in
@@ -81,19 +85,23 @@ mul-missing-2 c = omega (arith, low (c .before .before .before .before) .index)
 shared-slice-read-missing-2 : tie.Need-shared-slice-read-missing-2
 shared-slice-read-missing-2 c = search needs
 
+-- where the chunks are found, seen from the call of `missing`
+abbrev found : tie.After-shared-slice-known8 → tie.Else1
+found c = c .before .before .before .before .before
+
 cast-missing-2 : tie.Need-cast-missing-2
 cast-missing-2 c =
-    let a = entry (c .before .before .before .before .before .before .before) .args in
+    let a = entry (found c .before .before) .args in
     record { fits = omega (arith, c .shared-slice-known8 .given (a .j)) }
 
 missing-requires : tie.Need-missing-requires
 missing-requires c κs =
-    let b = low (c .before .before .before .before .before) in
+    let b = low (found c) in
     (omega (arith, b .sum), omega (arith, b .modulus))
 
 can-bring-requires : tie.Need-can-bring-requires
 can-bring-requires c κs =
-    let e = c .before .before .before .before .before .before in
+    let e = found (c .before) in
     let s = entry (e .before .before) in
     let f = s .pre .0 in
     let few : e .before .before .find-chunks .result .chunks .n ≤ 6 = omega (arith, f .few, placed e .count) in (
@@ -104,7 +112,7 @@ can-bring-requires c κs =
 returns-2 : tie.Need-returns-2
 returns-2 c =
     let m = c .before .before in
-    let e = m .before .before .before .before .before .before in
+    let e = found (m .before) in
     let s = entry (e .before .before) in
     let a = s .args in
     let chunks = e .before .before .find-chunks .result .chunks in (
@@ -120,13 +128,13 @@ returns-2 c =
 
 others-requires : tie.Need-others-requires
 others-requires c κs =
-    let e = c .before .before .before .before .before .before .before .before in
+    let e = found (c .before .before .before) in
     let s = entry (e .before .before) in
     (s .pre .0, (placed e .within, (s .pre .1 .1 .0, s .pre .1 .1 .1 .1)))
 
 returns-3 : tie.Need-returns-3
 returns-3 c =
-    let e = c .before .before .before .before .before .before .before .before .before in
+    let e = found (c .before .before .before .before) in
     (λ row vs light x. c .others .ensures .0 vs (crosses-as-read x (placed e)), c .others .ensures .1)
 
 pub crossing-spec : {M : Type 1} → statement M

@@ -33,14 +33,18 @@ Inv-loop l y numbers j heavy left next n nc block place₀ lost₀ s₀ place lo
 abbrev μ-loop : tie.MeasureT-loop
 μ-loop l y numbers j heavy left next n nc block place₀ lost₀ s₀ place lost s = n - s
 
+-- where the function starts, seen from the loop
+abbrev start : tie.At-loop Inv-loop μ-loop → tie.Start Inv-loop μ-loop
+start c = c .before .before .before .before
+
 -- the chunk of a turn
 chunk-is : (c : tie.After-struct-known Inv-loop μ-loop) → let p = c .before .before .before in
-    let a = p .before .before .before .before .args in
+    let a = start p .args in
     let i = c .before .wide .result * a .l .l2 + a .j in
     (i ≡ chunkAt (a .l) (a .t4) (a .j) (p .loop .s)) × ((i < 255) × (i * a .l .nc ≤ 2040))
 chunk-is c =
     let p = c .before .before .before in
-    let s = p .before .before .before .before in
+    let s = start p in
     let a = s .args in
     let f = s .pre .0 in
     let e = ap (λ (v : ℕ). v * a .l .l2 + a .j) (c .before .wide .ensures) in
@@ -49,12 +53,12 @@ chunk-is c =
 
 -- where its bits would start
 from-is : (c : tie.After-wide2 Inv-loop μ-loop) → let p = c .before .before .before .before in
-    let a = p .before .before .before .before .args in
+    let a = start p .args in
     let from = (c .before .before .wide .result * a .l .l2 + a .j) * a .l .nc + c .wide2 .result in
     (from ≡ readFrom (a .l) (a .t4) (each (a .t6)) (a .j) (p .loop .s)) × (from ≤ 2295)
 from-is c =
     let p = c .before .before .before .before in
-    let a = p .before .before .before .before .args in
+    let a = start p .args in
     let k = chunk-is (c .before) in
     let b : Fits w8 (getD (a .t6) (p .loop .s) 0) = search needs in
     (ap₂ (λ (u v : ℕ). u * a .l .nc + v) (k .0) (c .wide2 .ensures), omega (arith, k .1 .1, c .wide2 .ensures))
@@ -97,7 +101,7 @@ array-read-place-of-2 c = search needs
 
 place-of-requires : tie.Need-place-of-requires Inv-loop μ-loop
 place-of-requires c κs =
-    let s = c .before .before .before .before .before .before .before .before .before in
+    let s = start (c .before .before .before .before .before) in
     (legal-bounds (s .args .l) (s .pre .0 .allowed) .nc-high, (s .pre .0 .short, omega (arith, from-is (c .before) .1)))
 
 mul-place : tie.Need-mul-place Inv-loop μ-loop
@@ -130,7 +134,7 @@ loop-again c =
     let o = c .before .before in
     let w = o .before .before in
     let p = w .before .before .before .before in
-    let a = p .before .before .before .before .args in
+    let a = start p .args in
     let s : ℕ = p .loop .s in
     let e = o .place-of .ensures .1 (not-false _ (c .if1 .left)) in
     let n : s < 6 = search needs in
@@ -156,7 +160,7 @@ loop-again c =
 returns-2 : tie.Need-returns-2 Inv-loop μ-loop
 returns-2 c =
     let p = c .before in
-    let k : p .loop .s ≡ p .before .before .before .before .args .t4 .n = omega arith in (
+    let k : p .loop .s ≡ start p .args .t4 .n = omega arith in (
       λ all. refl,
       λ e.
           record {

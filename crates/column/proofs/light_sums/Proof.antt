@@ -28,15 +28,19 @@ abbrev μ-loop : tie.MeasureT-loop
 loop-holds : tie.Need-loop-holds Inv-loop μ-loop
 loop-holds c = ((omega arith, refl), λ i h. absurd (omega arith))
 
+-- where the function starts, seen from the loop
+abbrev start : tie.At-loop Inv-loop μ-loop → tie.Start Inv-loop μ-loop
+start c = c .before .before .before .before
+
 cleared-requires : tie.Need-cleared-requires Inv-loop μ-loop
-cleared-requires c κs = (c .before .before .before .before .before .pre .0, omega arith)
+cleared-requires c κs = (start (c .before) .pre .0, omega arith)
 
 slice-aggregate-line-sum : tie.Need-slice-aggregate-line-sum Inv-loop μ-loop
 slice-aggregate-line-sum c = search needs
 
 line-sum-requires : tie.Need-line-sum-requires Inv-loop μ-loop
 line-sum-requires c κs =
-    let s = c .before .before .before .before .before .before .before in
+    let s = start (c .before .before .before) in
     let j = c .before .before .before .loop .j in
     let out = c .before .cleared .result in
     let n : length out ≡ 255 = search needs in
@@ -44,7 +48,7 @@ line-sum-requires c κs =
 
 cast-known : tie.Need-cast-known Inv-loop μ-loop
 cast-known c =
-    let s = c .before .before .before .before .before .before .before .before in
+    let s = start (c .before .before .before .before) in
     let a = s .args in
     let out = c .before .before .cleared .result in
     let j = c .before .before .before .before .loop .j in
@@ -66,7 +70,7 @@ loop-less c = search needs
 loop-again : tie.Need-loop-again Inv-loop μ-loop
 loop-again c =
     let p = c .before .before .before .before in
-    let a = p .before .before .before .before .args in
+    let a = start p .args in
     let j : ℕ = p .loop .j in
     let r : ℕ = c .line-sum .result in
     let here = rw (c .before .before .cleared .ensures) at (c .line-sum .ensures) in (

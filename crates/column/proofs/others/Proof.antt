@@ -65,7 +65,8 @@ shared-slice-read-other c = chunk-is (c .before .before .before) .1 .1
 
 other-requires : tie.Need-other-requires Inv-loop μ-loop
 other-requires c κs =
-    let p = c .before .before .before .before .before .before .before in
+    let w = c .before .before .before .before in
+    let p = w .before .before .before in
     let s = p .before .before .before .before in
     let f = s .pre .0 in
     (legal-bounds (s .args .l) (f .allowed) .nc-high, (f .bits, s .pre .1 .0 (p .loop .s) (omega arith)))

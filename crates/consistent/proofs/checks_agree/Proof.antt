@@ -28,8 +28,12 @@ sub-equal c = search needs
 part-equal-start : tie.Need-part-equal-start
 part-equal-start c = search needs
 
+-- where the function starts, seen from where `fill_checks` has answered
+abbrev start : tie.After-fill-checks → tie.Start
+start c = c .before .before .before .before
+
 part-equal-end : tie.Need-part-equal-end
-part-equal-end c = omega (arith, bounds (c .before .before .before .before .before .before) .r-high)
+part-equal-end c = omega (arith, bounds (start (c .before .before)) .r-high)
 
 equal-requires : tie.Need-equal-requires
 equal-requires c κs = search needs
@@ -37,7 +41,7 @@ equal-requires c κs = search needs
 returns : tie.Need-returns
 returns c =
     let k = c .before .before .before .before in
-    let s = c .before .before .before .before .before .before .before .before in
+    let s = start (c .before .before .before .before) in
     let z : s .args .r - 0 ≡ s .args .r = omega arith in
     c .equal .ensures ∙ ap (λ (v : List ℕ). same v (s .args .numbers .now)) (ap (λ (n : ℕ). take n (k .fill-checks .last .1 .1 .1 .1 .1 .0)) z ∙ k .fill-checks .ensures)
 

@@ -57,15 +57,19 @@ part-checks-agree-start c = search needs
 part-checks-agree-end : tie.Need-part-checks-agree-end
 part-checks-agree-end c = search needs
 
+-- where the function starts, seen from where the test does not hold
+abbrev start : tie.Else1 → tie.Start
+start c = c .before .before .before .before .before
+
 checks-agree-requires : tie.Need-checks-agree-requires
 checks-agree-requires c κs =
-    let s = c .before .before .before .before .before .before in
+    let s = start (c .before) in
     let a = s .args in
     (s .pre .0, (s .pre .1 .0, ap length (part-to-end (a .numbers .now) (a .l1 + a .l2)) ∙ omega (arith, length-drop (a .l1 + a .l2) (a .numbers .now), s .pre .1 .1)))
 
 returns-2 : tie.Need-returns-2
 returns-2 c =
-    let s = c .before .before .before .before .before .before .before in
+    let s = start (c .before .before) in
     let e = c .before .before in
     c .checks-agree .ensures ∙ sums-same (named s) (row s) (s .args .numbers .now) (s .pre .1 .1) (sym (e .before .sums-agree .ensures) ∙ not-false _ (e .if1 .left))
 

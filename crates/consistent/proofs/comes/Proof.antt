@@ -26,8 +26,13 @@ sub-if1 c = search needs
 add-end : tie.Need-add-end Inv-loop μ-loop
 add-end c = search needs
 
+-- where the function starts, seen from the loop
+abbrev start : tie.At-loop Inv-loop μ-loop → tie.Start Inv-loop μ-loop
+start c = c .before .before .before
+
 -- where the piece ends
-ends : (c : tie.Joined1 Inv-loop μ-loop) → (c .before .before .loop .i < c .if1 .end) × (c .if1 .end ≤ length (c .before .before .before .before .before .args .x .now))
+ends : (c : tie.Joined1 Inv-loop μ-loop)
+    → (c .before .before .loop .i < c .if1 .end) × (c .if1 .end ≤ length (start (c .before .before) .args .x .now))
 ends c = ⊎-elim (λ w. (omega arith, omega arith)) (λ w. (omega arith, omega arith)) (c .if1 .came)
 
 sub-piece-taken : tie.Need-sub-piece-taken Inv-loop μ-loop
@@ -51,15 +56,19 @@ part-piece-taken-end-2 c = search needs
 piece-taken-requires : tie.Need-piece-taken-requires Inv-loop μ-loop
 piece-taken-requires c κs = search needs
 
+-- the loop's head, seen from where `piece_taken` has answered
+abbrev loop : tie.After-piece-taken Inv-loop μ-loop → tie.At-loop Inv-loop μ-loop
+loop c = c .before .before .before .before .before .before
+
 -- what is left to be matched after the piece
 left : (c : tie.After-piece-taken Inv-loop μ-loop)
-    → let a = c .before .before .before .before .before .before .before .before .before .args in
-    let p = c .before .before .before .before .before .before .loop in
+    → let a = start (loop c) .args in
+    let p = loop c .loop in
     let e = c .before .before .before .before .if1 .end in
     (p .at + c .piece-taken .result ≤ length (a .y .now)) × (eat (drop e (a .x .now)) (drop (p .at + c .piece-taken .result) (a .y .now)) ≡ eat (drop (p .i) (a .x .now)) (drop (p .at) (a .y .now)))
 left c =
-    let a = c .before .before .before .before .before .before .before .before .before .args in
-    let p = c .before .before .before .before .before .before .loop in
+    let a = start (loop c) .args in
+    let p = loop c .loop in
     let j = c .before .before .before .before in
     piece-eaten (a .x .now) (a .y .now) (p .i) (j .if1 .end) (p .at) (c .piece-taken .result) (omega (arith, ends j .0)) (p .inv .1 .0) (c .piece-taken .ensures)
 
@@ -71,12 +80,12 @@ loop-less c = omega (arith, ends (c .before .before .before .before))
 
 loop-again : tie.Need-loop-again Inv-loop μ-loop
 loop-again c =
-    let p = c .before .before .before .before .before .before .loop in
+    let p = loop c .loop in
     (omega (arith, ends (c .before .before .before .before) .1), (left c .0, left c .1 ∙ p .inv .1 .1))
 
 returns : tie.Need-returns Inv-loop μ-loop
 returns c =
-    let a = c .before .before .before .before .args in
+    let a = start (c .before) .args in
     let p = c .before .loop in
     comes-is (a .x .now) (a .y .now) (p .at) (p .inv .1 .0) (sym (p .inv .1 .1) ∙ bits-end (a .x .now) (a .y .now) (p .i) (p .at) (omega arith) .0)
 

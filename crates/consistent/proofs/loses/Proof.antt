@@ -25,15 +25,20 @@ loop-holds c =
     let z : length (a .counts .now) - 0 ≡ length (a .counts .now) = omega arith in
     (search needs, (search needs, rw (zero-mul (a .w), z) refl))
 
+-- where the function starts, seen from the loop
+abbrev start : tie.At-loop Inv-loop μ-loop → tie.Start Inv-loop μ-loop
+start c = c .before .before .before .before
+
 -- piece i lies within x, whose length fits its type
-within : (c : tie.In-loop Inv-loop μ-loop) → c .before .loop .i * c .before .before .before .before .before .args .w + c .before .before .before .before .before .args .w ≤ length (c .before .before .before .before .before .args .x .now)
+within : (c : tie.In-loop Inv-loop μ-loop) → let a = start (c .before) .args in
+    c .before .loop .i * a .w + a .w ≤ length (a .x .now)
 within c =
-    let s = c .before .before .before .before .before in
+    let s = start (c .before) in
     omega (arith, s .pre, field-room (length (s .args .counts .now)) (s .args .w) (c .before .loop .i) (omega arith))
 
 -- the start seen from where a piece was matched, and what matching finds of it
 abbrev begun : tie.After-taken Inv-loop μ-loop → tie.Start Inv-loop μ-loop
-begun c = c .before .before .before .before .before .before .before .before
+begun c = start (c .before .before .before .before)
 
 found : (c : tie.After-taken Inv-loop μ-loop) →
     let a = begun c .args in
@@ -116,11 +121,11 @@ loop-again c =
 
 -- past the last piece it is left to see whether y is used up
 ended : (c : tie.After-loop Inv-loop μ-loop) →
-    let a = c .before .before .before .before .before .args in
+    let a = start (c .before) .args in
     let p = c .before .loop in
     loseAll (length (a .counts .now) - p .i) (a .w) (drop (p .i * a .w) (a .x .now)) (drop (p .at) (a .y .now)) (drop (p .i) (a .counts .now)) ≡ eqb (length (a .y .now) - p .at) 0
 ended c =
-    let s = c .before .before .before .before .before in
+    let s = start (c .before) in
     let a = s .args in
     let p = c .before .loop in
     let e : p .i ≡ length (a .counts .now) = omega arith in
@@ -129,12 +134,14 @@ ended c =
 returns-2 : tie.Need-returns-2 Inv-loop μ-loop
 returns-2 c =
     let q = c .before .before .loop in
-    sym (sym (q .inv .1 .1) ∙ ended (c .before) ∙ eq-eqb (length (c .before .before .before .before .before .before .args .y .now) - q .at) 0 (omega (arith, c .if2 .taken)))
+    sym (sym (q .inv .1 .1) ∙ ended (c .before)
+    ∙ eq-eqb (length (start (c .before .before) .args .y .now) - q .at) 0 (omega (arith, c .if2 .taken)))
 
 returns-3 : tie.Need-returns-3 Inv-loop μ-loop
 returns-3 c =
     let q = c .before .before .loop in
-    sym (sym (q .inv .1 .1) ∙ ended (c .before) ∙ ne-eqb (length (c .before .before .before .before .before .before .args .y .now) - q .at) 0 (λ e. c .if2 .left (omega arith)))
+    sym (sym (q .inv .1 .1) ∙ ended (c .before)
+    ∙ ne-eqb (length (start (c .before .before) .args .y .now) - q .at) 0 (λ e. c .if2 .left (omega arith)))
 
 pub loses-spec : {M : Type 1} → statement M
 loses-spec =

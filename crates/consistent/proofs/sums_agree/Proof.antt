@@ -53,9 +53,13 @@ sum-of-requires c κs =
     let s = w .before .before .before in
     (w .weights .ensures, (s .pre .0, (s .pre .1 .0, omega (arith, s .pre .1 .1))))
 
+-- where the function starts, seen from the loop
+abbrev start : tie.At-loop Inv-loop μ-loop → tie.Start Inv-loop μ-loop
+start c = c .before .before .before .before
+
 returns : tie.Need-returns Inv-loop μ-loop
 returns c =
-    let s = c .before .before .before .before .before .before .before .before .before in
+    let s = start (c .before .before .before .before .before) in
     let p = c .before .before .before .before .before .loop in
     sym (sym (p .inv .1) ∙ same-stop (own s) (s .args .numbers .now) (p .k) (omega (arith, count s)) (omega arith) (λ e. c .if1 .taken (c .before .sum-of .ensures ∙ e)))
 
@@ -67,14 +71,14 @@ loop-less c = search needs
 
 loop-again : tie.Need-loop-again Inv-loop μ-loop
 loop-again c =
-    let s = c .before .before .before .before .before .before .before .before .before in
+    let s = start (c .before .before .before .before .before) in
     let p = c .before .before .before .before .before .loop in
     let equal = sym (c .before .sum-of .ensures) ∙ c .if1 .left in
     (omega arith, same-next (own s) (s .args .numbers .now) (p .k) (omega (arith, count s)) (omega arith) equal ∙ p .inv .1)
 
 returns-2 : tie.Need-returns-2 Inv-loop μ-loop
 returns-2 c =
-    let s = c .before .before .before .before .before in
+    let s = start (c .before) in
     let p = c .before .loop in
     sym (sym (p .inv .1) ∙ same-end (own s) (s .args .numbers .now) (p .k) (omega (arith, count s)) (omega arith))
 

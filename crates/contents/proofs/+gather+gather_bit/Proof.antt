@@ -92,28 +92,33 @@ gather-mul-gather-bit t c =
     let a = s .args in
     omega (arith, more (a .left) (a .v) (a .n) (length (a .out .now)) 0 (omega arith) (omega arith) (s .pre .1 .0) .0)
 
+-- where `gather` starts, seen from its first call of `gather_bit`
+abbrev gather-start : (t : ℕ) → gather-lts.After-gather-bit-arg (gather-claims t) (gather-at t) gather.Post
+    → gather-lts.Start (gather-claims t) (gather-at t) gather.Post
+gather-start t c = c .before .before .before .before .before
+
 gather-gather-bit-requires : (t : ℕ) → gather-lts.Need-gather-bit-requires (gather-claims t) (gather-at t) gather.Post
 gather-gather-bit-requires t c κs =
-    let s = c .before .before .before .before .before in
+    let s = gather-start t c in
     let a = s .args in
     let m = more (a .left) (a .v) (a .n) (length (a .out .now)) 0 (omega arith) (omega arith) (s .pre .1 .0) in
     (omega (arith, s .pre .0), (record { byte = omega (arith, m .1 .0); entries = omega (arith, m .1 .1) }, s .pre .1 .1))
 
 gather-mul-gather-bit-2 : (t : ℕ) → gather-lts.Need-mul-gather-bit-2 (gather-claims t) (gather-at t) gather.Post
 gather-mul-gather-bit-2 t c =
-    let s = c .before .before .before .before .before .before .before .before in
+    let s = gather-start t (c .before .before .before) in
     let a = s .args in
     omega (arith, more (a .left) (a .v) (a .n) (length (a .out .now)) 1 (omega arith) (omega arith) (s .pre .1 .0) .0)
 
 gather-add-gather-bit : (t : ℕ) → gather-lts.Need-add-gather-bit (gather-claims t) (gather-at t) gather.Post
 gather-add-gather-bit t c =
-    let s = c .before .before .before .before .before .before .before .before in
+    let s = gather-start t (c .before .before .before) in
     let a = s .args in
     omega (arith, more (a .left) (a .v) (a .n) (length (a .out .now)) 1 (omega arith) (omega arith) (s .pre .1 .0) .0)
 
 gather-gather-bit-requires-2 : (t : ℕ) → gather-lts.Need-gather-bit-requires-2 (gather-claims t) (gather-at t) gather.Post
 gather-gather-bit-requires-2 t c κs =
-    let s = c .before .before .before .before .before .before .before .before .before in
+    let s = gather-start t (c .before .before .before .before) in
     let a = s .args in
     let m = more (a .left) (a .v) (a .n) (length (a .out .now)) 1 (omega arith) (omega arith) (s .pre .1 .0) in
     let few = c .before .before .before .gather-bit .ensures .few in
@@ -124,11 +129,13 @@ gather-same-length-2 t c = search needs
 
 gather-returns-3 : (t : ℕ) → gather-lts.Need-returns-3 (gather-claims t) (gather-at t) gather.Post
 gather-returns-3 t c =
-    let s = c .before .before .before .before .before .before .before .before .before .before .before .before in
+    let o = c .before .before in
+    let f = o .before .before .before .before in
+    let s = gather-start t (f .before) in
     let a = s .args in
     let some : 0 < a .left = omega arith in
     gathered-then (2 ^ a .left) (2 ^ (a .left - 1)) (a .n) _ _ (a .out .now) _ _ (omega (arith, half (a .left) some))
-    (c .before .before .before .before .before .before .gather-bit .ensures) (c .before .before .gather-bit2 .ensures)
+    (f .gather-bit .ensures) (o .gather-bit2 .ensures)
     (λ w e. ends-more (a .left) (a .v) (a .a) (drop (a .p) (a .y .now)) w some e)
 
 -- the bit is not the next one received

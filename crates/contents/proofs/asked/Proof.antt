@@ -57,18 +57,26 @@ chunk-total-requires c κs =
 line-total-requires : tie.Need-line-total-requires
 line-total-requires c κs = search needs
 
+-- where the function starts, seen from where `chunk_total` has answered
+abbrev entry : tie.After-chunk-total → tie.Start
+entry c = c .before .before .before .before
+
+-- where the function starts, seen from where `line_total` has answered
+abbrev start : tie.After-line-total → tie.Start
+start c = entry (c .before .before .before)
+
 -- the row has 255 chunks
-row-length : (c : tie.After-line-total) → length (c .before .before .before .before .before .before .before .args .row .now) ≡ 255
+row-length : (c : tie.After-line-total) → length (start c .args .row .now) ≡ 255
 row-length c = search needs
 
 -- what the chunk leaves of the total of the line
 rest : (c : tie.After-line-total) →
-    let a = c .before .before .before .before .before .before .before .args in
+    let a = start c .args in
     (c .before .before .before .chunk-total .result ≤ c .line-total .result)
     × ((c .line-total .result - c .before .before .before .chunk-total .result) % (a .count * a .nc + 1)
     ≡ sum (line (a .nc) (a .start) (a .stride) (a .count) (set (a .row .now) (a .start + a .t * a .stride) 0)))
 rest c =
-    let s = c .before .before .before .before .before .before .before in
+    let s = start c in
     let a = s .args in
     sum-rest (a .nc) (a .start) (a .stride) (a .count) (a .t) (s .pre .1 .1) (a .row .now) (s .pre .1 .0)
     (omega (arith, stands s .0, row-length c)) (c .line-total .result) (c .before .before .before .chunk-total .result)
@@ -82,7 +90,7 @@ rem-t23 c = search needs
 
 returns : tie.Need-returns
 returns c =
-    let s = c .before .before .before .before .before .before .before in
+    let s = start c in
     let a = s .args in
     let at = a .start + a .t * a .stride in
     let bare = line (a .nc) (a .start) (a .stride) (a .count) (set (a .row .now) at 0) in

@@ -26,9 +26,10 @@ same-length c = search needs
 
 returns : tie.Need-returns
 returns c =
-    let s = c .before .before .before .before .before .before .before in
-    let g = c .before .before .gather .ensures in
-    let a = c .before .before .before .before .wide .ensures in
+    let o = c .before .before in
+    let s = o .before .before .before .before .before in
+    let g = o .gather .ensures in
+    let a = o .before .before .wide .ensures in
     (omega (arith, g .few, few s), λ w h e. g .all w (div-eq-of-lt h, e ∙ sym a))
 
 pub contents-spec : {M : Type 1} → statement M

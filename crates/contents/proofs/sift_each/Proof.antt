@@ -34,23 +34,27 @@ chunk-total-requires c κs =
     let s = w .before .before in
     ((w .weights .ensures, s .pre .0), (s .pre .1 .0 .first-low, s .pre .1 .0 .first))
 
+-- the turn of the loop, seen from where `chunk_total` has answered
+abbrev turn : tie.After-chunk-total Inv-loop μ-loop → tie.In-loop Inv-loop μ-loop
+turn c = c .before .before .before
+
 add-if1 : tie.Need-add-if1 Inv-loop μ-loop
 add-if1 c =
-    let p = c .before .before .before .before .before in
+    let p = turn (c .before) .before in
     omega (arith, c .before .chunk-total .ensures .1, p .before .before .before .pre .1 .0 .rest)
 
 rem-if1 : tie.Need-rem-if1 Inv-loop μ-loop
 rem-if1 c =
-    let p = c .before .before .before .before .before .before in
+    let p = turn (c .before .before) .before in
     omega (arith, p .before .before .before .pre .1 .0 .modulus)
 
 slice-write-out : tie.Need-slice-write-out Inv-loop μ-loop
 slice-write-out c =
-    let p = c .before .before .before .before .before .before .before .before in
+    let p = turn (c .before .before .before .before) .before in
     omega (arith, p .loop .inv .1 .few, p .loop .inv .1 .long, p .before .before .before .pre .1 .1)
 
 add-k : tie.Need-add-k Inv-loop μ-loop
-add-k c = omega (arith, c .before .before .before .before .before .before .before .before .loop .inv .1 .few)
+add-k c = omega (arith, turn (c .before .before .before .before) .before .loop .inv .1 .few)
 
 add-i : tie.Need-add-i Inv-loop μ-loop
 add-i c = search needs
@@ -61,11 +65,11 @@ loop-less c = search needs
 loop-again : tie.Need-loop-again Inv-loop μ-loop
 loop-again c =
     let t = c .before .before .before .before .chunk-total .ensures .0 in
-    let p = c .before .before .before .before .before .before .before .before in
+    let p = turn (c .before .before .before .before) .before in
     let s = p .before .before .before in
     let a = s .args in
     let v = p .loop in
-    let more = c .before .before .before .before .before .before .before .loop-test .taken in
+    let more = turn (c .before .before .before .before) .loop-test .taken in
     let low : v .i < length (a .out .now) = omega (arith, s .pre .1 .1) in
     ⊎-elim
     (λ w. (omega arith, rw (w .1, w .2) (sifted-kept (a .nc) (a .a) (a .out .now) (v .i) (v .out) (v .k) (v .inv .1) low)))

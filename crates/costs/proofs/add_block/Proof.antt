@@ -23,15 +23,23 @@ Inv-loop l y totals counts block end size j from to₀ m most last₀ e₀ to la
 abbrev μ-loop : tie.MeasureT-loop
 μ-loop l y totals counts block end size j from to₀ m most last₀ e₀ to last e = most + 1 - e
 
+-- where the function starts, seen from where all slices are known
+abbrev entry : tie.After-slice-known Inv-loop μ-loop → tie.Start Inv-loop μ-loop
+entry c = c .before .before .before .before .before
+
+-- where the function starts, seen from the loop
+abbrev begin : tie.At-loop Inv-loop μ-loop → tie.Start Inv-loop μ-loop
+begin c = entry (c .before .before .before)
+
 -- the modulus is small
 high : (s : tie.Start Inv-loop μ-loop) → s .args .l .l1 * s .args .l .nc ≤ 2040
 high s = string-high (s .args .l) (s .pre .0 .allowed)
 
 mul-m : tie.Need-mul-m Inv-loop μ-loop
-mul-m c = omega (arith, high (c .before .before .before .before .before .before))
+mul-m c = omega (arith, high (entry (c .before)))
 
 add-m : tie.Need-add-m Inv-loop μ-loop
-add-m c = omega (arith, high (c .before .before .before .before .before .before))
+add-m c = omega (arith, high (entry (c .before)))
 
 wide-requires : tie.Need-wide-requires Inv-loop μ-loop
 wide-requires c κs = search needs
@@ -56,7 +64,7 @@ record Turn (c : tie.Joined1 Inv-loop μ-loop) : Type 0 where
   long : length (c .if1 .to) ≡ length (c .before .before .before .loop .to)
   grows : Grows (c .before .before .before .loop .to) (c .if1 .to)
   last : c .if1 .last ≡ c .before .reading .result
-  moved : let s = c .before .before .before .before .before .before .before .before .before .before .before in
+  moved : let s = begin (c .before .before .before) in
       c .before .reading .result < modulus (s .args .l)
       → Moved (modulus (s .args .l)) (c .before .reading .result) (s .args .from .now) (c .if1 .to)
 
@@ -86,7 +94,7 @@ loop-again : tie.Need-loop-again Inv-loop μ-loop
 loop-again c =
     let t = turn c in
     let p = c .before .before .before in
-    let s = p .before .before .before .before .before .before .before .before in
+    let s = begin p in
     let a = s .args in
     let m : ℕ = modulus (a .l) in
     let gain : ℕ → ℕ = brings (a .l) (a .y .now) (a .block) (a .end) (a .j) in

@@ -31,9 +31,13 @@ abbrev μ-loop : tie.MeasureT-loop
 abbrev first : tie.After-shared-slice-known6 Inv-loop μ-loop → tie.After-take-over Inv-loop μ-loop
 first c = c .before .before .before .before .before
 
+-- where the function starts, seen from where the slices that it reads are known
+abbrev entry : tie.After-shared-slice-known5 Inv-loop μ-loop → tie.Start Inv-loop μ-loop
+entry c = c .before .before .before .before .before
+
 -- the arguments, seen from there
 abbrev begin : tie.After-shared-slice-known6 Inv-loop μ-loop → tie.Start Inv-loop μ-loop
-begin c = first c .before .before .before .before .before .before .before .before .before .before .before
+begin c = entry (first c .before .before .before .before .before .before)
 
 -- the modulus is small
 high : (s : tie.Start Inv-loop μ-loop) → s .args .l .l1 * s .args .l .nc ≤ 2040
@@ -48,10 +52,10 @@ long c =
     (i .0 ∙ length-set (f .last .1 .0) _ _ ∙ f .kept .1 .0, i .1 ∙ f .kept .1 .1 .0)
 
 mul-m : tie.Need-mul-m Inv-loop μ-loop
-mul-m c = omega (arith, high (c .before .before .before .before .before .before .before .before))
+mul-m c = omega (arith, high (entry (c .before .before .before)))
 
 add-m : tie.Need-add-m Inv-loop μ-loop
-add-m c = omega (arith, high (c .before .before .before .before .before .before .before .before))
+add-m c = omega (arith, high (entry (c .before .before .before)))
 
 take-over-requires : tie.Need-take-over-requires Inv-loop μ-loop
 take-over-requires c κs = search needs
@@ -127,9 +131,13 @@ take-over-requires-2 c κs =
 abbrev turn : tie.After-add-block Inv-loop μ-loop → tie.In-loop Inv-loop μ-loop
 turn c = c .before .before .before .before .before
 
--- and its calls
+-- where `add_block` has answered, seen from where `take_over` has answered again
+abbrev merged : tie.After-take-over2 Inv-loop μ-loop → tie.After-add-block Inv-loop μ-loop
+merged c = c .before .before .before .before .before
+
+-- and seen from the end of the turn
 abbrev added : tie.After-slice-known7 Inv-loop μ-loop → tie.After-add-block Inv-loop μ-loop
-added c = c .before .before .before .before .before .before .before .before .before
+added c = merged (c .before .before .before .before)
 
 add-s : tie.Need-add-s Inv-loop μ-loop
 add-s c = let p = turn (added c) in omega (arith, p .loop-test .taken, begin (p .before .before) .pre .0 .few)

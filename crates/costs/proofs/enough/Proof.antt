@@ -28,9 +28,13 @@ Inv-loop l y totals counts numbers heavy size known l2 spare₀ set₀ other₀ 
 abbrev μ-loop : tie.MeasureT-loop
 μ-loop l y totals counts numbers heavy size known l2 spare₀ set₀ other₀ j₀ spare set other j = l2 - j
 
+-- where the function starts, seen from where `all_losses` has answered
+abbrev entry : tie.After-all-losses Inv-loop μ-loop → tie.Start Inv-loop μ-loop
+entry c = c .before .before .before .before .before .before
+
 -- the arguments
 abbrev begin : tie.At-loop Inv-loop μ-loop → tie.Start Inv-loop μ-loop
-begin c = c .before .before .before .before .before .before .before
+begin c = entry (c .before)
 
 -- the turn of the loop
 abbrev turn : tie.After-other2 Inv-loop μ-loop → tie.In-loop Inv-loop μ-loop
@@ -63,7 +67,7 @@ all-losses-requires c κs = search needs
 
 loop-holds : tie.Need-loop-holds Inv-loop μ-loop
 loop-holds c =
-    let a = c .before .before .before .before .before .before .args in (
+    let a = entry c .args in (
       (omega arith, c .all-losses .ensures .1),
       (
         (search needs, search needs),

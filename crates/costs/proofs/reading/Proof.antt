@@ -16,24 +16,28 @@ use Rattle.costs.proofs.reading.Tie as tie
 high : (s : tie.Start) → s .args .l .l1 * s .args .l .nc ≤ 2040
 high s = string-high (s .args .l) (s .pre .0 .allowed)
 
+-- where the function starts, seen from the first call of `wide`
+abbrev begin : tie.After-struct-known → tie.Start
+begin c = c .before .before .before .before
+
 -- where the chunk starts
-start-is : (c : tie.After-struct-known2) → let s = c .before .before .before .before .before .before in
+start-is : (c : tie.After-struct-known2) → let s = begin (c .before .before) in
     let a = s .args in
     let i = c .before .wide .result in
     ((i * a .l .l2 + a .j) * a .l .nc + a .e ≡ startAt (a .l) (a .block) (a .j) (a .e))
     × ((i * a .l .l2 + a .j < 255) × ((i * a .l .l2 + a .j) * a .l .nc ≤ 2040))
 start-is c =
-    let s = c .before .before .before .before .before .before in
+    let s = begin (c .before .before) in
     let a = s .args in
     let e = c .before .wide .ensures in
     let k = chunk-stands (a .l) (s .pre .0 .allowed) (a .block) (a .j) (s .pre .0 .inside) (s .pre .0 .column) in
     (ap (λ (i : ℕ). (i * a .l .l2 + a .j) * a .l .nc + a .e) e, rw e (k .1))
 
 mul-m : tie.Need-mul-m
-mul-m c = omega (arith, high (c .before .before .before .before))
+mul-m c = omega (arith, high (begin c))
 
 add-m : tie.Need-add-m
-add-m c = omega (arith, high (c .before .before .before .before))
+add-m c = omega (arith, high (begin c))
 
 wide-requires : tie.Need-wide-requires
 wide-requires c κs = search needs
@@ -60,7 +64,7 @@ returns c = λ r.
 add-if2 : tie.Need-add-if2
 add-if2 c =
     let q = c .before .before in
-    let s = q .before .before .before .before .before .before in
+    let s = begin (q .before .before) in
     omega (arith, start-is q .1 .1, s .pre .1, legal-bounds (s .args .l) (s .pre .0 .allowed) .nc-high)
 
 returns-2 : tie.Need-returns-2
@@ -77,10 +81,10 @@ returns-2 c = λ r.
 
 -- the positions before the chunk are few
 before-low : (c : tie.Else2) → let w = c .before .before .before .before in
-    w .wide .result * w .before .before .before .before .before .args .l .nc ≤ 2040
+    w .wide .result * begin (w .before) .args .l .nc ≤ 2040
 before-low c =
     let w = c .before .before .before .before in
-    let s = w .before .before .before .before .before in
+    let s = begin (w .before) in
     let a = s .args in
     let less : w .wide .result ≤ a .l .l1 = omega (arith, w .wide .ensures, s .pre .0 .inside) in
     omega (arith, high s, mul-le-mul-right (a .l .nc) less)
@@ -90,7 +94,7 @@ mul-weight c = omega (arith, before-low c)
 
 weight-requires : tie.Need-weight-requires
 weight-requires c κs =
-    let p = c .before .before .before .before .before .before .before .before .before .pre .0 in
+    let p = begin (c .before .before .before .before .before) .pre .0 in
     ((p .bits, p .short), (p .tables, (c .if2 .left, before-low c)))
 
 rem-result : tie.Need-rem-result
@@ -100,7 +104,7 @@ returns-3 : tie.Need-returns-3
 unfolding brings
 returns-3 c = λ r.
     let b = c .before .before .before in
-    let s = b .before .before .before .before .before .before .before in
+    let s = begin (b .before .before .before) in
     let a = s .args in
     let place : ℕ = startAt (a .l) (a .block) (a .j) (a .e) - a .end in
     let at : (b .before .before .wide .result * a .l .l2 + a .j) * a .l .nc + a .e - b .wide2 .result

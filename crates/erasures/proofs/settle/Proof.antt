@@ -57,16 +57,20 @@ array-read-wide-2 c = search needs
 wide-requires-2 : tie.Need-wide-requires-2 Inv-loop μ-loop
 wide-requires-2 c κs = search needs
 
+-- where the function starts, seen from the loop
+abbrev start : tie.At-loop Inv-loop μ-loop → tie.Start Inv-loop μ-loop
+start c = c .before .before .before .before
+
 entry-requires-2 : tie.Need-entry-requires-2 Inv-loop μ-loop
 entry-requires-2 c κs =
-    let b = c .before .before .before .before .before .before in
+    let b = start (c .before .before) in
     let z = c .before .before .loop .z in
     let low : getD (b .args .t4) z 0 + 1 < 2 ^ b .args .nc = b .pre .1 .2 .low z (c .before .loop-test .taken) in
     search (needs, low)
 
 divide-requires : tie.Need-divide-requires Inv-loop μ-loop
 divide-requires c κs =
-    let b = c .before .before .before .before .before .before .before in
+    let b = start (c .before .before .before) in
     let a = b .args in
     let p = b .pre in
     let o = c .before .before .before .loop in
@@ -87,7 +91,7 @@ loop-less c = search needs
 
 loop-again : tie.Need-loop-again Inv-loop μ-loop
 loop-again c =
-    let b = c .before .before .before .before .before .before .before .before in
+    let b = start (c .before .before .before .before) in
     let a = b .args in
     let p = b .pre in
     let o = c .before .before .before .before .loop in
@@ -112,7 +116,7 @@ array-write-out-2 c = search needs
 
 returns : tie.Need-returns Inv-loop μ-loop
 returns c =
-    let b = c .before .before .before .before .before in
+    let b = start (c .before) in
     let a = b .args in
     let p = b .pre in
     let o = c .before .loop in

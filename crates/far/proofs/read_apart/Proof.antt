@@ -19,13 +19,17 @@ one-most : (b : Bool) → cond b 0 1 ≤ 1
 one-most true = omega arith
 one-most false = omega arith
 
+-- where the function starts, seen from where the chunk's block is known
+abbrev begin : tie.After-struct-known → tie.Start
+begin c = c .before .before .before .before .before
+
 -- the chunk, and where it stands
-chunk-is : (c : tie.After-struct-known) → let a = c .before .before .before .before .before .args in
+chunk-is : (c : tie.After-struct-known) → let a = begin c .args in
     let i = c .before .wide .result * a .l .l2 + a .j in
     ((i ≡ chunkAt (a .l) (a .t3) (a .j) (a .s)) × (i * a .l .nc ≡ chunkAt (a .l) (a .t3) (a .j) (a .s) * a .l .nc))
     × ((i < 255) × ((i < length (a .z .now)) × (i * a .l .nc ≤ 2040)))
 chunk-is c =
-    let s = c .before .before .before .before .before in
+    let s = begin c in
     let a = s .args in
     let f = s .pre .0 in
     let e = ap (λ (v : ℕ). v * a .l .l2 + a .j) (c .before .wide .ensures) in
@@ -58,40 +62,44 @@ element-copy-out-wide-2 c = search needs
 wide-requires-2 : tie.Need-wide-requires-2
 wide-requires-2 c κs = search needs
 
+-- where the chunk's block is known, seen from where `wide` has answered again
+abbrev chunk-at : tie.After-wide2 → tie.After-struct-known
+chunk-at c = c .before .before .before
+
 returns : tie.Need-returns
 returns c =
-    let k = chunk-is (c .before .before .before .before) in
+    let k = chunk-is (chunk-at (c .before)) in
     (omega arith, λ h. absurd (omega (arith, h .0, c .if1 .taken, c .before .wide2 .ensures, k .0 .1)))
 
 add-if2 : tie.Need-add-if2
 add-if2 c =
     let w = c .before .before in
-    let f = w .before .before .before .before .before .before .before .before .pre .0 in
-    omega (arith, chunk-is (w .before .before .before) .1 .1 .1, legal-bounds _ (f .allowed) .nc-high)
+    let f = begin (chunk-at w) .pre .0 in
+    omega (arith, chunk-is (chunk-at w) .1 .1 .1, legal-bounds _ (f .allowed) .nc-high)
 
 returns-2 : tie.Need-returns-2
 returns-2 c =
     let w = c .before .before .before in
-    let k = chunk-is (w .before .before .before) in
+    let k = chunk-is (chunk-at w) in
     (omega arith, λ h. absurd (omega (arith, h .1, c .if2 .taken, c .before .before .if1 .left, w .wide2 .ensures, k .0 .1)))
 
 number-at-requires : tie.Need-number-at-requires
 number-at-requires c κs =
-    let f = c .before .before .before .before .before .before .before .before .before .before .before .pre .0 in
+    let f = begin (chunk-at (c .before .before .before)) .pre .0 in
     (f .bits, (legal-bounds _ (f .allowed) .nc-high, c .if2 .left))
 
 shared-slice-read-if3 : tie.Need-shared-slice-read-if3
-shared-slice-read-if3 c = chunk-is (c .before .before .before .before .before .before .before .before) .1 .1 .0
+shared-slice-read-if3 c = chunk-is (chunk-at (c .before .before .before .before .before)) .1 .1 .0
 
 returns-3 : tie.Need-returns-3
 returns-3 c =
     let n = c .before .before in
     let w = n .before .before .before .before in
-    let k = chunk-is (w .before .before .before) in
-    let a = w .before .before .before .before .before .before .before .before .args in
+    let k = chunk-is (chunk-at w) in
+    let a = begin (chunk-at w) .args in
     let i = chunkAt (a .l) (a .t3) (a .j) (a .s) in
     let at = i * a .l .nc + a .e - getD (a .t3 .end) (a .s) 0 in
-    let chunk : ℕ = w .before .before .before .before .wide .result * a .l .l2 + a .j in
+    let chunk : ℕ = chunk-at w .before .wide .result * a .l .l2 + a .j in
     let here : at ≡ chunk * a .l .nc + a .e - w .wide2 .result = omega (arith, w .wide2 .ensures, k .0 .1) in (
       omega arith,
       λ h.
@@ -105,7 +113,7 @@ returns-3 c =
 
 returns-4 : tie.Need-returns-4
 returns-4 c =
-    let a = c .before .before .before .before .before .before .before .before .before .before .before .before .before .before .args in
+    let a = begin (chunk-at (c .before .before .before .before .before .before)) .args in
     let i = chunkAt (a .l) (a .t3) (a .j) (a .s) in
     let at = i * a .l .nc + a .e - getD (a .t3 .end) (a .s) 0 in
     (omega arith, λ h. one-most (eqb (number (a .l .nc) (drop at (a .y .now))) (getD (a .z .now) i 0)))

@@ -20,9 +20,13 @@ Inv-loop l y heavy z s size ahead at table₀ columns t₀ table t =
 abbrev μ-loop : tie.MeasureT-loop
 μ-loop l y heavy z s size ahead at table₀ columns t₀ table t = columns - t
 
+-- where the function starts, seen from where `first_step` has answered
+abbrev entry : tie.After-first-step Inv-loop μ-loop → tie.Start Inv-loop μ-loop
+entry c = c .before .before .before .before .before
+
 -- the function's entry
 abbrev begin : tie.At-loop Inv-loop μ-loop → tie.Start Inv-loop μ-loop
-begin c = c .before .before .before .before .before .before .before .before
+begin c = entry (c .before .before .before)
 
 first-step-requires : tie.Need-first-step-requires Inv-loop μ-loop
 first-step-requires c κs =
@@ -32,7 +36,7 @@ first-step-requires c κs =
 loop-holds : tie.Need-loop-holds Inv-loop μ-loop
 loop-holds c =
     let f = c .before .before .first-step .ensures in
-    let s = c .before .before .before .before .before .before .before in (
+    let s = entry (c .before .before) in (
       (omega arith, refl),
       (
         λ i h. refl,

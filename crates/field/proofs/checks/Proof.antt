@@ -29,22 +29,30 @@ fill-elements-requires c κs =
 slice-aggregate-fill-exponents : tie.Need-slice-aggregate-fill-exponents Inv-loop μ-loop
 slice-aggregate-fill-exponents c = search needs
 
+-- where the function starts, seen from where `fill_elements` has answered
+abbrev entry : tie.After-fill-elements Inv-loop μ-loop → tie.Start Inv-loop μ-loop
+entry c = c .before .before .before .before .before
+
 fill-exponents-requires : tie.Need-fill-exponents-requires Inv-loop μ-loop
 fill-exponents-requires c κs =
-    let s = c .before .before .before .before .before .before .before in
+    let s = entry (c .before .before) in
     let q = s .pre .0 in
     (q .0, q .1, q .2, q .3, omega (arith, size-high (s .args .nc) (q .1)))
 
 loop-holds : tie.Need-loop-holds Inv-loop μ-loop
 loop-holds c =
-    let s = c .before .before .before .before .before .before .before .before .before in
+    let s = entry (c .before .before .before .before) in
     let a = s .args in
     let e = c .before .fill-exponents in
     (search needs, search needs, search needs, first-terms (a .nc) (s .pre .0 .0) (s .pre .0 .1) (length (a .chunks .now)) _ (a .chunks .now) (e .ensures), λ i h. absurd (omega arith))
 
+-- where the function starts, seen from the loop
+abbrev start : tie.At-loop Inv-loop μ-loop → tie.Start Inv-loop μ-loop
+start c = entry (c .before .before .before .before .before)
+
 -- the start seen from inside the loop
 abbrev begun : tie.In-loop Inv-loop μ-loop → tie.Start Inv-loop μ-loop
-begun c = c .before .before .before .before .before .before .before .before .before .before .before
+begun c = start (c .before)
 
 sub-sum : tie.Need-sub-sum Inv-loop μ-loop
 sub-sum c = search needs
@@ -66,9 +74,13 @@ slice-write-out c = search needs
 slice-aggregate-raise-all : tie.Need-slice-aggregate-raise-all Inv-loop μ-loop
 slice-aggregate-raise-all c = search needs
 
+-- the turn of the loop, seen from where `sum` has answered
+abbrev turn : tie.After-sum Inv-loop μ-loop → tie.In-loop Inv-loop μ-loop
+turn c = c .before .before .before .before
+
 raise-all-requires : tie.Need-raise-all-requires Inv-loop μ-loop
 raise-all-requires c κs =
-    let t = c .before .before .before .before .before in
+    let t = turn (c .before) in
     let s = begun t in
     let p = t .before .loop in
     (s .pre .0 .0, s .pre .0 .1, s .pre .1 .0, omega (arith, size-high (s .args .nc) (s .pre .0 .1)), p .inv .3 .low)
@@ -81,7 +93,7 @@ loop-less c = search needs
 
 loop-again : tie.Need-loop-again Inv-loop μ-loop
 loop-again c =
-    let t = c .before .before .before .before .before .before .before in
+    let t = turn (c .before .before .before) in
     let s = begun t in
     let a = s .args in
     let l = t .before in
@@ -103,7 +115,7 @@ same-length c = search needs
 returns : tie.Need-returns Inv-loop μ-loop
 returns c =
     let p = c .before .loop in
-    let all : c .before .before .before .before .before .before .before .before .before .before .before .args .r ≡ p .i = omega arith in
+    let all : start (c .before) .args .r ≡ p .i = omega arith in
     rw all (p .inv .4)
 
 pub checks-spec : {M : Type 1} → statement M

@@ -21,9 +21,13 @@ loop-holds c = search needs
 shared-slice-read-exponent-of : tie.Need-shared-slice-read-exponent-of Inv-loop μ-loop
 shared-slice-read-exponent-of c = search needs
 
+-- where the function starts, seen from the loop
+abbrev start : tie.At-loop Inv-loop μ-loop → tie.Start Inv-loop μ-loop
+start c = c .before .before .before .before
+
 exponent-of-requires : tie.Need-exponent-of-requires Inv-loop μ-loop
 exponent-of-requires c κs =
-    let s = c .before .before .before .before .before .before in
+    let s = start (c .before .before) in
     (s .pre .0, s .pre .1, s .pre .2, s .pre .3 _)
 
 slice-write-es : tie.Need-slice-write-es Inv-loop μ-loop
@@ -37,7 +41,7 @@ loop-less c = search needs
 
 loop-again : tie.Need-loop-again Inv-loop μ-loop
 loop-again c =
-    let s = c .before .before .before .before .before .before .before in
+    let s = start (c .before .before .before) in
     let p = c .before .before .before .loop in
     let q = c .exponent-of .ensures in
     (simp length-set (p .inv .0), omega arith, names-next (s .args .nc) (p .c) (p .es) (λ (k : ℕ). getD (s .args .xs .now) k 0) (p .inv .2) (omega arith) (c .exponent-of .result) (q .0) (q .1))
@@ -47,7 +51,7 @@ same-length c = search needs
 
 returns : tie.Need-returns Inv-loop μ-loop
 returns c =
-    let s = c .before .before .before .before .before in
+    let s = start (c .before) in
     let p = c .before .loop in
     let all : length (s .args .xs .now) ≡ p .c = omega arith in
     rw all (p .inv .2)

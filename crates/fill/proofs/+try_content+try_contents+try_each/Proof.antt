@@ -194,7 +194,8 @@ try-contents-try-each-requires : (t : ℕ)
     → try-contents-lts.Need-try-each-requires (try-contents-claims t) (try-contents-at t) try-contents.Post
 try-contents-try-each-requires t c κs =
     let k = c .before in
-    let s = k .before .before .before .before .before .before .before .before in
+    let few = k .before .before .before .before in
+    let s = few .before .before .before .before in
     let z = chosen t k in
     (omega (arith, s .pre .0), (s .pre .1 .0, (s .pre .1 .1 .0, (s .pre .1 .1 .1, (z, k .choose .ensures .1 .0 z)))))
 
@@ -224,10 +225,16 @@ try-each-list-contents-requires t c κs =
     let s = c .before .before .before .before in
     (s .pre .1 .0, (s .pre .1 .1 .1, search needs))
 
+-- where `try_each` starts, seen from where `list_contents` has answered
+abbrev try-each-start : (t : ℕ)
+    → try-each-lts.After-list-contents (try-each-claims t) (try-each-at t) try-each.Post try-each-Inv-loop try-each-μ-loop
+    → try-each-lts.Start (try-each-claims t) (try-each-at t) try-each.Post try-each-Inv-loop try-each-μ-loop
+try-each-start t c = c .before .before .before .before .before
+
 try-each-loop-holds : (t : ℕ)
     → try-each-lts.Need-loop-holds (try-each-claims t) (try-each-at t) try-each.Post try-each-Inv-loop try-each-μ-loop
 try-each-loop-holds t c =
-    let s = c .before .before .before .before .before .before in
+    let s = try-each-start t (c .before) in
     grown-nothing (s .pre .1 .1 .0) (λ x r b. omega (arith, b .1 .1 .1 .0))
 
 try-each-array-read-try-content : (t : ℕ)
@@ -237,7 +244,7 @@ try-each-array-read-try-content t c = omega (arith, c .loop-test .taken, c .befo
 try-each-try-content-requires : (t : ℕ)
     → try-each-lts.Need-try-content-requires (try-each-claims t) (try-each-at t) try-each.Post try-each-Inv-loop try-each-μ-loop
 try-each-try-content-requires t c κs =
-    let s = c .before .before .before .before .before .before .before .before .before in
+    let s = try-each-start t (c .before .before .before .before) in
     (omega (arith, s .pre .0), (s .pre .1 .0, (grown-holding (s .pre .1 .1 .0) (c .before .before .loop .inv), s .pre .1 .1 .1)))
 
 try-each-add-u : (t : ℕ)
@@ -254,7 +261,7 @@ try-each-loop-again : (t : ℕ)
     → try-each-lts.Need-loop-again (try-each-claims t) (try-each-at t) try-each.Post try-each-Inv-loop try-each-μ-loop
 try-each-loop-again t c =
     let p = c .before .before .before .before .before in
-    let s = p .before .before .before .before .before .before .before in
+    let s = try-each-start t (p .before .before) in
     let a = s .args in
     let tried = p .before .before .list-contents .last .1 .1 .1 .1 .1 .1 .0 in
     grown-weaken (λ x r b. tried-next (a .l) (a .y .now) (a .cells) (a .row) (a .z) tried (p .loop .u) b)
@@ -263,7 +270,7 @@ try-each-loop-again t c =
 try-each-same-length : (t : ℕ)
     → try-each-lts.Need-same-length (try-each-claims t) (try-each-at t) try-each.Post try-each-Inv-loop try-each-μ-loop
 try-each-same-length t c =
-    grown-length (c .before .before .before .before .before .before .before .before .pre .1 .1 .0) (c .before .loop .inv)
+    grown-length (try-each-start t (c .before .before .before) .pre .1 .1 .0) (c .before .loop .inv)
 
 try-each-returns : (t : ℕ)
     → try-each-lts.Need-returns (try-each-claims t) (try-each-at t) try-each.Post try-each-Inv-loop try-each-μ-loop

@@ -49,7 +49,8 @@ same-length c = search needs
 
 returns-2 : tie.Need-returns-2
 returns-2 c =
-    grown-weaken (recovered (c .before .before .before .before .before .before .before)) (c .before .before .add-row .ensures)
+    let r = c .before .before in
+    grown-weaken (recovered (r .before .before .before .before .before)) (r .add-row .ensures)
 
 pub add-recovered-spec : {M : Type 1} → statement M
 add-recovered-spec =

@@ -45,11 +45,16 @@ element-copy-out-wide c = search needs
 wide-requires-2 : tie.Need-wide-requires-2
 wide-requires-2 c κs = search needs
 
+-- where the function starts, seen from where the test does not hold
+abbrev start : tie.Else1 → tie.Start
+start c = c .before .before .before .before .before
+
 mul-asked : tie.Need-mul-asked
 mul-asked c =
-    let s = c .before .before .before .before .before .before .before .before .before in
+    let w = c .before .before .before in
+    let s = start (w .before) in
     let l = s .args .l in
-    let e = c .before .before .before .wide .ensures in
+    let e = w .wide .ensures in
     let low = chunk-low l (s .pre .0) _ 0 (s .pre .1 .1 .1 .0) (legal-bounds l (s .pre .0) .l2-low) in
     rw e (omega (arith, low))
 
@@ -64,20 +69,23 @@ wide-requires-3 c κs = search needs
 
 asked-requires : tie.Need-asked-requires
 asked-requires c κs =
-    let s = c .before .before .before .before .before .before .before .before .before .before .before .before in
-    let a = s .args in
-    let w = c .before .before .before .before .before .before .wide .ensures in (
-      rw w (block-inside (a .l) (s .pre .0) 255 (omega arith) _ (s .pre .1 .1 .1 .0)),
-      (omega arith, rw (c .before .before .before .before .wide2 .ensures) (s .pre .1 .1 .1 .1)),
+    let m = c .before .before .before in
+    let w = m .before .before .before in
+    let s = start (w .before) in
+    let a = s .args in (
+      rw (w .wide .ensures) (block-inside (a .l) (s .pre .0) 255 (omega arith) _ (s .pre .1 .1 .1 .0)),
+      (omega arith, rw (m .before .wide2 .ensures) (s .pre .1 .1 .1 .1)),
     )
 
 returns-2 : tie.Need-returns-2
 returns-2 c =
-    let o = c .before .before .before .before .before .before .before .before in
-    let b = o .before .before .before .before .before in
+    let m = c .before .before .before .before in
+    let w = m .before .before .before in
+    let o = w .before in
+    let b = start o in
     let a = b .args in
-    let first = c .before .before .before .before .before .before .before .wide .ensures in
-    let second = c .before .before .before .before .before .wide2 .ensures in
+    let first = w .wide .ensures in
+    let second = m .before .wide2 .ensures in
     let e = eqb-true _ _ (sym (o .before .alone .ensures) ∙ not-false _ (o .if1 .left)) in (
       c .asked .ensures .0,
       λ y x g s u.

@@ -57,22 +57,27 @@ shared-slice-read-wide c = search needs
 wide-requires-3 : tie.Need-wide-requires-3
 wide-requires-3 c κs = search needs
 
+-- where the function starts, seen from where the test does not hold
+abbrev start : tie.Else1 → tie.Start
+start c = c .before .before .before .before .before
+
 asked-requires : tie.Need-asked-requires
 asked-requires c κs =
-    let s = c .before .before .before .before .before .before .before .before .before .before .before .before in
-    let a = s .args in
-    let w = c .before .before .before .before .wide2 .ensures in (
-      rw w (string-inside (a .l) (s .pre .0) 255 (omega arith) _ (s .pre .1 .1 .1 .1)),
-      (legal-bounds (a .l) (s .pre .0) .l2-low, rw (c .before .before .before .before .before .wide .ensures) (s .pre .1 .1 .1 .0)),
+    let w = c .before .before .before .before in
+    let s = start (w .before .before .before) in
+    let a = s .args in (
+      rw (w .wide2 .ensures) (string-inside (a .l) (s .pre .0) 255 (omega arith) _ (s .pre .1 .1 .1 .1)),
+      (legal-bounds (a .l) (s .pre .0) .l2-low, rw (w .before .wide .ensures) (s .pre .1 .1 .1 .0)),
     )
 
 returns-2 : tie.Need-returns-2
 returns-2 c =
-    let o = c .before .before .before .before .before .before .before .before in
-    let b = o .before .before .before .before .before in
+    let w = c .before .before .before .before .before in
+    let o = w .before .before .before in
+    let b = start o in
     let a = b .args in
-    let first = c .before .before .before .before .before .wide2 .ensures in
-    let second = c .before .before .before .before .before .before .wide .ensures in
+    let first = w .wide2 .ensures in
+    let second = w .before .wide .ensures in
     let e = eqb-true _ _ (sym (o .before .alone .ensures) ∙ not-false _ (o .if1 .left)) in (
       c .asked .ensures .0,
       λ y x g s u.

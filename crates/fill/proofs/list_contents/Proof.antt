@@ -22,15 +22,19 @@ element-copy-out-contents c = search needs
 element-copy-out-contents-2 : tie.Need-element-copy-out-contents-2
 element-copy-out-contents-2 c = search needs
 
+-- where the function starts, seen from the call of `contents`
+abbrev entry : tie.After-contents-arg3 → tie.Start
+entry c = c .before .before .before .before .before .before
+
 contents-requires : tie.Need-contents-requires
 contents-requires c κs =
-    let s = c .before .before .before .before .before .before in
+    let s = entry c in
     let q = s .pre .1 .0 .0 (s .args .z) (s .pre .1 .0 .1) in
     (legal-bounds (s .args .l) (s .pre .0 .is-legal) .nc-high, (q .1 .1, s .pre .1 .1))
 
 -- where the contents are listed: the function's start; and where they are sifted once: the place where they are listed
 abbrev start : tie.After-contents → tie.Start
-start c = c .before .before .before .before .before .before .before
+start c = entry (c .before)
 
 abbrev listed : tie.After-sift → tie.After-contents
 listed c = c .before .before .before .before .before

@@ -13,9 +13,13 @@ use Rattle.floor.proofs.Floor.{none-known, last-known, last-room}
 use Rattle.floor.proofs.above.Statement.{statement}
 use Rattle.floor.proofs.above.Tie as tie
 
+-- where the function starts, seen from where the first test does not hold
+abbrev entry : tie.Else1 → tie.Start
+entry c = c .before .before .before .before .before .before
+
 -- where the function starts, seen from where the last row is read
 abbrev start : tie.After-struct-known5 → tie.Start
-start c = c .before .before .before .before .before .before .before .before .before .before .before
+start c = entry (c .before .before .before .before .before)
 
 some : (c : tie.After-struct-known5) → 0 < start c .args .kept .count
 some c = omega (arith, c .before .before .before .if2 .left)
@@ -36,7 +40,7 @@ returns c = λ e. absurd (false≢true e)
 returns-2 : tie.Need-returns-2
 returns-2 c =
     let m = c .before .before in
-    let a = m .before .before .before .before .before .before .args in
+    let a = entry m .args in
     λ e x sent own light.
     none-known (a .l) (a .list .now) (a .kept .count) (a .kept .more) (c .if2 .taken) (not-false _ (m .if1 .left)) x
 

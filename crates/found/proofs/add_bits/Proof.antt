@@ -9,14 +9,18 @@ use Rattle.found.proofs.add_bits.Tie as tie
 is-consistent-requires : tie.Need-is-consistent-requires
 is-consistent-requires c κs = search needs
 
+-- where the function starts, seen from where `is_consistent` has answered
+abbrev start : tie.After-is-consistent → tie.Start
+start c = c .before .before .before .before .before
+
 returns : tie.Need-returns
 returns c =
-    let s = c .before .before .before .before .before .before in
+    let s = start (c .before) in
     grown-refused (s .pre .1 .1) (s .args .x .now) (sym (c .before .is-consistent .ensures) ∙ not-true _ (c .if1 .taken))
 
 add-sent-requires : tie.Need-add-sent-requires
 add-sent-requires c κs =
-    let s = c .before .before .before .before .before .before .before in
+    let s = start (c .before .before) in
     let passed = sym (c .before .before .is-consistent .ensures) ∙ not-false _ (c .before .if1 .left) in
     (s .pre .0, ((s .pre .1 .0, passed), s .pre .1 .1))
 

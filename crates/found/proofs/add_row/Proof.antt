@@ -24,8 +24,12 @@ size s = sizes (s .args .l) (bounds s)
 mul-count : tie.Need-mul-count
 mul-count c = omega (arith, size (c .before .before .before .before) .chunks)
 
+-- where the function starts, seen from where the sizes of the row are known
+abbrev entry : tie.After-struct-known2 → tie.Start
+entry c = c .before .before .before .before .before
+
 mul-n : tie.Need-mul-n
-mul-n c = omega (arith, size (c .before .before .before .before .before) .row)
+mul-n c = omega (arith, size (entry c) .row)
 
 slice-aggregate-spread : tie.Need-slice-aggregate-spread
 slice-aggregate-spread c = search needs
@@ -35,7 +39,7 @@ slice-aggregate-spread-2 c = search needs
 
 spread-requires : tie.Need-spread-requires
 spread-requires c κs =
-    let s = c .before .before .before .before .before .before .before in
+    let s = entry (c .before .before) in
     let long : length (s .args .t4) ≡ 255 = search needs in
     let inside : Inside (s .args .l .nc) 0 1 (s .args .l .l1 * s .args .l .l2) (length (s .args .t4)) =
     record {
@@ -53,13 +57,17 @@ sub-add-bits c = search needs
 part-add-bits-start : tie.Need-part-add-bits-start
 part-add-bits-start c = search needs
 
+-- where the function starts, seen from where `spread` has answered
+abbrev begin : tie.After-spread → tie.Start
+begin c = entry (c .before .before .before)
+
 part-add-bits-end : tie.Need-part-add-bits-end
 part-add-bits-end c =
-    omega (arith, size (c .before .before .before .before .before .before .before .before .before .before) .row)
+    omega (arith, size (begin (c .before .before)) .row)
 
 -- where the bits are added: the function's start, and the bits
 abbrev start : tie.After-add-bits-arg2 → tie.Start
-start c = c .before .before .before .before .before .before .before .before .before .before .before .before
+start c = begin (c .before .before .before .before)
 
 abbrev bits : tie.After-add-bits-arg2 → List ℕ
 bits c = take (rowBits (start c .args .l) - 0) (c .before .before .before .before .spread .last .1 .1 .1 .1 .1 .0)

@@ -17,9 +17,13 @@ short s = row-short (s .pre .0) (s .args .x .now) (s .pre .1 .0 .0)
 slice-aggregate-pack : tie.Need-slice-aggregate-pack
 slice-aggregate-pack c = search needs
 
+-- where the function starts, seen from the call of `pack`
+abbrev entry : tie.After-bytes → tie.Start
+entry c = c .before .before .before .before .before
+
 pack-requires : tie.Need-pack-requires
 pack-requires c κs =
-    let s = c .before .before .before .before .before in
+    let s = entry c in
     (s .pre .1 .0 .0 .1, (short s, omega (arith, short s)))
 
 add-w : tie.Need-add-w
@@ -32,11 +36,11 @@ part-insert-start : tie.Need-part-insert-start
 part-insert-start c = search needs
 
 part-insert-end : tie.Need-part-insert-end
-part-insert-end c = omega (arith, short (c .before .before .before .before .before .before .before .before .before))
+part-insert-end c = omega (arith, short (entry (c .before .before .before .before)))
 
 -- where the bytes are inserted: the function's start, and the bytes
 abbrev start : tie.After-insert-arg2 → tie.Start
-start c = c .before .before .before .before .before .before .before .before .before .before
+start c = entry (c .before .before .before .before .before)
 
 abbrev bytes : tie.After-insert-arg2 → List ℕ
 bytes c = take (bytesFor (length (start c .args .x .now)) - 0) (c .before .before .before .before .pack .last .1 .0)

@@ -61,12 +61,16 @@ called t = (
   next-try-reads.Learnt,
 )
 
--- places of the code: the entry, after the blocks that are read, the loop, and a turn in which a block was tried
+-- places of the code: the entry, after the blocks that are read, the test whether these are all, the loop, and a turn in which a block
+-- was tried
 abbrev Start : ℕ → Type 0
 Start t = prolong-lts.Start (called t) (prolong-at t) prolong.Post prolong-Inv-loop prolong-μ-loop
 
 abbrev Read : ℕ → Type 0
 Read t = prolong-lts.After-as-read (called t) (prolong-at t) prolong.Post prolong-Inv-loop prolong-μ-loop
+
+abbrev Test : ℕ → Type 0
+Test t = prolong-lts.After-struct-known2 (called t) (prolong-at t) prolong.Post prolong-Inv-loop prolong-μ-loop
 
 abbrev Loop : ℕ → Type 0
 Loop t = prolong-lts.At-loop (called t) (prolong-at t) prolong.Post prolong-Inv-loop prolong-μ-loop
@@ -77,8 +81,11 @@ Tried t = prolong-lts.After-try-block (called t) (prolong-at t) prolong.Post pro
 abbrev entry : (t : ℕ) → Read t → Start t
 entry t c = c .before .before .before .before .before
 
+abbrev tested : (t : ℕ) → Test t → Read t
+tested t c = c .before .before .before .before .before
+
 abbrev read : (t : ℕ) → Loop t → Read t
-read t c = c .before .before .before .before .before .before .before .before .before .before .before
+read t c = tested t (c .before .before .before .before .before .before)
 
 abbrev loop : (t : ℕ) → Tried t → Loop t
 loop t c = c .before .before .before .before .before .before
@@ -122,7 +129,7 @@ prolong-is-consistent-requires t c κs = search needs
 
 prolong-mul-less : (t : ℕ)
     → prolong-lts.Need-mul-less (called t) (prolong-at t) prolong.Post prolong-Inv-loop prolong-μ-loop
-prolong-mul-less t c = omega (arith, small t (c .before .before .before .before .before .before .before .before))
+prolong-mul-less t c = omega (arith, small t (tested t (c .before .before .before)))
 
 prolong-less-requires-2 : (t : ℕ)
     → prolong-lts.Need-less-requires-2 (called t) (prolong-at t) prolong.Post prolong-Inv-loop prolong-μ-loop
@@ -139,7 +146,7 @@ prolong-returns t c = search needs
 prolong-mul-nb : (t : ℕ)
     → prolong-lts.Need-mul-nb (called t) (prolong-at t) prolong.Post prolong-Inv-loop prolong-μ-loop
 prolong-mul-nb t c =
-    let r = c .before .before .before .before .before .before .before in
+    let r = tested t (c .before .before) in
     omega (arith, high (entry t r .pre .1 .0 .0) .block)
 
 prolong-least-requires : (t : ℕ)
@@ -157,20 +164,21 @@ prolong-shared-slice-read-s t c = search needs
 prolong-cast-s : (t : ℕ)
     → prolong-lts.Need-cast-s (called t) (prolong-at t) prolong.Post prolong-Inv-loop prolong-μ-loop
 prolong-cast-s t c =
-    let r = c .before .before .before .before .before .before .before .before .before in
+    let r = tested t (c .before .before .before .before) in
     record { fits = omega (arith, c .shared-slice-known3 .given (r .as-read .result .i)) }
 
 prolong-first-try-requires : (t : ℕ)
     → prolong-lts.Need-first-try-requires (called t) (prolong-at t) prolong.Post prolong-Inv-loop prolong-μ-loop
 prolong-first-try-requires t c κs =
-    let r = c .before .before .before .before .before .before .before .before .before in
+    let r = tested t (c .before .before .before .before) in
     (received-short (entry t r .pre .1 .0 .0), (omega arith, omega arith))
 
 prolong-loop-holds : (t : ℕ)
     → prolong-lts.Need-loop-holds (called t) (prolong-at t) prolong.Post prolong-Inv-loop prolong-μ-loop
 prolong-loop-holds t c =
     let f = c .first-try .ensures in
-    let u = c .before .before .before .before .before .before in
+    let past = c .before .before .before .before in
+    let u = past .before .before in
     (u .before .before .before .before .as-read .ensures .0, (u .less .ensures .0, (f .0, omega (arith, f .1 .0))))
 
 prolong-add-if2 : (t : ℕ)
@@ -251,9 +259,11 @@ prolong-prolong-requires t c κs =
 prolong-same-length-3 : (t : ℕ)
     → prolong-lts.Need-same-length-3 (called t) (prolong-at t) prolong.Post prolong-Inv-loop prolong-μ-loop
 prolong-same-length-3 t c =
-    let k = c .before .before .before .before .before .before .before .before .before in
+    let q = c .before .before .before in
+    let past = q .before .before .before in
+    let k = past .before .before .before in
     let s = entry t (read t (loop t k)) in
-    c .before .before .before .prolong .kept .1 .1 .1 .1 .1 .1 .0 ∙ hand t k .size ∙ sym (s .pre .1 .1 .1 .size)
+    q .prolong .kept .1 .1 .1 .1 .1 .1 .0 ∙ hand t k .size ∙ sym (s .pre .1 .1 .1 .size)
 
 prolong-returns-3 : (t : ℕ)
     → prolong-lts.Need-returns-3 (called t) (prolong-at t) prolong.Post prolong-Inv-loop prolong-μ-loop

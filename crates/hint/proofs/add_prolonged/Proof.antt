@@ -13,9 +13,13 @@ sub-left c = let s = c .before .before .before .before in omega (arith, s .pre .
 mul-prolong : tie.Need-mul-prolong
 mul-prolong c = let s = c .before .before .before .before in omega (arith, s .pre .0 .few, s .pre .1 .0 .size)
 
+-- where the function starts, seen from the call of `prolong`
+abbrev entry : tie.After-prolong-arg → tie.Start
+entry c = c .before .before .before .before .before
+
 prolong-requires : tie.Need-prolong-requires
 prolong-requires c κs =
-    let s = c .before .before .before .before .before in
+    let s = entry c in
     let g = s .pre .0 in
     let start : Stands (s .args .l) (record { i = 0; p = 0 }) = record { inside = omega arith; before = omega arith } in
     ((g, omega (arith, g .few, s .pre .1 .0 .size)), (start, s .pre .1 .0))
@@ -25,13 +29,13 @@ same-length c = search needs
 
 returns : tie.Need-returns
 returns c =
-    let s = c .before .before .before .before .before .before .before .before .before .before in
+    let s = entry (c .before .before .before .before .before) in
     grown-nothing (s .pre .1 .1) (λ z k u. u)
 
 add-bits-requires : tie.Need-add-bits-requires
 add-bits-requires c κs =
     let k = c .before .before .before .before .before .before in
-    let s = k .before .before .before .before .before .before in
+    let s = entry (k .before) in
     let hand = k .prolong .ensures .0 in
     (s .pre .0, ((hand .size, hand .bits), s .pre .1 .1))
 

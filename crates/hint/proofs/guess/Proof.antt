@@ -12,14 +12,18 @@ use Rattle.hint.proofs.guess.Tie as tie
 returns : tie.Need-returns
 returns c = grown-nothing (c .before .before .before .before .before .pre .1) (λ z s u. u)
 
+-- where the function starts, seen from where the first test does not hold
+abbrev start : tie.Else1 → tie.Start
+start c = c .before .before .before .before .before
+
 few-runs-requires : tie.Need-few-runs-requires
-few-runs-requires c κs = received-short (c .before .before .before .before .before .pre .0)
+few-runs-requires c κs = received-short (start c .pre .0)
 
 returns-2 : tie.Need-returns-2
-returns-2 c = grown-nothing (c .before .before .before .before .before .before .before .pre .1) (λ z s u. u)
+returns-2 c = grown-nothing (start (c .before .before) .pre .1) (λ z s u. u)
 
 mul-n : tie.Need-mul-n
-mul-n c = omega (arith, high (c .before .before .before .before .before .before .before .before .pre .0) .chunks)
+mul-n c = omega (arith, high (start (c .before .before .before) .pre .0) .chunks)
 
 mul-n-2 : tie.Need-mul-n-2
 mul-n-2 c = search needs
@@ -32,12 +36,12 @@ part-x-start c = search needs
 
 part-x-end : tie.Need-part-x-end
 part-x-end c =
-    let s = c .before .before .before .before .before .before .before .before .before in
+    let s = start (c .before .before .before .before) in
     omega (arith, high (s .pre .0) .row)
 
 add-prolonged-requires : tie.Need-add-prolonged-requires
 add-prolonged-requires c κs =
-    let s = c .before .before .before .before .before .before .before .before .before .before .before in
+    let s = start (c .before .before .before .before .before .before) in
     let n = rowBits (s .args .l) in
     (s .pre .0, (hand-zeros (s .args .l) 2040 (high (s .pre .0) .row) (n - 0) (omega arith), s .pre .1))
 

@@ -43,9 +43,13 @@ returns-2 c x a comes e =
 add-if3 : tie.Need-add-if3
 add-if3 c = search needs
 
+-- where the function starts, seen from where the second test does not hold
+abbrev start : tie.Else2 → tie.Start
+start c = c .before .before .before .before .before
+
 returns-3 : tie.Need-returns-3
 returns-3 c x a comes e =
-    let s = c .before .before .before .before .before .before in
+    let s = start (c .before) in
     let g = s .args in
     ⊎-elim
     (λ p. absurd (omega (arith, p .0, c .before .before .before .if1 .left, s .pre .1 .1)))
@@ -53,10 +57,10 @@ returns-3 c x a comes e =
     (adds (g .first) (g .g) x (g .bits .now) (s .pre .1 .0 .0) a (s .pre .0 .1) comes e)
 
 add-put-back-2 : tie.Need-add-put-back-2
-add-put-back-2 c = let s = c .before .before .before .before .before .before .before in omega (arith, small s, s .pre .1)
+add-put-back-2 c = let s = start (c .before .before) in omega (arith, small s, s .pre .1)
 
 add-put-back-3 : tie.Need-add-put-back-3
-add-put-back-3 c = let s = c .before .before .before .before .before .before .before in omega (arith, small s, s .pre .1)
+add-put-back-3 c = let s = start (c .before .before) in omega (arith, small s, s .pre .1)
 
 sub-put-back : tie.Need-sub-put-back
 sub-put-back c = search needs
@@ -66,7 +70,7 @@ put-back-requires-2 c κs = search needs
 
 returns-4 : tie.Need-returns-4
 returns-4 c x a comes e =
-    let s = c .before .before .before .before .before .before .before .before in
+    let s = start (c .before .before .before) in
     let g = s .args in
     ⊎-elim
     (λ p. absurd (omega (arith, p .0, c .before .before .before .before .before .if1 .left, s .pre .1 .1)))

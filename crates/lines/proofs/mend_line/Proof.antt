@@ -49,12 +49,16 @@ weights-requires c κs = search needs
 line-total-requires : tie.Need-line-total-requires
 line-total-requires c κs = search needs
 
+-- where the function starts, seen from where `line_total` has answered
+abbrev entry : tie.After-line-total → tie.Start
+entry c = c .before .before .before .before .before
+
 shared-slice-read-chunk-total : tie.Need-shared-slice-read-chunk-total
-shared-slice-read-chunk-total c = stands (c .before .before .before .before .before .before .before) .stands
+shared-slice-read-chunk-total c = stands (entry (c .before .before)) .stands
 
 chunk-total-requires : tie.Need-chunk-total-requires
 chunk-total-requires c κs =
-    let s = c .before .before .before .before .before .before .before in
+    let s = entry (c .before .before) in
     let i = s .pre .0 .0 in
     ((c .before .before .before .before .weights .ensures, i .nc-high), (omega arith, omega (arith, stands s .room, i .short)))
 
@@ -63,7 +67,7 @@ weigh-requires c κs = search needs
 
 -- where the bits at hand are weighed: the function's start
 abbrev start : tie.After-weigh → tie.Start
-start c = c .before .before .before .before .before .before .before .before .before
+start c = entry (c .before .before .before .before)
 
 -- what the chunk brings is part of the line's total, which is not large
 parts : (c : tie.After-weigh) → let a = start c .args in

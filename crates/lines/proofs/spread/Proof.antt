@@ -20,11 +20,15 @@ loop-holds c =
     let a = c .before .before .args in
     (search needs, (search needs, spread-none (a .nc) (a .start) (a .stride) (a .at) (a .vs .now) (a .out .now)))
 
+-- where the function starts, seen from a turn of the loop
+abbrev entry : tie.In-loop Inv-loop μ-loop → tie.Start Inv-loop μ-loop
+entry c = c .before .before .before .before
+
 -- the chunk of a turn
-turn : (c : tie.In-loop Inv-loop μ-loop) → let a = c .before .before .before .before .args in
+turn : (c : tie.In-loop Inv-loop μ-loop) → let a = entry c .args in
     Chunk (a .nc) (a .start) (a .stride) (a .count) (length (a .vs .now)) (c .before .loop .t)
 turn c =
-    let s = c .before .before .before .before in
+    let s = entry c in
     let a = s .args in
     chunk-of (a .nc) (a .start) (a .stride) (a .count) (length (a .vs .now)) (c .before .loop .t) (s .pre .0) (omega arith)
 
@@ -45,7 +49,7 @@ add-put-chunk-2 c = omega (arith, turn (c .before .before) .room)
 
 put-chunk-requires : tie.Need-put-chunk-requires Inv-loop μ-loop
 put-chunk-requires c κs =
-    let s = c .before .before .before .before .before .before in
+    let s = entry (c .before .before) in
     (s .pre .0 .nc-high, omega (arith, turn (c .before .before) .room, s .pre .1, c .before .before .before .loop .inv .1 .0))
 
 add-t : tie.Need-add-t Inv-loop μ-loop
@@ -56,7 +60,7 @@ loop-less c = search needs
 
 loop-again : tie.Need-loop-again Inv-loop μ-loop
 loop-again c =
-    let s = c .before .before .before .before .before .before .before .before .before in
+    let s = entry (c .before .before .before .before .before) in
     let a = s .args in
     let p = c .before .before .before .before .before .before .loop in
     let put = c .before .before .put-chunk in

@@ -157,7 +157,8 @@ returns-3 c =
     let w = message p in
     let a = entry p .args in
     let s = a .msg .now in
-    let known = w .before .before .before .before .before .before .before .shared-slice-known .given in
+    let r = w .before .before .before in
+    let known = r .before .before .before .before .shared-slice-known .given in
     let b : AllBytes s = bytes-of-each s (λ i. omega (arith, known i)) in
     let e = row-decides s (a .row .now) (a .m) (fit w .0) (rowBits (named w)) (ap rowBits (fit w .1)) ∙ no-refusal p in
     rows-listed s (a .row .now) (a .m) (named w) _ b (fit w .0) (fit w .1) (lent p) (bytes p) (a .out .now) e

@@ -28,9 +28,13 @@ abbrev μ-loop : tie.MeasureT-loop
 bounds : (s : tie.Start Inv-loop μ-loop) → Bounds (s .args .l)
 bounds s = legal-bounds (s .args .l) (s .pre .0 .0)
 
+-- where the function starts, seen from where `order` has answered
+abbrev entry : tie.After-order Inv-loop μ-loop → tie.Start Inv-loop μ-loop
+entry c = c .before .before .before .before
+
 -- where the function starts, seen from where the checks of the chunks are in hand
 abbrev start : tie.After-own2 Inv-loop μ-loop → tie.Start Inv-loop μ-loop
-start c = c .before .before .before .before .before .before .before .before
+start c = entry (c .before .before .before .before)
 
 is-size : (c : tie.After-own2 Inv-loop μ-loop) → c .before .before .before .before .order .result + 1 ≡ 2 ^ start c .args .l .nc
 is-size c = omega (arith, c .before .before .before .before .order .ensures, size-low (start c .args .l .nc) (bounds (start c) .nc-low))
@@ -52,17 +56,17 @@ order-requires : tie.Need-order-requires Inv-loop μ-loop
 order-requires c κs = let b = bounds (c .before .before .before) in (b .nc-low, b .nc-high)
 
 add-size : tie.Need-add-size Inv-loop μ-loop
-add-size c = let s = c .before .before .before .before in omega (arith, size-high (s .args .l .nc) (bounds s .nc-high))
+add-size c = let s = entry c in omega (arith, size-high (s .args .l .nc) (bounds s .nc-high))
 
 add-first : tie.Need-add-first Inv-loop μ-loop
-add-first c = let s = c .before .before .before .before .before in omega (arith, legal-bounds (s .args .l) (s .pre .0 .0))
+add-first c = let s = entry (c .before) in omega (arith, legal-bounds (s .args .l) (s .pre .0 .0))
 
 slice-aggregate-checks : tie.Need-slice-aggregate-checks Inv-loop μ-loop
 slice-aggregate-checks c = search needs
 
 checks-requires : tie.Need-checks-requires Inv-loop μ-loop
 checks-requires c κs =
-    let s = c .before .before .before .before .before .before in
+    let s = entry (c .before .before) in
     let b = bounds s in
     let p = s .pre .1 in
     ((b .nc-low, b .nc-high, p .0 .0, p .1 .0), (p .1 .1, omega (arith, s .pre .0 .1, b .r-high)))

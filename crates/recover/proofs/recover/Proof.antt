@@ -34,9 +34,13 @@ places s =
       apart = p .apart;
     }
 
+-- where the function starts, seen from where `table` has answered
+abbrev entry : tie.After-table → tie.Start
+entry c = c .before .before .before .before .before
+
 -- where the row in hand is in the field: the function's start
 abbrev start : tie.After-reduce → tie.Start
-start c = c .before .before .before .before .before .before .before .before .before
+start c = entry (c .before .before .before .before)
 
 long : (c : tie.After-reduce) → 255 ≤ length (c .reduce .result)
 long c =
@@ -60,17 +64,17 @@ table-requires c κs = search needs
 
 mul-count : tie.Need-mul-count
 mul-count c =
-    let s = c .before .before .before .before .before .before in
+    let s = entry (c .before) in
     record { fits = omega (arith, sizes (s .args .l) (bounds s) .chunks) }
 
 put-requires : tie.Need-put-requires
 put-requires c κs =
-    let s = c .before .before .before .before .before .before .before in
+    let s = entry (c .before .before) in
     (s .pre .1 .1 .0, spots s)
 
 reduce-requires : tie.Need-reduce-requires
 reduce-requires c κs =
-    let s = c .before .before .before .before .before .before .before .before in
+    let s = entry (c .before .before .before) in
     let b = bounds s in
     ((b .nc-low, b .nc-high), sizes (s .args .l) b .chunks)
 
@@ -104,10 +108,14 @@ missing-requires c κs =
 slice-aggregate-solve : tie.Need-slice-aggregate-solve
 slice-aggregate-solve c = search needs
 
+-- where `reduce` has answered, seen from where `missing` has answered
+abbrev reduced : tie.After-missing → tie.After-reduce
+reduced c = c .before .before .before .before
+
 solve-requires : tie.Need-solve-requires
 solve-requires c κs =
     let m = c .before .before .before in
-    let k = m .before .before .before .before in
+    let k = reduced m in
     let s = start k in
     let b = bounds s in (
       (k .before .before .before .before .table .ensures, b .nc-low, b .nc-high, k .before .before .before .before .before .before .fill-logs .ensures .1),
@@ -116,13 +124,13 @@ solve-requires c κs =
 
 put-requires-2 : tie.Need-put-requires-2
 put-requires-2 c κs =
-    let s = start (c .before .before .before .before .before .before .before .before) in
+    let s = start (reduced (c .before .before .before .before)) in
     (s .pre .1 .1 .0, spots s)
 
 returns : tie.Need-returns
 returns c cells collected y x given sent under =
     let m = c .before .before .before .before .before in
-    let k = m .before .before .before .before in
+    let k = reduced m in
     let s = start k in
     let a = s .args in
     let p = k .before .put in

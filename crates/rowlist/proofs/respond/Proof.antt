@@ -41,14 +41,19 @@ slice-aggregate-list c = search needs
 list-requires : tie.Need-list-requires
 list-requires c κs = search needs
 
--- the function's entry, seen from where the input is split, and what listing answers for it
+-- the function's entry, seen from where the input is split
 abbrev start : tie.After-split → tie.Start
 start c = c .before .before .before
 
-told : (c : tie.After-list) → let t = c .before .before .before .before in
+-- where the input is split, seen from where `list` has answered
+abbrev parted : tie.After-list → tie.After-split
+parted c = c .before .before .before .before
+
+-- what listing answers for the input
+told : (c : tie.After-list) → let t = parted c in
     Answers (start t .args .input .now) (c .list .result) (c .list .last .1 .1 .1 .0)
 told c =
-    let t = c .before .before .before .before in
+    let t = parted c in
     let p = t .split .result in
     answers (start t .args .input .now) (p .from) (p .to) (p .m) (p .row) _ (c .list .last .1 .1 .1 .0) (c .list .result) refl
     (t .split .ensures) (c .list .ensures)
@@ -76,7 +81,7 @@ abbrev counted : tie.After-row-bytes → tie.After-answer
 counted c = c .before .before .before
 
 abbrev split-at : tie.After-answer → tie.After-split
-split-at c = c .before .before .before .before .before .before .before
+split-at c = parted (c .before .before .before)
 
 -- the bytes of a row
 width : (c : tie.After-row-bytes) → let s = start (split-at (counted c)) .args .input .now in
@@ -106,7 +111,7 @@ cast-number c = search needs
 put-refused-requires : tie.Need-put-refused-requires
 put-refused-requires c κs =
     let n = c .before in
-    let o = start (n .before .before .before .before .before .before .before .before .before) .pre in
+    let o = start (parted (n .before .before .before .before .before)) .pre in
     (omega (arith, n .number .ensures, number-short (n .before .before .answer2 .given .0 .0)), omega (arith, o))
 
 same-length : tie.Need-same-length

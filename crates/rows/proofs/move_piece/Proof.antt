@@ -36,21 +36,30 @@ add-copy-to c = search needs
 copy-to-requires-2 : tie.Need-copy-to-requires-2
 copy-to-requires-2 c κs = search needs
 
+-- where the function starts, seen from where `copy_to` has answered
+abbrev entry : tie.After-copy-to → tie.Start
+entry c = c .before .before .before .before .before
+
 -- the bytes held are those of the piece
-held-is : (c : tie.After-copy-to) → let a = c .before .before .before .before .before .args in c .copy-to .last .1 .0 ≡ take 64 (drop (a .from) (a .list .now))
+held-is : (c : tie.After-copy-to) → let a = entry c .args in
+    c .copy-to .last .1 .0 ≡ take 64 (drop (a .from) (a .list .now))
 held-is c =
-    let s = c .before .before .before .before .before in
+    let s = entry c in
     let a = s .args in
     let e : a .from + 64 - a .from ≡ 64 = omega arith in
     let part = take 64 (drop (a .from) (a .list .now)) in
     let l : length part ≡ 64 = length-take-le 64 (drop (a .from) (a .list .now)) (omega (arith, length-drop (a .from) (a .list .now), s .pre)) in
     c .copy-to .ensures ∙ rw (e, l) (append-nil part)
 
-moved : (c : tie.After-copy-to2) → let a = c .before .before .before .before .before .before .before .before .before .args in
+-- where the function starts, seen from where `copy_to` has answered again
+abbrev start : tie.After-copy-to2 → tie.Start
+start c = entry (c .before .before .before .before)
+
+moved : (c : tie.After-copy-to2) → let a = start c .args in
     c .copy-to2 .last .1 .0 ≡ take (a .from + a .w) (a .list .now)
     ++ (take 64 (drop (a .from) (a .list .now)) ++ drop (a .from + 64 + a .w) (a .list .now))
 moved c =
-    let s = c .before .before .before .before .before .before .before .before .before in
+    let s = start c in
     let a = s .args in
     let l = a .list .now in
     let part = take 64 (drop (a .from) l) in
@@ -63,7 +72,7 @@ moved c =
 
 same-length : tie.Need-same-length
 same-length c =
-    let s = c .before .before .before .before .before .before .before .before .before .before .before in
+    let s = start (c .before .before) in
     let a = s .args in
     let l = a .list .now in
     let size = length-take-le 64 (drop (a .from) l) (omega (arith, length-drop (a .from) l, s .pre)) in

@@ -53,9 +53,13 @@ loop-again c =
     in
     (low, (omega (arith, p .loop .inv .1 .0), (ap length all ∙ length-moved (a .list .now) (a .to) (a .w) i (omega (arith, p .loop .inv .1 .0)) room, all)))
 
+-- where the function starts, seen from where `move_bytes` has answered
+abbrev entry : tie.After-move-bytes Inv-loop μ-loop → tie.Start Inv-loop μ-loop
+entry c = c .before .before .before .before .before
+
 -- the start of the function, and all bytes moved
 abbrev start : tie.After-slice-known3 Inv-loop μ-loop → tie.Start Inv-loop μ-loop
-start c = c .before .before .before .before .before .before .before
+start c = entry (c .before .before)
 
 moved-all : (c : tie.After-slice-known3 Inv-loop μ-loop) → let a = start c .args in
     c .before .before .move-bytes .last .0 ≡ Moved (a .list .now) (a .to) (a .w) (a .from)

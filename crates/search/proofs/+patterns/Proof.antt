@@ -67,10 +67,17 @@ called t = (
   set-anchor-reads.Learnt,
 )
 
--- places of the code: the entry, after the test of the anchor, after that of the floor, before the loop, the loop, a turn in which block i
--- can lose a bits, and the end of a turn
+-- places of the code: the entry, where the slices that are read are known, where i is, after the test of the anchor, after that of the
+-- floor, where blocks are left, before the loop, the loop, a turn in which block i was tried, one in which it can lose a bits, the call for
+-- the blocks after it, and the end of a turn
 abbrev Start : ℕ → Type 0
 Start t = patterns-lts.Start (called t) (patterns-at t) patterns.Post patterns-Inv-loop patterns-μ-loop
+
+abbrev Known : ℕ → Type 0
+Known t = patterns-lts.After-shared-slice-known6 (called t) (patterns-at t) patterns.Post patterns-Inv-loop patterns-μ-loop
+
+abbrev Block : ℕ → Type 0
+Block t = patterns-lts.After-struct-known (called t) (patterns-at t) patterns.Post patterns-Inv-loop patterns-μ-loop
 
 abbrev Anchor : ℕ → Type 0
 Anchor t = patterns-lts.After-near-anchor (called t) (patterns-at t) patterns.Post patterns-Inv-loop patterns-μ-loop
@@ -78,29 +85,60 @@ Anchor t = patterns-lts.After-near-anchor (called t) (patterns-at t) patterns.Po
 abbrev Tested : ℕ → Type 0
 Tested t = patterns-lts.After-above (called t) (patterns-at t) patterns.Post patterns-Inv-loop patterns-μ-loop
 
+abbrev Left : ℕ → Type 0
+Left t = patterns-lts.Else3 (called t) (patterns-at t) patterns.Post patterns-Inv-loop patterns-μ-loop
+
 abbrev Ready : ℕ → Type 0
 Ready t = patterns-lts.Joined4 (called t) (patterns-at t) patterns.Post patterns-Inv-loop patterns-μ-loop
 
 abbrev Loop : ℕ → Type 0
 Loop t = patterns-lts.At-loop (called t) (patterns-at t) patterns.Post patterns-Inv-loop patterns-μ-loop
 
+abbrev Tried : ℕ → Type 0
+Tried t = patterns-lts.After-try-block (called t) (patterns-at t) patterns.Post patterns-Inv-loop patterns-μ-loop
+
 abbrev Can : ℕ → Type 0
 Can t = patterns-lts.Then5 (called t) (patterns-at t) patterns.Post patterns-Inv-loop patterns-μ-loop
+
+abbrev Lower : ℕ → Type 0
+Lower t = patterns-lts.After-patterns-arg2 (called t) (patterns-at t) patterns.Post patterns-Inv-loop patterns-μ-loop
 
 abbrev Turned : ℕ → Type 0
 Turned t = patterns-lts.Joined5 (called t) (patterns-at t) patterns.Post patterns-Inv-loop patterns-μ-loop
 
+-- the entry, seen from each of these places
+abbrev outset : (t : ℕ) → Known t → Start t
+outset t c = c .before .before .before .before .before .before
+
+abbrev begin : (t : ℕ) → Block t → Start t
+begin t c = outset t (c .before .before .before .before .before)
+
 abbrev first : (t : ℕ) → Anchor t → Start t
-first t c = c .before .before .before .before .before .before .before .before .before .before .before .before .before .before .before
+first t c = begin t (c .before .before .before .before)
 
 abbrev entry : (t : ℕ) → Tested t → Start t
 entry t c = first t (c .before .before .before .before)
 
+-- where blocks are left, seen from before the loop
+abbrev ongoing : (t : ℕ) → Ready t → Left t
+ongoing t c = c .before .before .before .before .before
+
 abbrev start : (t : ℕ) → Ready t → Start t
-start t c = entry t (c .before .before .before .before .before .before .before)
+start t c = entry t (ongoing t c .before .before)
+
+-- the loop, seen from a turn
+abbrev tried : (t : ℕ) → Tried t → Loop t
+tried t c = c .before .before .before
 
 abbrev loop : (t : ℕ) → Can t → Loop t
-loop t c = c .before .before .before .before .before .before
+loop t c = tried t (c .before .before .before)
+
+abbrev turn : (t : ℕ) → Turned t → Loop t
+turn t c = tried t (c .before .before .before)
+
+-- where block i can lose a bits, seen from the call for the blocks after it
+abbrev can : (t : ℕ) → Lower t → Can t
+can t c = c .before .before .before .before
 
 high : (t : ℕ) (s : Start t) → Sizes (s .args .l)
 high t s = sizes (s .args .l) (legal-bounds (s .args .l) (s .pre .1 .0 .0 .is-legal))
@@ -113,7 +151,7 @@ next : (t : ℕ) (c : Ready t) → let a = start t c .args in
     Next (a .l) (a .numbers .now) (a .y .now) (a .pattern .counts) (a .l .l1 - a .later) (a .pattern .total)
 next t c =
     let s = start t c in
-    let some = c .before .before .before .before .before .if3 .left in
+    let some = ongoing t c .if3 .left in
     let few = s .pre .1 .1 .0 in
     let counted = length-counts t s in
     record { given = s .pre .1 .0 .0; inside = omega arith; room = omega (arith, high t s .l1-high); sums = s .pre .1 .1 .1 .0 .sums }
@@ -142,12 +180,12 @@ tabled-within t c =
     (omega (arith, w .totals-long), omega (arith, w .counts-long))
 
 patterns-sub-i : (t : ℕ) → patterns-lts.Need-sub-i (called t) (patterns-at t) patterns.Post patterns-Inv-loop patterns-μ-loop
-patterns-sub-i t c = c .before .before .before .before .before .before .before .before .before .before .before .pre .1 .1 .0
+patterns-sub-i t c = begin t c .pre .1 .1 .0
 
 patterns-near-anchor-requires : (t : ℕ)
     → patterns-lts.Need-near-anchor-requires (called t) (patterns-at t) patterns.Post patterns-Inv-loop patterns-μ-loop
 patterns-near-anchor-requires t c κs =
-    let s = c .before .before .before .before .before .before .before .before .before .before .before .before .before .before in
+    let s = begin t (c .before .before .before) in
     let b = s .pre .1 .1 .1 .0 in
     let row = high t s .chunks in
     (s .pre .1 .0 .0, (omega (arith, b .hand), (omega arith, omega (arith, b .sums, b .most))))
@@ -220,8 +258,9 @@ patterns-returns-3 : (t : ℕ)
     → patterns-lts.Need-returns-3 (called t) (patterns-at t) patterns.Post patterns-Inv-loop patterns-μ-loop
 patterns-returns-3 t c =
     let o = c .before .before in
-    let s = entry t (o .before .before .before .before .before .before) in
-    let last = o .before .before .before .before .if3 .taken in
+    let all = o .before .before .before .before in
+    let s = entry t (all .before .before) in
+    let last = all .if3 .taken in
     let e : s .args .l .l1 - s .args .later ≡ s .args .l .l1 = omega arith in
     let g = o .one-pattern .ensures in
     (rw e g, (refl, anchored-stays (s .pre .1 .0 .1) g (s .pre .1 .1 .1 .1 .1)))
@@ -347,15 +386,15 @@ patterns-part-patterns-end-2 t c = search needs
 
 patterns-mul-patterns-2 : (t : ℕ)
     → patterns-lts.Need-mul-patterns-2 (called t) (patterns-at t) patterns.Post patterns-Inv-loop patterns-μ-loop
-patterns-mul-patterns-2 t c = omega (arith, high t (start t (loop t (c .before .before .before .before) .before)) .block)
+patterns-mul-patterns-2 t c = omega (arith, high t (start t (loop t (can t c) .before)) .block)
 
 patterns-sub-patterns-3 : (t : ℕ)
     → patterns-lts.Need-sub-patterns-3 (called t) (patterns-at t) patterns.Post patterns-Inv-loop patterns-μ-loop
-patterns-sub-patterns-3 t c = tabled-within t (c .before .before .before .before) .1
+patterns-sub-patterns-3 t c = tabled-within t (can t c) .1
 
 patterns-part-patterns-start-3 : (t : ℕ)
     → patterns-lts.Need-part-patterns-start-3 (called t) (patterns-at t) patterns.Post patterns-Inv-loop patterns-μ-loop
-patterns-part-patterns-start-3 t c = tabled-within t (c .before .before .before .before) .1
+patterns-part-patterns-start-3 t c = tabled-within t (can t c) .1
 
 patterns-part-patterns-end-3 : (t : ℕ)
     → patterns-lts.Need-part-patterns-end-3 (called t) (patterns-at t) patterns.Post patterns-Inv-loop patterns-μ-loop
@@ -364,13 +403,13 @@ patterns-part-patterns-end-3 t c = search needs
 patterns-sub-patterns-4 : (t : ℕ)
     → patterns-lts.Need-sub-patterns-4 (called t) (patterns-at t) patterns.Post patterns-Inv-loop patterns-μ-loop
 patterns-sub-patterns-4 t c =
-    let some = loop t (c .before .before .before .before .before) .before .before .before .before .before .before .if3 .left in
+    let some = ongoing t (loop t (can t (c .before)) .before) .if3 .left in
     omega arith
 
 patterns-patterns-requires : (t : ℕ)
     → patterns-lts.Need-patterns-requires (called t) (patterns-at t) patterns.Post patterns-Inv-loop patterns-μ-loop
 patterns-patterns-requires t c κs =
-    let e = c .before .before .before .before .before .before .before .before in
+    let e = can t (c .before .before .before .before) in
     let q = e .before .before .before in
     let p = loop t e in
     let s = start t (p .before) in
@@ -398,8 +437,9 @@ patterns-patterns-requires t c κs =
 patterns-set-anchor-requires : (t : ℕ)
     → patterns-lts.Need-set-anchor-requires (called t) (patterns-at t) patterns.Post patterns-Inv-loop patterns-μ-loop
 patterns-set-anchor-requires t c κs =
-    let f = c .before .before .before .before .before .before .before .before in
-    let p = loop t (f .before .before .before .before .before .before .before .before .before) in
+    let back = c .before .before .before .before in
+    let f = back .before .before .before .before in
+    let p = loop t (can t (f .before .before .before .before .before)) in
     let s = start t (p .before) in
     let g = f .patterns .ensures in
     let held = grown-holding (s .pre .1 .0 .1) (p .loop .inv .1 .0 .known) in
@@ -407,19 +447,19 @@ patterns-set-anchor-requires t c κs =
 
 patterns-add-a : (t : ℕ) → patterns-lts.Need-add-a (called t) (patterns-at t) patterns.Post patterns-Inv-loop patterns-μ-loop
 patterns-add-a t c =
-    let p = c .before .before .before .before .before .before .before .before in
+    let p = turn t (c .before .before) in
     let o = left-over t (start t (p .before)) in
     omega (arith, p .loop .inv .0)
 
 patterns-loop-less : (t : ℕ)
     → patterns-lts.Need-loop-less (called t) (patterns-at t) patterns.Post patterns-Inv-loop patterns-μ-loop
 patterns-loop-less t c =
-    let p = c .before .before .before .before .before .before .before .before in
+    let p = turn t (c .before .before) in
     let most = first-most t (p .before) in
     omega arith
 
 -- after a turn the rows whose block i loses at most a bits are known, and the desk's anchor is
-after-turn : (t : ℕ) (c : Turned t) → let p = c .before .before .before .before .before .before in let a = start t (p .before) .args in
+after-turn : (t : ℕ) (c : Turned t) → let p = turn t c in let a = start t (p .before) .args in
     Tries (a .l) (a .numbers .now) (a .y .now) (a .cap) (a .pattern .counts) (a .l .l1 - a .later) (a .pattern .total)
     (a .row .now) (a .list .now) (a .kept .count) (a .kept .more) (c .if5 .row) (c .if5 .list) (c .if5 .k .count) (c .if5 .k .more)
     (p .loop .a + 1)
@@ -449,7 +489,7 @@ after-turn t c =
 patterns-loop-again : (t : ℕ)
     → patterns-lts.Need-loop-again (called t) (patterns-at t) patterns.Post patterns-Inv-loop patterns-μ-loop
 patterns-loop-again t c =
-    let p = c .before .before .before .before .before .before .before .before in
+    let p = turn t (c .before .before) in
     let most = first-most t (p .before) in
     let more = c .before .if6 .taken in
     (omega arith, after-turn t (c .before .before))
@@ -486,13 +526,13 @@ patterns-same-length-13 t c = after-turn t (c .before) .1 .0
 patterns-same-length-14 : (t : ℕ)
     → patterns-lts.Need-same-length-14 (called t) (patterns-at t) patterns.Post patterns-Inv-loop patterns-μ-loop
 patterns-same-length-14 t c =
-    let s = start t (c .before .before .before .before .before .before .before .before) in
+    let s = start t (turn t (c .before) .before) in
     grown-length (s .pre .1 .0 .1) (after-turn t (c .before) .0 .known)
 
 patterns-returns-5 : (t : ℕ)
     → patterns-lts.Need-returns-5 (called t) (patterns-at t) patterns.Post patterns-Inv-loop patterns-μ-loop
 patterns-returns-5 t c =
-    let p = c .before .before .before .before .before .before .before in
+    let p = turn t (c .before) in
     let w = after-turn t (c .before) in
     let o = left-over t (start t (p .before)) in
     let last = c .if6 .left in

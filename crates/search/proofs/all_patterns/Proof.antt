@@ -12,10 +12,15 @@ use Rattle.search.proofs.Counts.{received-short, under-start, begun-sta
 use Rattle.search.proofs.all_patterns.Statement.{statement}
 use Rattle.search.proofs.all_patterns.Tie as tie
 
--- where the early anchor is tried: the function's entry, and that nothing is held there
-abbrev start : tie.After-early-anchor → tie.Start
-start e = e .before .before .before .before .before .before .before
+-- where the function starts, seen from the call of `early_anchor`
+abbrev entry : tie.After-early-anchor-arg → tie.Start
+entry c = c .before .before .before .before .before
 
+-- the function's entry, seen from where the early anchor was tried
+abbrev start : tie.After-early-anchor → tie.Start
+start e = entry (e .before .before)
+
+-- nothing is held there
 nothing : (e : tie.After-early-anchor) → let a = start e .args in
     Holding (a .l) (a .numbers .now) (a .y .now) (a .cap) (a .list .now) 0 false
 nothing e =
@@ -23,7 +28,7 @@ nothing e =
     holding-none (a .l) (a .numbers .now) (a .y .now) (a .cap) (a .list .now) (start e .pre .1 .0)
 
 early-anchor-requires : tie.Need-early-anchor-requires
-early-anchor-requires c κs = c .before .before .before .before .before .before .pre
+early-anchor-requires c κs = entry (c .before) .pre
 
 slice-aggregate-fill : tie.Need-slice-aggregate-fill
 slice-aggregate-fill c = search needs
@@ -31,9 +36,13 @@ slice-aggregate-fill c = search needs
 slice-aggregate-fill-2 : tie.Need-slice-aggregate-fill-2
 slice-aggregate-fill-2 c = search needs
 
+-- where `early_anchor` has answered, seen from the call of `fill`
+abbrev anchored : tie.After-totals → tie.After-early-anchor
+anchored c = c .before .before .before .before .before
+
 fill-requires : tie.Need-fill-requires
 fill-requires c κs =
-    let e = c .before .before .before .before .before .before in
+    let e = anchored (c .before) in
     let s = start e in
     let h = received-short (s .pre .0) in
     (s .pre .0 .bits, (h, (omega arith, omega arith)))
@@ -53,10 +62,14 @@ slice-aggregate-patterns-4 c = search needs
 slice-aggregate-patterns-5 : tie.Need-slice-aggregate-patterns-5
 slice-aggregate-patterns-5 c = search needs
 
+-- where `fill` has answered, seen from the call of `patterns`
+abbrev filled : tie.After-patterns-arg → tie.After-fill
+filled c = c .before .before .before .before .before
+
 patterns-requires : tie.Need-patterns-requires
 patterns-requires c κs =
-    let f = c .before .before .before .before .before .before .before .before .before in
-    let e = f .before .before .before .before .before .before .before in
+    let f = filled (c .before .before .before .before) in
+    let e = anchored (f .before .before) in
     let s = start e in
     let a = s .args in
     let z = a .l .l1 - a .l .l1 in
@@ -75,7 +88,8 @@ same-length-2 c = search needs
 returns : tie.Need-returns
 returns c =
     let p = c .before .before .before .before .before in
-    let e = p .before .before .before .before .before .before .before .before .before .before .before .before .before .before .before .before .before in
+    let f = filled (p .before .before .before .before .before) in
+    let e = anchored (f .before .before) in
     let a = start e .args in
     let both = grown-then (nothing e) (e .early-anchor .ensures .0) (p .patterns .ensures .0) in
     grown-all (start e .pre .1 .0)

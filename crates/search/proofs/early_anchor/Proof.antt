@@ -18,13 +18,17 @@ returns c =
     let s = c .before .before .before .before .before in
     (grown-nothing (nothing s) (λ x k u. u), anchored-none (s .args .desk .now) (s .pre .1 .1))
 
+-- where the function starts, seen from where the test does not hold
+abbrev start : tie.Else1 → tie.Start
+start c = c .before .before .before .before .before
+
 guess-requires : tie.Need-guess-requires
-guess-requires c κs = let s = c .before .before .before .before .before .before in (s .pre .0, nothing s)
+guess-requires c κs = let s = start (c .before) in (s .pre .0, nothing s)
 
 set-anchor-requires : tie.Need-set-anchor-requires
 set-anchor-requires c κs =
     let g = c .before .before .before .before in
-    let s = g .before .before .before .before .before .before .before in
+    let s = start (g .before .before) in
     (s .pre .0, (grown-holding (nothing s) (g .guess .ensures), anchored-none (s .args .desk .now) (s .pre .1 .1)))
 
 same-length : tie.Need-same-length

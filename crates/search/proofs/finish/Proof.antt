@@ -36,9 +36,13 @@ counted s = let n : length (s .args .pattern .counts) ≡ 255 = search needs in 
 long : (s : tie.Start) → length (s .args .t7) ≡ 255
 long s = search (needs, s .good .1 .1 .1 .1 .1 .1 .0)
 
+-- where the function starts, seen from the call of `heavy_of`
+abbrev entry : tie.After-slice-known → tie.Start
+entry c = c .before .before .before .before .before .before
+
 -- the function's entry
 abbrev start : tie.After-heavy-of → tie.Start
-start h = h .before .before .before .before .before .before .before
+start h = entry (h .before)
 
 -- the anchor's chunks on the desk, and that rows near them are known
 anchor-part : (desk : List ℕ) → isSet desk ≡ true → length (take 255 (drop 1 desk)) ≡ 255
@@ -51,7 +55,7 @@ anchor-near l numbers y held desk given small a e x sent near =
     (λ c h. getD-take 255 (drop 1 desk) c 0 (omega arith) ∙ getD-drop 1 desk c 0) x sent (omega (arith, near))
 
 heavy-of-requires : tie.Need-heavy-of-requires
-heavy-of-requires c κs = let s = c .before .before .before .before .before .before in (few s, s .pre .1 .1 .0)
+heavy-of-requires c κs = let s = entry c in (few s, s .pre .1 .1 .0)
 
 add-row-requires : tie.Need-add-row-requires
 add-row-requires c κs = search needs
@@ -61,21 +65,28 @@ same-length c = search needs
 
 returns : tie.Need-returns
 returns c =
-    let h = c .before .before .before .before .before .before .before in
+    let r = c .before .before in
+    let h = r .before .before .before .before .before in
     let s = start h in
     let a = s .args in
     let low = legal-bounds (a .l) (s .pre .0 .is-legal) .l2-low in
     let f = h .heavy-of in
     grown-weaken
     (λ x k u. all-in-hand (a .l) (a .y .now) (a .pattern .counts) (f .result .heavy) (f .result .left) (f .ensures) low
-    (c .before .before .before .before .if1 .taken) _ x u)
-    (c .before .before .add-row .ensures)
+    (r .before .before .if1 .taken) _ x u)
+    (r .add-row .ensures)
 
 is-set-requires : tie.Need-is-set-requires
 is-set-requires c κs = search needs
 
+-- where `heavy_of` has answered, seen from where `is_set` has answered
+abbrev at-heavy : tie.After-is-set → tie.After-heavy-of
+at-heavy c = c .before .before .before .before .before
+
 add-near : tie.Need-add-near
-add-near c = let s = start (c .before .before .before .before .before .before .before) in omega (arith, legal-bounds (s .args .l) (s .pre .0 .is-legal) .r-high)
+add-near c =
+    let s = start (at-heavy (c .before .before)) in
+    omega (arith, legal-bounds (s .args .l) (s .pre .0 .is-legal) .r-high)
 
 sub-tables : tie.Need-sub-tables
 sub-tables c = search needs
@@ -84,15 +95,17 @@ part-tables-start : tie.Need-part-tables-start
 part-tables-start c = search needs
 
 -- the desk has an anchor
-is-anchored : (c : tie.Then2) → isSet (start (c .before .before .before .before .before .before) .args .desk .now) ≡ true
+is-anchored : (c : tie.Then2) → isSet (start (at-heavy (c .before)) .args .desk .now) ≡ true
 is-anchored c = sym (c .before .is-set .ensures) ∙ c .if2 .taken
 
 part-tables-end : tie.Need-part-tables-end
-part-tables-end c = omega (arith, set-long (start (c .before .before .before .before .before .before .before) .args .desk .now) (is-anchored (c .before)))
+part-tables-end c =
+    let s = start (at-heavy (c .before .before)) in
+    omega (arith, set-long (s .args .desk .now) (is-anchored (c .before)))
 
 tables-requires : tie.Need-tables-requires
 tables-requires c κs =
-    let h = c .before .before .before .before .before .before .before .before .before in
+    let h = at-heavy (c .before .before .before .before) in
     let s = start h in
     let a = s .args in
     let f = h .heavy-of in
@@ -117,20 +130,21 @@ same-length-2 c = search needs
 
 returns-2 : tie.Need-returns-2
 returns-2 c =
-    let h = c .before .before .before .before .before .before .before .before .before .before .before .before in
+    let q = c .before .before in
+    let h = at-heavy (q .before .before .before .before .before) in
     let s = start h in
     let a = s .args in
     let f = h .heavy-of in
     grown-weaken
     (λ x k u. starts-under (a .l) (a .pattern .counts) (f .result .heavy) _ (f .ensures) refl (zeros 12) (a .y .now) (counted s) x u)
-    (c .before .before .tables .ensures)
+    (q .tables .ensures)
 
 slice-aggregate-tables : tie.Need-slice-aggregate-tables
-slice-aggregate-tables c = let hand = long (c .before .before .before .before .before .before .before .before .before .before .before .before .before .before) in search (needs, hand)
+slice-aggregate-tables c = let hand = long (start (at-heavy (c .before .before))) in search (needs, hand)
 
 tables-requires-2 : tie.Need-tables-requires-2
 tables-requires-2 c κs =
-    let h = c .before .before .before .before .before .before .before .before in
+    let h = at-heavy (c .before .before .before) in
     let s = start h in
     let a = s .args in
     let f = h .heavy-of in
@@ -142,13 +156,14 @@ same-length-3 c = search needs
 
 returns-3 : tie.Need-returns-3
 returns-3 c =
-    let h = c .before .before .before .before .before .before .before .before .before .before .before in
+    let q = c .before .before in
+    let h = at-heavy (q .before .before .before .before) in
     let s = start h in
     let a = s .args in
     let f = h .heavy-of in
     grown-weaken
     (λ x k u. starts-under (a .l) (a .pattern .counts) (f .result .heavy) _ (f .ensures) refl (zeros 12) (a .y .now) (counted s) x u)
-    (c .before .before .tables2 .ensures)
+    (q .tables2 .ensures)
 
 pub finish-spec : {M : Type 1} → statement M
 finish-spec =

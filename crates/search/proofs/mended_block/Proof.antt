@@ -26,24 +26,28 @@ low c =
     let p : 1 * 3 ≤ c .args .l .l2 * c .args .l .nc = mul-le-mul (b .l2-low) (b .nc-low) in
     omega arith
 
+-- where the function starts, seen from the first test
+abbrev start : tie.After-struct-known → tie.Start
+start c = c .before .before .before .before .before
+
 mul-nb : tie.Need-mul-nb
-mul-nb c = omega (arith, high (c .before .before .before .before .before) .block)
+mul-nb c = omega (arith, high (start c) .block)
 
 sub-short : tie.Need-sub-short
-sub-short c = omega (arith, low (c .before .before .before .before .before))
+sub-short c = omega (arith, low (start c))
 
 returns : tie.Need-returns
 returns c =
-    let a = c .before .before .before .before .before .before .args in
+    let a = start (c .before) .args in
     too-short (a .l) (a .s) (a .i) 1 (a .rest .now) (a .row .now) (omega arith)
 
 has-sum-requires : tie.Need-has-sum-requires
-has-sum-requires c κs = let s = c .before .before .before .before .before .before in (s .pre .1 .0, s .pre .1 .1 .0)
+has-sum-requires c κs = let s = start (c .before) in (s .pre .1 .0, s .pre .1 .1 .0)
 
 returns-2 : tie.Need-returns-2
 returns-2 c =
     let h = c .before in
-    let s = h .before .before .before .before .before .before .before in
+    let s = start (h .before .before) in
     let a = s .args in
     one-not (a .l) (a .s) (a .i) (a .rest .now) (a .row .now) (s .pre .1 .0) (sym (h .has-sum .ensures) ∙ c .if2 .taken)
 
@@ -60,16 +64,16 @@ slice-aggregate-mend-bits : tie.Need-slice-aggregate-mend-bits
 slice-aggregate-mend-bits c = search needs
 
 -- the block that is mended
-mended : (c : tie.Else1) → let a = c .before .before .before .before .before .before .args in MendedNext (blockBits (a .l)) (a .s) (a .rest .now)
+mended : (c : tie.Else1) → let a = start (c .before) .args in MendedNext (blockBits (a .l)) (a .s) (a .rest .now)
 mended c =
-    let s = c .before .before .before .before .before .before in
+    let s = start (c .before) in
     let a = s .args in
     mended-next (blockBits (a .l)) (a .s) (a .rest .now) (low s) (omega arith) (s .pre .1 .0) (s .pre .1 .1 .1 .0)
 
 mend-bits-requires : tie.Need-mend-bits-requires
 mend-bits-requires c κs =
     let e = c .before .before .before .before in
-    let s = e .before .before .before .before .before .before in
+    let s = start (e .before) in
     let a = s .args in
     let n = blockBits (a .l) in
     let y : n - 1 - 0 ≡ n - 1 = omega arith in
@@ -77,13 +81,17 @@ mend-bits-requires c κs =
     let h = high s .block in
     rw y ((bits-take (n - 1) (a .rest .now) (s .pre .1 .0), omega arith), (omega arith, omega arith))
 
+-- where the rest is long enough, seen from where `mend_bits` has answered
+abbrev enough : tie.After-mend-bits → tie.Else1
+enough c = c .before .before .before .before .before
+
 -- it stands at the start of the slice
-block : (c : tie.After-mend-bits) → let a = c .before .before .before .before .before .before .before .before .before .before .before .args in
+block : (c : tie.After-mend-bits) → let a = start (enough c .before) .args in
     take (blockBits (a .l) - 0) (c .mend-bits .last .1 .1 .0)
     ≡ mendedBits (blockBits (a .l)) (a .s) (take (blockBits (a .l) - 1) (a .rest .now))
 block c =
-    let e = c .before .before .before .before .before in
-    let s = e .before .before .before .before .before .before in
+    let e = enough c in
+    let s = start (e .before) in
     let a = s .args in
     let n = blockBits (a .l) in
     let z : n - 0 ≡ n = omega arith in
@@ -98,14 +106,14 @@ part-put-block-start c = search needs
 
 part-put-block-end : tie.Need-part-put-block-end
 part-put-block-end c =
-    let s = c .before .before .before .before .before .before .before .before .before .before .before .before .before in
+    let s = start (enough (c .before .before) .before) in
     omega (arith, high s .block)
 
 put-block-requires : tie.Need-put-block-requires
 put-block-requires c κs =
     let m = c .before .before .before .before in
-    let e = m .before .before .before .before .before in
-    let s = e .before .before .before .before .before .before in
+    let e = enough m in
+    let s = start (e .before) in
     (rw (block m) (mended e .bits), (bounds s .nc-high, (rw (block m) (mended e .size), s .pre .1 .1 .1 .1)))
 
 same-length : tie.Need-same-length
@@ -115,8 +123,8 @@ returns-3 : tie.Need-returns-3
 returns-3 c =
     let p = c .before .before in
     let m = p .before .before .before .before .before in
-    let e = m .before .before .before .before .before in
-    let s = e .before .before .before .before .before .before in
+    let e = enough m in
+    let s = start (e .before) in
     let a = s .args in
     one-put (a .l) (a .s) (a .i) (a .rest .now) (a .row .now) (p .put-block .last .1 .1 .1 .0) (low s) (omega arith) (s .pre .1 .1 .1 .1)
     (rw (block m) at (p .put-block .ensures))

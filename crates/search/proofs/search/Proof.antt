@@ -29,14 +29,18 @@ same-length c = search needs
 returns : tie.Need-returns
 returns c = c .before .before .some-lost .ensures
 
+-- where the function starts, seen from where the test does not hold
+abbrev start : tie.Else1 → tie.Start
+start c = c .before .before .before .before .before .before
+
 -- no bit is lost
-whole : (c : tie.Else1) → let a = c .before .before .before .before .before .before .args in length (a .y .now) ≡ rowBits (a .l)
-whole c = let g = c .before .before .before .before .before .before .pre .0 .short in omega (arith, c .if1 .left)
+whole : (c : tie.Else1) → let a = start c .args in length (a .y .now) ≡ rowBits (a .l)
+whole c = let g = start c .pre .0 .short in omega (arith, c .if1 .left)
 
 add-bits-requires : tie.Need-add-bits-requires
 add-bits-requires c κs =
     let e = c .before in
-    let s = e .before .before .before .before .before .before in
+    let s = start e in
     let a = s .args in
     let holding = holding-none (a .l) (a .numbers .now) (a .y .now) (a .cap) (a .list .now) (s .pre .1) in
     (s .pre .0, ((whole e, s .pre .0 .bits), holding))
@@ -48,7 +52,7 @@ returns-2 : tie.Need-returns-2
 returns-2 c =
     let o = c .before .before in
     let e = o .before .before in
-    let s = e .before .before .before .before .before .before in
+    let s = start e in
     grown-all (s .pre .1) (grown-weaken (λ x k u. only-received (s .pre .0) (whole e) x k) (o .add-bits .ensures))
 
 pub search-spec : {M : Type 1} → statement M

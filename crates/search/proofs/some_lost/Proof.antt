@@ -12,18 +12,22 @@ size s = sizes (s .args .l) (legal-bounds (s .args .l) (s .pre .0 .is-legal))
 mul-lost : tie.Need-mul-lost
 mul-lost c = omega (arith, size (c .before .before .before .before) .chunks)
 
+-- where the function starts, seen from the test
+abbrev start : tie.After-struct-known2 → tie.Start
+start c = c .before .before .before .before .before
+
 mul-lost-2 : tie.Need-mul-lost-2
-mul-lost-2 c = omega (arith, size (c .before .before .before .before .before) .row)
+mul-lost-2 c = omega (arith, size (start c) .row)
 
 sub-lost : tie.Need-sub-lost
-sub-lost c = c .before .before .before .before .before .pre .0 .short
+sub-lost c = start c .pre .0 .short
 
 slice-aggregate-all-patterns : tie.Need-slice-aggregate-all-patterns
 slice-aggregate-all-patterns c = search needs
 
 all-patterns-requires : tie.Need-all-patterns-requires
 all-patterns-requires c κs =
-    let s = c .before .before .before .before .before .before .before .before in
+    let s = start (c .before .before .before) in
     (s .pre .0, (s .pre .1, refl))
 
 same-length : tie.Need-same-length
@@ -37,7 +41,7 @@ slice-aggregate-all-patterns-2 c = search needs
 
 all-patterns-requires-2 : tie.Need-all-patterns-requires-2
 all-patterns-requires-2 c κs =
-    let s = c .before .before .before .before .before .before .before .before in
+    let s = start (c .before .before .before) in
     (s .pre .0, (s .pre .1, refl))
 
 same-length-2 : tie.Need-same-length-2

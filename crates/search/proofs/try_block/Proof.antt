@@ -13,9 +13,13 @@ mul-s c = search needs
 shared-slice-read-s : tie.Need-shared-slice-read-s
 shared-slice-read-s c = search needs
 
+-- where the function starts, seen from where all slices are known
+abbrev start : tie.After-shared-slice-known5 → tie.Start
+start c = c .before .before .before .before .before .before
+
 cast-s : tie.Need-cast-s
 cast-s c =
-    record { fits = omega (arith, c .shared-slice-known5 .given (c .before .before .before .before .before .before .args .i)) }
+    record { fits = omega (arith, c .shared-slice-known5 .given (start c .args .i)) }
 
 whole-block-requires : tie.Need-whole-block-requires
 whole-block-requires c κs = search needs
@@ -37,22 +41,22 @@ returns-2 c = rw (c .before .before .before .before .if2 .taken) (c .before .bef
 
 mul-nb : tie.Need-mul-nb
 mul-nb c =
-    let s = c .before .before .before .before .before .before .before .before .before in
+    let s = start (c .before .before .before) in
     omega (arith, sizes (s .args .l) (legal-bounds (s .args .l) (s .pre .0)) .block)
 
 returns-3 : tie.Need-returns-3
 returns-3 c =
-    let a = c .before .before .before .before .before .before .before .before .before .before .args in
+    let a = start (c .before .before .before .before) .args in
     too-many (a .l) _ (a .i) (a .a) (a .rest .now) (a .row .now) (c .if3 .taken)
 
 returns-4 : tie.Need-returns-4
 returns-4 c =
-    let a = c .before .before .before .before .before .before .before .before .before .before .before .args in
+    let a = start (c .before .before .before .before .before) .args in
     too-short (a .l) _ (a .i) (a .a) (a .rest .now) (a .row .now) (c .if4 .taken)
 
 returns-5 : tie.Need-returns-5
 returns-5 c =
-    let a = c .before .before .before .before .before .before .before .before .before .before .before .args in
+    let a = start (c .before .before .before .before .before) .args in
     tried-more (a .l) _ (a .i) (a .a) (a .rest .now) (a .row .now) (omega arith) (omega arith) (c .if4 .left)
 
 pub try-block-spec : {M : Type 1} → statement M

@@ -26,10 +26,14 @@ mul-nb c = omega (arith, high (c .before .before .before .before .before) .block
 has-sum-requires : tie.Need-has-sum-requires
 has-sum-requires c κs = let s = c .before .before .before .before .before in (s .pre .1 .0, s .pre .1 .1 .0)
 
+-- where the function starts, seen from where `has_sum` has answered
+abbrev start : tie.After-has-sum → tie.Start
+start c = c .before .before .before .before .before .before
+
 returns : tie.Need-returns
 returns c =
     let h = c .before in
-    let a = h .before .before .before .before .before .before .args in
+    let a = start h .args in
     whole-not (a .l) (a .s) (a .i) (a .rest .now) (a .row .now)
     (sym (h .has-sum .ensures) ∙ not-true (h .has-sum .result) (c .if1 .taken))
 
@@ -40,10 +44,10 @@ part-put-block-start : tie.Need-part-put-block-start
 part-put-block-start c = search needs
 
 -- enough bits remain
-within : (c : tie.Else1) → let a = c .before .before .before .before .before .before .before .args in blockBits (a .l) ≤ length (a .rest .now)
+within : (c : tie.Else1) → let a = start (c .before) .args in blockBits (a .l) ≤ length (a .rest .now)
 within c =
     let h = c .before in
-    let a = h .before .before .before .before .before .before .args in
+    let a = start h .args in
     sum-within (blockBits (a .l)) (a .s) (a .rest .now) (sym (h .has-sum .ensures) ∙ not-false (h .has-sum .result) (c .if1 .left))
 
 part-put-block-end : tie.Need-part-put-block-end
@@ -52,7 +56,7 @@ part-put-block-end c = within c
 put-block-requires : tie.Need-put-block-requires
 put-block-requires c κs =
     let e = c .before .before in
-    let s = e .before .before .before .before .before .before .before in
+    let s = start (e .before) in
     let a = s .args in
     let n = blockBits (a .l) in
     let size : length (take (n - 0) (a .rest .now)) ≡ n = length-take-le (n - 0) (a .rest .now) (omega (arith, within e)) ∙ omega arith in
@@ -66,7 +70,7 @@ returns-2 c =
     let p = c .before .before in
     let e = p .before .before .before in
     let h = e .before in
-    let s = h .before .before .before .before .before .before in
+    let s = start h in
     let a = s .args in
     let z : blockBits (a .l) - 0 ≡ blockBits (a .l) = omega arith in
     let has = sym (h .has-sum .ensures) ∙ not-false (h .has-sum .result) (e .if1 .left) in

@@ -46,208 +46,8 @@ mend-strings-below t =
     (falls 3 mend-strings-kinds.ps _<_ μ-mend-strings t)
     mend-strings.Pre
 
-mend-blocks-take-turn-requires : (t : ℕ) → mend-blocks-lts.Need-take-turn-requires (
-  take-turn-reads.Asked,
-  take-turn-reads.Learnt,
-  fill-reads.Asked,
-  fill-reads.Learnt,
-  mend-strings-below t,
-  mend-strings.Post,
-) (mend-blocks-at t) mend-blocks.Post
-mend-blocks-take-turn-requires t c κs =
-    let s = c .before .before .before in
-    (s .pre .1 .0, s .pre .1 .1 .1 .0)
-
-mend-blocks-returns : (t : ℕ) → mend-blocks-lts.Need-returns (
-  take-turn-reads.Asked,
-  take-turn-reads.Learnt,
-  fill-reads.Asked,
-  fill-reads.Learnt,
-  mend-strings-below t,
-  mend-strings.Post,
-) (mend-blocks-at t) mend-blocks.Post
-mend-blocks-returns t c =
-    let s = c .before .before .before .before .before .before in
-    grown-failed (c .before .before .take-turn .ensures .0) (s .pre .1 .1 .0) (not-true _ (c .if1 .taken))
-
-mend-blocks-fill-requires : (t : ℕ) → mend-blocks-lts.Need-fill-requires (
-  take-turn-reads.Asked,
-  take-turn-reads.Learnt,
-  fill-reads.Asked,
-  fill-reads.Learnt,
-  mend-strings-below t,
-  mend-strings.Post,
-) (mend-blocks-at t) mend-blocks.Post
-mend-blocks-fill-requires t c κs =
-    let s = c .before .before .before .before .before .before .before .before .before .before .before in
-    let q = c .before .before .before .before .before .before .before .take-turn in
-    let own = q .ensures .1 (not-false _ (c .before .before .before .before .before .if1 .left)) in
-    let other = still-none (q .ensures .0) true (not-true _ (c .before .if2 .taken)) (s .pre .1 .1 .1 .1) in
-    (s .pre .1 .0, (s .pre .1 .1 .0, (q .ensures .0 .placed, (own, other))))
-
-mend-blocks-same-length : (t : ℕ) → mend-blocks-lts.Need-same-length (
-  take-turn-reads.Asked,
-  take-turn-reads.Learnt,
-  fill-reads.Asked,
-  fill-reads.Learnt,
-  mend-strings-below t,
-  mend-strings.Post,
-) (mend-blocks-at t) mend-blocks.Post
-mend-blocks-same-length t c = search needs
-
-mend-blocks-returns-2 : (t : ℕ) → mend-blocks-lts.Need-returns-2 (
-  take-turn-reads.Asked,
-  take-turn-reads.Learnt,
-  fill-reads.Asked,
-  fill-reads.Learnt,
-  mend-strings-below t,
-  mend-strings.Post,
-) (mend-blocks-at t) mend-blocks.Post
-mend-blocks-returns-2 t c =
-    let s = c .before .before .before .before .before .before .before .before .before .before .before .before .before .before in
-    let q = c .before .before .before .before .before .before .before .before .before .before .take-turn in
-    grown-advanced (q .ensures .0) (c .before .before .fill .ensures)
-
-mend-blocks-mend-strings-requires : (t : ℕ) → mend-blocks-lts.Need-mend-strings-requires (
-  take-turn-reads.Asked,
-  take-turn-reads.Learnt,
-  fill-reads.Asked,
-  fill-reads.Learnt,
-  mend-strings-below t,
-  mend-strings.Post,
-) (mend-blocks-at t) mend-blocks.Post
-mend-blocks-mend-strings-requires t c κs =
-    let s = c .before .before .before .before .before .before .before .before .before .before .before in
-    let q = c .before .before .before .before .before .before .before .take-turn in
-    let ok = not-false _ (c .before .before .before .before .before .if1 .left) in
-    let less = q .ensures .0 .fewer (not-false _ (c .before .if2 .left)) in
-    (omega (arith, s .pre .0, less), (s .pre .1 .0, (s .pre .1 .1 .0, (q .ensures .0 .placed, q .ensures .1 ok))))
-
-mend-blocks-same-length-2 : (t : ℕ) → mend-blocks-lts.Need-same-length-2 (
-  take-turn-reads.Asked,
-  take-turn-reads.Learnt,
-  fill-reads.Asked,
-  fill-reads.Learnt,
-  mend-strings-below t,
-  mend-strings.Post,
-) (mend-blocks-at t) mend-blocks.Post
-mend-blocks-same-length-2 t c = search needs
-
-mend-blocks-returns-3 : (t : ℕ) → mend-blocks-lts.Need-returns-3 (
-  take-turn-reads.Asked,
-  take-turn-reads.Learnt,
-  fill-reads.Asked,
-  fill-reads.Learnt,
-  mend-strings-below t,
-  mend-strings.Post,
-) (mend-blocks-at t) mend-blocks.Post
-mend-blocks-returns-3 t c =
-    let s = c .before .before .before .before .before .before .before .before .before .before .before .before .before .before in
-    let q = c .before .before .before .before .before .before .before .before .before .before .take-turn in
-    grown-advanced (q .ensures .0) (c .before .before .mend-strings .ensures)
-
-mend-strings-take-turn-requires : (t : ℕ) → mend-strings-lts.Need-take-turn-requires (
-  take-turn-reads.Asked,
-  take-turn-reads.Learnt,
-  fill-reads.Asked,
-  fill-reads.Learnt,
-  mend-blocks-below t,
-  mend-blocks.Post,
-) (mend-strings-at t) mend-strings.Post
-mend-strings-take-turn-requires t c κs =
-    let s = c .before .before .before in
-    (s .pre .1 .0, s .pre .1 .1 .1 .0)
-
-mend-strings-returns : (t : ℕ) → mend-strings-lts.Need-returns (
-  take-turn-reads.Asked,
-  take-turn-reads.Learnt,
-  fill-reads.Asked,
-  fill-reads.Learnt,
-  mend-blocks-below t,
-  mend-blocks.Post,
-) (mend-strings-at t) mend-strings.Post
-mend-strings-returns t c =
-    let s = c .before .before .before .before .before .before in
-    grown-failed (c .before .before .take-turn .ensures .0) (s .pre .1 .1 .0) (not-true _ (c .if1 .taken))
-
-mend-strings-fill-requires : (t : ℕ) → mend-strings-lts.Need-fill-requires (
-  take-turn-reads.Asked,
-  take-turn-reads.Learnt,
-  fill-reads.Asked,
-  fill-reads.Learnt,
-  mend-blocks-below t,
-  mend-blocks.Post,
-) (mend-strings-at t) mend-strings.Post
-mend-strings-fill-requires t c κs =
-    let s = c .before .before .before .before .before .before .before .before .before .before .before in
-    let q = c .before .before .before .before .before .before .before .take-turn in
-    let own = q .ensures .1 (not-false _ (c .before .before .before .before .before .if1 .left)) in
-    let other = still-none (q .ensures .0) false (not-true _ (c .before .if2 .taken)) (s .pre .1 .1 .1 .1) in
-    (s .pre .1 .0, (s .pre .1 .1 .0, (q .ensures .0 .placed, (other, own))))
-
-mend-strings-same-length : (t : ℕ) → mend-strings-lts.Need-same-length (
-  take-turn-reads.Asked,
-  take-turn-reads.Learnt,
-  fill-reads.Asked,
-  fill-reads.Learnt,
-  mend-blocks-below t,
-  mend-blocks.Post,
-) (mend-strings-at t) mend-strings.Post
-mend-strings-same-length t c = search needs
-
-mend-strings-returns-2 : (t : ℕ) → mend-strings-lts.Need-returns-2 (
-  take-turn-reads.Asked,
-  take-turn-reads.Learnt,
-  fill-reads.Asked,
-  fill-reads.Learnt,
-  mend-blocks-below t,
-  mend-blocks.Post,
-) (mend-strings-at t) mend-strings.Post
-mend-strings-returns-2 t c =
-    let s = c .before .before .before .before .before .before .before .before .before .before .before .before .before .before in
-    let q = c .before .before .before .before .before .before .before .before .before .before .take-turn in
-    grown-advanced (q .ensures .0) (c .before .before .fill .ensures)
-
-mend-strings-mend-blocks-requires : (t : ℕ) → mend-strings-lts.Need-mend-blocks-requires (
-  take-turn-reads.Asked,
-  take-turn-reads.Learnt,
-  fill-reads.Asked,
-  fill-reads.Learnt,
-  mend-blocks-below t,
-  mend-blocks.Post,
-) (mend-strings-at t) mend-strings.Post
-mend-strings-mend-blocks-requires t c κs =
-    let s = c .before .before .before .before .before .before .before .before .before .before .before in
-    let q = c .before .before .before .before .before .before .before .take-turn in
-    let ok = not-false _ (c .before .before .before .before .before .if1 .left) in
-    let less = q .ensures .0 .fewer (not-false _ (c .before .if2 .left)) in
-    (omega (arith, s .pre .0, less), (s .pre .1 .0, (s .pre .1 .1 .0, (q .ensures .0 .placed, q .ensures .1 ok))))
-
-mend-strings-same-length-2 : (t : ℕ) → mend-strings-lts.Need-same-length-2 (
-  take-turn-reads.Asked,
-  take-turn-reads.Learnt,
-  fill-reads.Asked,
-  fill-reads.Learnt,
-  mend-blocks-below t,
-  mend-blocks.Post,
-) (mend-strings-at t) mend-strings.Post
-mend-strings-same-length-2 t c = search needs
-
-mend-strings-returns-3 : (t : ℕ) → mend-strings-lts.Need-returns-3 (
-  take-turn-reads.Asked,
-  take-turn-reads.Learnt,
-  fill-reads.Asked,
-  fill-reads.Learnt,
-  mend-blocks-below t,
-  mend-blocks.Post,
-) (mend-strings-at t) mend-strings.Post
-mend-strings-returns-3 t c =
-    let s = c .before .before .before .before .before .before .before .before .before .before .before .before .before .before in
-    let q = c .before .before .before .before .before .before .before .before .before .before .take-turn in
-    grown-advanced (q .ensures .0) (c .before .before .mend-blocks .ensures)
-
-pub +mend-blocks+mend-strings-spec : {M : Type 1} → statement M
-+mend-blocks+mend-strings-spec = close μ-mend-blocks μ-mend-strings (λ t. mend-blocks-lts.spec (
+abbrev mend-blocks-claims : ℕ → mend-blocks-lts.Claims
+mend-blocks-claims t = (
   take-turn-reads.Asked,
   take-turn-reads.Learnt,
   fill-reads.Asked,
@@ -255,6 +55,164 @@ pub +mend-blocks+mend-strings-spec : {M : Type 1} → statement M
   mend-strings-below t,
   mend-strings.Post,
 )
+
+abbrev mend-strings-claims : ℕ → mend-strings-lts.Claims
+mend-strings-claims t = (
+  take-turn-reads.Asked,
+  take-turn-reads.Learnt,
+  fill-reads.Asked,
+  fill-reads.Learnt,
+  mend-blocks-below t,
+  mend-blocks.Post,
+)
+
+-- places of `mend_blocks`: the entry, where the turn is taken, and where a cell was found
+abbrev Blocks-start : ℕ → Type 0
+Blocks-start t = mend-blocks-lts.Start (mend-blocks-claims t) (mend-blocks-at t) mend-blocks.Post
+
+abbrev Blocks-taken : ℕ → Type 0
+Blocks-taken t = mend-blocks-lts.After-take-turn (mend-blocks-claims t) (mend-blocks-at t) mend-blocks.Post
+
+abbrev Blocks-found : ℕ → Type 0
+Blocks-found t = mend-blocks-lts.After-struct-known2 (mend-blocks-claims t) (mend-blocks-at t) mend-blocks.Post
+
+abbrev blocks-start : (t : ℕ) → Blocks-taken t → Blocks-start t
+blocks-start t c = c .before .before .before .before
+
+abbrev blocks-taken : (t : ℕ) → Blocks-found t → Blocks-taken t
+blocks-taken t c = c .before .before .before .before .before
+
+mend-blocks-take-turn-requires : (t : ℕ)
+    → mend-blocks-lts.Need-take-turn-requires (mend-blocks-claims t) (mend-blocks-at t) mend-blocks.Post
+mend-blocks-take-turn-requires t c κs =
+    let s = c .before .before .before in
+    (s .pre .1 .0, s .pre .1 .1 .1 .0)
+
+mend-blocks-returns : (t : ℕ) → mend-blocks-lts.Need-returns (mend-blocks-claims t) (mend-blocks-at t) mend-blocks.Post
+mend-blocks-returns t c =
+    let q = c .before .before in
+    let s = blocks-start t q in
+    grown-failed (q .take-turn .ensures .0) (s .pre .1 .1 .0) (not-true _ (c .if1 .taken))
+
+mend-blocks-fill-requires : (t : ℕ)
+    → mend-blocks-lts.Need-fill-requires (mend-blocks-claims t) (mend-blocks-at t) mend-blocks.Post
+mend-blocks-fill-requires t c κs =
+    let found = c .before .before in
+    let turn = blocks-taken t found in
+    let s = blocks-start t turn in
+    let q = turn .take-turn in
+    let own = q .ensures .1 (not-false _ (found .before .before .before .if1 .left)) in
+    let other = still-none (q .ensures .0) true (not-true _ (c .before .if2 .taken)) (s .pre .1 .1 .1 .1) in
+    (s .pre .1 .0, (s .pre .1 .1 .0, (q .ensures .0 .placed, (own, other))))
+
+mend-blocks-same-length : (t : ℕ)
+    → mend-blocks-lts.Need-same-length (mend-blocks-claims t) (mend-blocks-at t) mend-blocks.Post
+mend-blocks-same-length t c = search needs
+
+mend-blocks-returns-2 : (t : ℕ)
+    → mend-blocks-lts.Need-returns-2 (mend-blocks-claims t) (mend-blocks-at t) mend-blocks.Post
+mend-blocks-returns-2 t c =
+    let r = c .before .before in
+    let q = blocks-taken t (r .before .before .before) .take-turn in
+    grown-advanced (q .ensures .0) (r .fill .ensures)
+
+mend-blocks-mend-strings-requires : (t : ℕ)
+    → mend-blocks-lts.Need-mend-strings-requires (mend-blocks-claims t) (mend-blocks-at t) mend-blocks.Post
+mend-blocks-mend-strings-requires t c κs =
+    let found = c .before .before in
+    let turn = blocks-taken t found in
+    let s = blocks-start t turn in
+    let q = turn .take-turn in
+    let ok = not-false _ (found .before .before .before .if1 .left) in
+    let less = q .ensures .0 .fewer (not-false _ (c .before .if2 .left)) in
+    (omega (arith, s .pre .0, less), (s .pre .1 .0, (s .pre .1 .1 .0, (q .ensures .0 .placed, q .ensures .1 ok))))
+
+mend-blocks-same-length-2 : (t : ℕ)
+    → mend-blocks-lts.Need-same-length-2 (mend-blocks-claims t) (mend-blocks-at t) mend-blocks.Post
+mend-blocks-same-length-2 t c = search needs
+
+mend-blocks-returns-3 : (t : ℕ)
+    → mend-blocks-lts.Need-returns-3 (mend-blocks-claims t) (mend-blocks-at t) mend-blocks.Post
+mend-blocks-returns-3 t c =
+    let r = c .before .before in
+    let q = blocks-taken t (r .before .before .before) .take-turn in
+    grown-advanced (q .ensures .0) (r .mend-strings .ensures)
+
+-- places of `mend_strings`: the entry, where the turn is taken, and where a cell was found
+abbrev Strings-start : ℕ → Type 0
+Strings-start t = mend-strings-lts.Start (mend-strings-claims t) (mend-strings-at t) mend-strings.Post
+
+abbrev Strings-taken : ℕ → Type 0
+Strings-taken t = mend-strings-lts.After-take-turn (mend-strings-claims t) (mend-strings-at t) mend-strings.Post
+
+abbrev Strings-found : ℕ → Type 0
+Strings-found t = mend-strings-lts.After-struct-known2 (mend-strings-claims t) (mend-strings-at t) mend-strings.Post
+
+abbrev strings-start : (t : ℕ) → Strings-taken t → Strings-start t
+strings-start t c = c .before .before .before .before
+
+abbrev strings-taken : (t : ℕ) → Strings-found t → Strings-taken t
+strings-taken t c = c .before .before .before .before .before
+
+mend-strings-take-turn-requires : (t : ℕ)
+    → mend-strings-lts.Need-take-turn-requires (mend-strings-claims t) (mend-strings-at t) mend-strings.Post
+mend-strings-take-turn-requires t c κs =
+    let s = c .before .before .before in
+    (s .pre .1 .0, s .pre .1 .1 .1 .0)
+
+mend-strings-returns : (t : ℕ)
+    → mend-strings-lts.Need-returns (mend-strings-claims t) (mend-strings-at t) mend-strings.Post
+mend-strings-returns t c =
+    let q = c .before .before in
+    let s = strings-start t q in
+    grown-failed (q .take-turn .ensures .0) (s .pre .1 .1 .0) (not-true _ (c .if1 .taken))
+
+mend-strings-fill-requires : (t : ℕ)
+    → mend-strings-lts.Need-fill-requires (mend-strings-claims t) (mend-strings-at t) mend-strings.Post
+mend-strings-fill-requires t c κs =
+    let found = c .before .before in
+    let turn = strings-taken t found in
+    let s = strings-start t turn in
+    let q = turn .take-turn in
+    let own = q .ensures .1 (not-false _ (found .before .before .before .if1 .left)) in
+    let other = still-none (q .ensures .0) false (not-true _ (c .before .if2 .taken)) (s .pre .1 .1 .1 .1) in
+    (s .pre .1 .0, (s .pre .1 .1 .0, (q .ensures .0 .placed, (other, own))))
+
+mend-strings-same-length : (t : ℕ)
+    → mend-strings-lts.Need-same-length (mend-strings-claims t) (mend-strings-at t) mend-strings.Post
+mend-strings-same-length t c = search needs
+
+mend-strings-returns-2 : (t : ℕ)
+    → mend-strings-lts.Need-returns-2 (mend-strings-claims t) (mend-strings-at t) mend-strings.Post
+mend-strings-returns-2 t c =
+    let r = c .before .before in
+    let q = strings-taken t (r .before .before .before) .take-turn in
+    grown-advanced (q .ensures .0) (r .fill .ensures)
+
+mend-strings-mend-blocks-requires : (t : ℕ)
+    → mend-strings-lts.Need-mend-blocks-requires (mend-strings-claims t) (mend-strings-at t) mend-strings.Post
+mend-strings-mend-blocks-requires t c κs =
+    let found = c .before .before in
+    let turn = strings-taken t found in
+    let s = strings-start t turn in
+    let q = turn .take-turn in
+    let ok = not-false _ (found .before .before .before .if1 .left) in
+    let less = q .ensures .0 .fewer (not-false _ (c .before .if2 .left)) in
+    (omega (arith, s .pre .0, less), (s .pre .1 .0, (s .pre .1 .1 .0, (q .ensures .0 .placed, q .ensures .1 ok))))
+
+mend-strings-same-length-2 : (t : ℕ)
+    → mend-strings-lts.Need-same-length-2 (mend-strings-claims t) (mend-strings-at t) mend-strings.Post
+mend-strings-same-length-2 t c = search needs
+
+mend-strings-returns-3 : (t : ℕ)
+    → mend-strings-lts.Need-returns-3 (mend-strings-claims t) (mend-strings-at t) mend-strings.Post
+mend-strings-returns-3 t c =
+    let r = c .before .before in
+    let q = strings-taken t (r .before .before .before) .take-turn in
+    grown-advanced (q .ensures .0) (r .mend-blocks .ensures)
+
+pub +mend-blocks+mend-strings-spec : {M : Type 1} → statement M
++mend-blocks+mend-strings-spec = close μ-mend-blocks μ-mend-strings (λ t. mend-blocks-lts.spec (mend-blocks-claims t)
     (mend-blocks-at t)
     mend-blocks.Post
     (mend-blocks-take-turn-requires t)
@@ -265,14 +223,7 @@ pub +mend-blocks+mend-strings-spec : {M : Type 1} → statement M
     (mend-blocks-mend-strings-requires t)
     (mend-blocks-same-length-2 t)
     (mend-blocks-returns-3 t))
-    λ t. mend-strings-lts.spec (
-      take-turn-reads.Asked,
-      take-turn-reads.Learnt,
-      fill-reads.Asked,
-      fill-reads.Learnt,
-      mend-blocks-below t,
-      mend-blocks.Post,
-    )
+    λ t. mend-strings-lts.spec (mend-strings-claims t)
     (mend-strings-at t)
     mend-strings.Post
     (mend-strings-take-turn-requires t)

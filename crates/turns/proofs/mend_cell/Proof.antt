@@ -49,9 +49,13 @@ at-hand place k y =
     let e : place + k - place ≡ k = omega arith in
     rw e refl
 
+-- where the function starts, seen from the call of `mend_line`
+abbrev start : tie.After-row → tie.Start
+start c = c .before .before .before .before
+
 mend-line-requires : tie.Need-mend-line-requires
 mend-line-requires c κs =
-    let s = c .before .before .before .before in
+    let s = start c in
     let a = s .args in
     let z = drop (a .place) (a .y .now) in
     let k : a .nc - 1 ≤ length z = simp length-drop (omega (arith, c .before .before .if1 .left)) in
@@ -70,11 +74,11 @@ mend-line-requires c κs =
 
 -- a row that has this line has the chunk that is found there
 found-there : (c : tie.After-mend-line) →
-    let a = c .before .before .before .before .before .args in
+    let a = start (c .before) .args in
     (us : List ℕ) → Short (a .nc) (a .n) (a .sum) (drop (a .place) (a .y .now)) (a .t6) us
     → (c .mend-line .result .ok ≡ true) × (c .mend-line .result .value ≡ chunkAt (a .n) us)
 found-there c us k =
-    let a = c .before .before .before .before .before .args in
+    let a = start (c .before) .args in
     c .mend-line .ensures us (rw (at-hand (a .place) (a .nc - 1) (a .y .now)) (short-bits k .1))
 
 loses-just-requires : tie.Need-loses-just-requires
@@ -82,7 +86,7 @@ loses-just-requires c κs = search needs
 
 returns-2 : tie.Need-returns-2
 returns-2 c =
-    let a = c .before .before .before .before .before .before .before .args in
+    let a = start (c .before .before .before) .args in
     let v = c .before .before .mend-line .result .value in
     λ us k.
     let e : losses (digits (a .nc) v) (drop (a .place) (a .y .now)) ≡ 1 =

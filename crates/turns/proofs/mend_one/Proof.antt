@@ -49,15 +49,20 @@ element-copy-out-wide-2 c = search needs
 wide-requires-2 : tie.Need-wide-requires-2
 wide-requires-2 c κs = search needs
 
+-- where the function starts, seen from the call of `line_of`
+abbrev entry : tie.After-wide2 → tie.Start
+entry c = c .before .before .before .before .before .before
+
 -- ---- its line
 line-of-requires : tie.Need-line-of-requires
 line-of-requires c κs =
-    let s = c .before .before .before .before .before .before in
+    let s = entry c in
     let i = in-layout s in
     (s .pre .0 .is-legal, (rw (c .before .before .wide .ensures) (i .0), rw (c .wide2 .ensures) (i .1)))
 
+-- and seen from its answer
 abbrev start : tie.After-line-of → tie.Start
-start c = c .before .before .before .before .before .before .before
+start c = entry (c .before)
 
 line-here : (c : tie.After-line-of) → c .line-of .result ≡ its-line (start c)
 line-here c =

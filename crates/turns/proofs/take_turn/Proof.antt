@@ -32,9 +32,13 @@ loop-holds c =
     let s = c .before .before .before in
     (advanced-none (s .args .numbers .now) (s .pre .1), c .single .ensures)
 
+-- where the function starts, seen from the loop
+abbrev start : tie.At-loop Inv-loop μ-loop → tie.Start Inv-loop μ-loop
+start c = c .before .before .before .before
+
 mend-one-requires : tie.Need-mend-one-requires Inv-loop μ-loop
 mend-one-requires c κs =
-    let s = c .before .before .before .before .before .before .before in
+    let s = start (c .before .before .before) in
     let p = c .before .before .before .loop in
     let h : p .z < 12 = omega (arith, c .before .before .loop-test .taken) in
     (s .pre .0, (p .inv .0 .placed, (h, p .inv .1 .1 .0 h)))
@@ -50,7 +54,7 @@ was-open c =
 
 -- one more is found
 one-more : (c : tie.After-mend-one Inv-loop μ-loop) →
-    let a = c .before .before .before .before .before .before .before .before .args in
+    let a = start (c .before .before .before .before) .args in
     Advanced (a .l) (a .numbers .now) (a .y .now) (a .cells) (a .row) (c .mend-one .result)
 one-more c =
     let p = c .before .before .before .before .loop in

@@ -24,10 +24,14 @@ lacking-requires c κs = search needs
 sub-find-packed : tie.Need-sub-find-packed
 sub-find-packed c = search needs
 
+-- where the function starts, seen from where `weigh_bytes` has answered
+abbrev entry : tie.After-weigh-bytes → tie.Start
+entry c = c .before .before .before .before .before
+
 find-packed-requires : tie.Need-find-packed-requires
 find-packed-requires c κs =
     let b = c .before .before in
-    let start = b .before .before .before .before .before in
+    let start = entry b in
     ((b .before .before .weights .ensures, (start .pre .1 .1 .0, omega (arith, start .pre .0 .0, start .pre .0 .1))), (b .weigh-bytes .ensures .1, omega (arith, c .before .lacking .ensures .0)))
 
 add-put-packed : tie.Need-add-put-packed
@@ -36,7 +40,7 @@ add-put-packed c = search needs
 put-packed-requires : tie.Need-put-packed-requires
 put-packed-requires c κs =
     let g = c .before in
-    let start = g .before .before .before .before .before .before .before .before in
+    let start = entry (g .before .before .before) in
     let a = start .args in
     let l = fits-length (a .w - 1) (a .bits .now) (start .pre .1 .1 .0) in
     let e = g .find-packed .ensures .0 in
@@ -52,7 +56,7 @@ returns c =
     let g = k .before .before in
     let n = g .before .before in
     let b = n .before in
-    let start = b .before .before .before .before .before in
+    let start = entry b in
     let a = start .args in
     let q = g .find-packed in
     k .put-packed .ensures

@@ -72,7 +72,8 @@ returns c =
 
 same-length : tie.Need-same-length
 same-length c =
-    let k = c .before .before .before .before .before .before .before .before in
+    let w = c .before .before .before .before in
+    let k = w .before .before .before .before in
     let a = start k .args in
     ap length (returns c) ∙ simp (length-append, length-bytes, length-drop) (omega (arith, start k .pre .1 .1 .1))
 

@@ -63,10 +63,13 @@ called t = (
   brings.Post,
 )
 
--- places of the code: the entry, where the bits of chunk s are there, where they were looked at, where it is known how many ones more it
--- can have, a turn, and its end
+-- places of the code: the entry, where it is asked whether the bits of chunk s are there, where they are, where they were looked at, where
+-- it is known how many ones more it can have, a turn, and its end
 abbrev Start : ℕ → Type 0
 Start t = brings-lts.Start (called t) (brings-at t) brings.Post brings-Inv-loop brings-μ-loop
+
+abbrev Asked : ℕ → Type 0
+Asked t = brings-lts.After-is-there (called t) (brings-at t) brings.Post brings-Inv-loop brings-μ-loop
 
 abbrev Found : ℕ → Type 0
 Found t = brings-lts.Else1 (called t) (brings-at t) brings.Post brings-Inv-loop brings-μ-loop
@@ -83,8 +86,11 @@ Turn t = brings-lts.After-widen (called t) (brings-at t) brings.Post brings-Inv-
 abbrev Turned : ℕ → Type 0
 Turned t = brings-lts.Joined2 (called t) (brings-at t) brings.Post brings-Inv-loop brings-μ-loop
 
+abbrev entry : (t : ℕ) → Asked t → Start t
+entry t c = c .before .before .before .before .before .before
+
 abbrev start : (t : ℕ) → Found t → Start t
-start t c = c .before .before .before .before .before .before .before
+start t c = entry t (c .before)
 
 abbrev found : (t : ℕ) → Ready t → Found t
 found t c = c .before .before
@@ -118,7 +124,7 @@ brings-returns : (t : ℕ)
     → brings-lts.Need-returns (called t) (brings-at t) brings.Post brings-Inv-loop brings-μ-loop
 brings-returns t c =
     let i = c .before in
-    let s = i .before .before .before .before .before .before in
+    let s = entry t i in
     let h = s .pre .1 .1 .0 in
     λ vs can inside e.
     sym (not-true _ (c .if1 .taken)) ∙ i .is-there .ensures .1 (can .few (s .args .s) h, can .there (s .args .s) h)

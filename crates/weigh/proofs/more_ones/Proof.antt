@@ -59,7 +59,8 @@ returns-4 c =
 
 returns-5 : tie.Need-returns-5
 returns-5 c =
-    let s = c .before .before .before .before .before .before .before .before .before .before in
+    let e = c .before .before .before .before .before in
+    let s = e .before .before .before .before .before in
     let a = s .args in
     any-ones (a .y .now) (a .place) (a .w) (a .lost) (s .pre .0) (s .pre .1 .1 .1)
 

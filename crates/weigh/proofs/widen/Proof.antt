@@ -60,14 +60,18 @@ add-t14 c = let q = products (c .before .before .before .before .before) in omeg
 sub-t15 : tie.Need-sub-t15
 sub-t15 c = search needs
 
+-- where the function starts, seen from where all fields are read
+abbrev start : tie.After-struct-known6 → tie.Start
+start c = c .before .before .before .before .before .before
+
 mul-t16 : tie.Need-mul-t16
-mul-t16 c = let q = products (c .before .before .before .before .before .before) in omega (arith, q .zeros)
+mul-t16 c = let q = products (start c) in omega (arith, q .zeros)
 
 mul-t17 : tie.Need-mul-t17
-mul-t17 c = let q = products (c .before .before .before .before .before .before) in omega (arith, q .zeros)
+mul-t17 c = let q = products (start c) in omega (arith, q .zeros)
 
 add-t18 : tie.Need-add-t18
-add-t18 c = let q = products (c .before .before .before .before .before .before) in omega (arith, q .whole, q .zeros)
+add-t18 c = let q = products (start c) in omega (arith, q .whole, q .zeros)
 
 mul-t19 : tie.Need-mul-t19
 mul-t19 c = search needs
@@ -79,16 +83,16 @@ sub-t21 : tie.Need-sub-t21
 sub-t21 c = search needs
 
 mul-t22 : tie.Need-mul-t22
-mul-t22 c = let q = products (c .before .before .before .before .before .before) in omega (arith, q .back)
+mul-t22 c = let q = products (start c) in omega (arith, q .back)
 
 add-t23 : tie.Need-add-t23
 add-t23 c =
-    let q = products (c .before .before .before .before .before .before) in
+    let q = products (start c) in
     omega (arith, q .whole, q .zeros, q .back)
 
 returns : tie.Need-returns
 returns c =
-    let q = products (c .before .before .before .before .before .before) in
+    let q = products (start c) in
     record {
       low = refl;
       high = refl;

@@ -48,7 +48,8 @@ same-length c = search needs
 returns-2 : tie.Need-returns-2
 returns-2 c =
     let k = c .before .before in
-    let s = k .before .before .before .before .before .before .before .before .before in
+    let f = k .before .before .before .before in
+    let s = f .before .before .before .before .before in
     let kept : length (k .checks .last .1 .1 .1 .1 .0) ≡ length (s .args .out .now) = search needs in
     checks-are (named s) (s .args .chunks .now) (k .checks .last .1 .1 .1 .1 .0) (s .pre .1 .0) (omega (arith, s .pre .1 .1)) (k .checks .ensures)
 

@@ -56,7 +56,9 @@ wide-requires-3 : tie.Need-wide-requires-3
 wide-requires-3 c κs = search needs
 
 shared-slice-read-wide-4 : tie.Need-shared-slice-read-wide-4
-shared-slice-read-wide-4 c = omega (arith, long (c .before .before .before .before .before .before .before))
+shared-slice-read-wide-4 c =
+    let first = c .before .before .before .before .before in
+    omega (arith, long (first .before .before))
 
 wide-requires-4 : tie.Need-wide-requires-4
 wide-requires-4 c κs = search needs
@@ -64,11 +66,13 @@ wide-requires-4 c κs = search needs
 check-layout-requires : tie.Need-check-layout-requires
 unfolding layoutOf
 check-layout-requires c κs =
-    let v = c .before .before .before .before .before .before .before .before in (
+    let second = c .before .before .before .before in
+    let first = second .before .before in
+    let v = first .before .before in (
       is-marked (v .before .before),
       (
         sym (v .before .version-one .ensures) ∙ not-false _ (v .if2 .left),
-        rw (c .before .before .before .before .before .before .wide .ensures, c .before .before .before .before .wide2 .ensures, c .before .before .wide3 .ensures, c .wide4 .ensures) refl,
+        rw (first .wide .ensures, second .wide2 .ensures, c .before .before .wide3 .ensures, c .wide4 .ensures) refl,
       ),
     )
 

@@ -32,7 +32,11 @@ returns c =
 is-legal : (c : tie.Else1) → legal (named (c .before .before .before)) ≡ true
 is-legal c = sym (c .before .legal .ensures) ∙ not-false _ (c .if1 .left)
 
-is-long : (c : tie.Else2) → length (c .before .before .before .before .before .args .s .now) ≡ messageBytes (named (c .before .before .before .before .before))
+-- where the function starts, seen from where the second test does not hold
+abbrev start : tie.Else2 → tie.Start
+start c = c .before .before .before .before .before
+
+is-long : (c : tie.Else2) → length (start c .args .s .now) ≡ messageBytes (named (start c))
 is-long c = c .if2 .left ∙ c .before .message-bytes .ensures
 
 message-bytes-requires : tie.Need-message-bytes-requires
@@ -49,24 +53,33 @@ sum-high-requires c κs = (is-legal (c .before .before), is-long c)
 
 returns-3 : tie.Need-returns-3
 returns-3 c =
-    let t = c .before .before .before .before .before .before .before in
+    let e = c .before .before in
+    let t = start e in
     let s : List ℕ = t .args .s .now in
-    refused-answer (messageRefusal s) 4 s (refused-5 s (t .pre .0) (t .pre .1 .0) (named t) (t .pre .1 .1) (is-legal (c .before .before .before .before)) (is-long (c .before .before)) (sym (c .before .sum-high .ensures) ∙ c .if3 .taken))
+    refused-answer (messageRefusal s) 4 s
+    (refused-5 s (t .pre .0) (t .pre .1 .0) (named t) (t .pre .1 .1) (is-legal (e .before .before)) (is-long e)
+    (sym (c .before .sum-high .ensures) ∙ c .if3 .taken))
 
 spare-blank-requires : tie.Need-spare-blank-requires
 spare-blank-requires c κs = (is-legal (c .before .before .before .before), is-long (c .before .before))
 
 returns-4 : tie.Need-returns-4
 returns-4 c =
-    let t = c .before .before .before .before .before .before .before .before .before in
+    let e = c .before .before .before .before in
+    let t = start e in
     let s : List ℕ = t .args .s .now in
-    refused-answer (messageRefusal s) 5 s (refused-6 s (t .pre .0) (t .pre .1 .0) (named t) (t .pre .1 .1) (is-legal (c .before .before .before .before .before .before)) (is-long (c .before .before .before .before)) (sym (c .before .before .before .sum-high .ensures) ∙ c .before .before .if3 .left) (sym (c .before .spare-blank .ensures) ∙ not-true _ (c .if4 .taken)))
+    refused-answer (messageRefusal s) 5 s
+    (refused-6 s (t .pre .0) (t .pre .1 .0) (named t) (t .pre .1 .1) (is-legal (e .before .before)) (is-long e)
+    (sym (c .before .before .before .sum-high .ensures) ∙ c .before .before .if3 .left) (sym (c .before .spare-blank .ensures) ∙ not-true _ (c .if4 .taken)))
 
 returns-5 : tie.Need-returns-5
 returns-5 c =
-    let t = c .before .before .before .before .before .before .before .before .before in
+    let e = c .before .before .before .before in
+    let t = start e in
     let s : List ℕ = t .args .s .now in
-    fit-answer (messageRefusal s) s (named t) (t .pre .1 .1) (refused-not s (t .pre .0) (t .pre .1 .0) (named t) (t .pre .1 .1) (is-legal (c .before .before .before .before .before .before)) (is-long (c .before .before .before .before)) (sym (c .before .before .before .sum-high .ensures) ∙ c .before .before .if3 .left) (sym (c .before .spare-blank .ensures) ∙ not-false _ (c .if4 .left)))
+    fit-answer (messageRefusal s) s (named t) (t .pre .1 .1)
+    (refused-not s (t .pre .0) (t .pre .1 .0) (named t) (t .pre .1 .1) (is-legal (e .before .before)) (is-long e)
+    (sym (c .before .before .before .sum-high .ensures) ∙ c .before .before .if3 .left) (sym (c .before .spare-blank .ensures) ∙ not-false _ (c .if4 .left)))
 
 pub check-layout-spec : {M : Type 1} → statement M
 check-layout-spec =

@@ -35,7 +35,8 @@ shared-slice-read-if4 c = search needs
 
 returns-4 : tie.Need-returns-4
 returns-4 c =
-    let s : List ℕ = c .before .before .before .before .before .before .before .args .s .now in
+    let b = c .before .before .before .before in
+    let s : List ℕ = b .before .before .before .args .s .now in
     refuted (marked s) (λ e. c .if4 .taken (mark s e .third))
 
 returns-5 : tie.Need-returns-5

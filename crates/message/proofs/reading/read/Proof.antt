@@ -38,13 +38,18 @@ returns c =
 abbrev named : tie.After-checked → Layout
 named c = c .checked .given .0 .0
 
-answer : (c : tie.After-checked) → let s = c .before .before .before .before .before .args .s .now in (messageRefusal s ≡ 0) × (layoutOf s ≡ named c)
+-- where the function starts, seen from where the message is checked
+abbrev start : tie.After-checked → tie.Start
+start c = c .before .before .before .before .before
+
+answer : (c : tie.After-checked) → let s = start c .args .s .now in (messageRefusal s ≡ 0) × (layoutOf s ≡ named c)
 answer c =
     let k = c .before .before in
-    found (c .before .before .before .before .before .args .s .now) (k .check .result) (named c) (c .checked .given .1) (k .check .ensures)
+    found (start c .args .s .now) (k .check .result) (named c) (c .checked .given .1) (k .check .ensures)
 
-shaped : (c : tie.After-checked) → let s = c .before .before .before .before .before .args .s .now in (legal (named c) ≡ true) × (length s ≡ messageBytes (named c))
-shaped c = fit-named (c .before .before .before .before .before .args .s .now) (named c) (answer c .0) (answer c .1)
+shaped : (c : tie.After-checked) → let s = start c .args .s .now in
+    (legal (named c) ≡ true) × (length s ≡ messageBytes (named c))
+shaped c = fit-named (start c .args .s .now) (named c) (answer c .0) (answer c .1)
 
 -- its numbers are few
 count : (c : tie.After-checked) → named c .l1 + named c .l2 + named c .r ≤ 526
@@ -61,7 +66,7 @@ add-if1-2 c = record { fits = omega (arith, count (c .before)) }
 returns-2 : tie.Need-returns-2
 returns-2 c =
     let k = c .before .before in
-    let a = c .before .before .before .before .before .before .before .args in
+    let a = start k .args in
     let s : List ℕ = a .s .now in
     let o : List ℕ = a .out .now in
     let e : readRefusal s (length o) ≡ 10 = refuses-target s o (answer k .0) (omega (arith, c .if1 .taken, numbers-count s (named k) (answer k .1))) in
@@ -77,13 +82,15 @@ same-length c = search needs
 
 returns-3 : tie.Need-returns-3
 returns-3 c =
-    let k = c .before .before .before .before .before .before in
-    let a = c .before .before .before .before .before .before .before .before .before .before .before .args in
+    let r = c .before .before in
+    let k = r .before .before .before .before in
+    let a = start k .args in
     let s : List ℕ = a .s .now in
     let o : List ℕ = a .out .now in
-    let room = c .before .before .before .before .if1 .left in
+    let room = r .before .before .if1 .left in
     let e : readRefusal s (length o) ≡ 0 = refuses-nothing s o (answer k .0) (omega (arith, room, numbers-count s (named k) (answer k .1))) in
-    (fit-answer (readRefusal s (length o)) s (named k) (answer k .1) e, numbers-written s o (c .before .before .read-numbers .last .1 .1 .1 .1 .1 .0) (named k) (answer k .1) e (c .before .before .read-numbers .ensures))
+    let put = numbers-written s o (r .read-numbers .last .1 .1 .1 .1 .1 .0) (named k) (answer k .1) e (r .read-numbers .ensures) in
+    (fit-answer (readRefusal s (length o)) s (named k) (answer k .1) e, put)
 
 pub read-spec : {M : Type 1} → statement M
 read-spec =

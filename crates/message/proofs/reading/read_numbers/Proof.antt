@@ -41,40 +41,46 @@ mul-width c = record { fits = omega (arith, within (c .before .before .before) .
 width-requires : tie.Need-width-requires
 width-requires c κs = within (c .before .before .before) .block
 
+-- where the function starts, seen from the first call of `width`
+abbrev start : tie.After-rest → tie.Start
+start c = c .before .before .before
+
 mul-width-2 : tie.Need-mul-width-2
-mul-width-2 c = record { fits = omega (arith, within (c .before .before .before .before) .string) }
+mul-width-2 c = record { fits = omega (arith, within (start (c .before)) .string) }
 
 width-requires-2 : tie.Need-width-requires-2
-width-requires-2 c κs = within (c .before .before .before .before) .string
+width-requires-2 c κs = within (start (c .before)) .string
 
 -- the fields lie within the bits after the head, which the code has as a part of the message
 places : (c : tie.After-width2) →
-    let a = c .before .before .before .before .before .args in
+    let a = start (c .before .before) .args in
     (a .l1 * c .before .width .result + a .l2 * c .width2 .result + a .r * a .nc ≤ length (drop 9 (a .s .now)) * 8) × (length (take (length (a .s .now) - 9) (drop 9 (a .s .now))) ≡ length (drop 9 (a .s .now)))
 places c =
-    let a = c .before .before .before .before .before in
+    let a = start (c .before .before) in
     (rw (c .before .width .ensures, c .width2 .ensures) (rest a .all-fields), ap length (part-to-end (a .args .s .now) 9))
 
 mul-strings : tie.Need-mul-strings
-mul-strings c = record { fits = omega (arith, places c .0, rest (c .before .before .before .before .before) .few) }
+mul-strings c = record { fits = omega (arith, places c .0, rest (start (c .before .before)) .few) }
 
 mul-checks : tie.Need-mul-checks
-mul-checks c = record { fits = omega (arith, places c .0, rest (c .before .before .before .before .before) .few) }
+mul-checks c = record { fits = omega (arith, places c .0, rest (start (c .before .before)) .few) }
 
 add-checks : tie.Need-add-checks
-add-checks c = record { fits = omega (arith, places c .0, rest (c .before .before .before .before .before) .few) }
+add-checks c = record { fits = omega (arith, places c .0, rest (start (c .before .before)) .few) }
 
 read-fields-requires : tie.Need-read-fields-requires
 read-fields-requires c κs =
-    let t = rest (c .before .before .before .before .before .before) in
-    rw (part-to-end (c .before .before .before .before .before .before .args .s .now) 9, c .before .before .width .ensures, zero-add, zero-add) (omega (arith, t .block-width), (omega (arith, t .few), (t .block-fields, omega (arith, c .before .before .before .before .before .before .pre .1 .1))))
+    let s = start (c .before .before .before) in
+    let t = rest s in
+    rw (part-to-end (s .args .s .now) 9, c .before .before .width .ensures, zero-add, zero-add)
+    (omega (arith, t .block-width), (omega (arith, t .few), (t .block-fields, omega (arith, s .pre .1 .1))))
 
 -- the layout, and the slice after the block sums, after the chunk-string sums, after the checks
 abbrev named : tie.Start → Layout
 named c = layout (c .args .l1) (c .args .l2) (c .args .nc) (c .args .r)
 
 abbrev begun : tie.After-read-fields → tie.Start
-begun c = c .before .before .before .before .before .before .before
+begun c = start (c .before .before .before .before)
 
 first : (c : tie.After-read-fields) →
     let a = begun c in
@@ -100,10 +106,14 @@ room-after c = search needs
 room-left : (c : tie.After-read-fields2) → length (c .read-fields2 .last .1 .1 .1 .1 .0) ≡ length (begun (c .before .before .before .before) .args .out .now)
 room-left c = search needs
 
+-- where both widths are known, seen from the second call of `read_fields`
+abbrev widths : tie.After-slice-known2 → tie.After-width2
+widths c = c .before .before .before .before
+
 read-fields-requires-2 : tie.Need-read-fields-requires-2
 read-fields-requires-2 c κs =
-    let w = c .before .before .before .before .before in
-    let q = w .before .before .before .before .before in
+    let w = widths (c .before) in
+    let q = start (w .before .before) in
     let t = rest q in
     (omega (arith, w .width2 .ensures, t .string-width), (omega (arith, places w .1, t .few), (omega (arith, places w .0, places w .1), omega (arith, q .pre .1 .1, room-after (c .before .before .before)))))
 
@@ -112,8 +122,8 @@ add-read-fields c = search needs
 
 read-fields-requires-3 : tie.Need-read-fields-requires-3
 read-fields-requires-3 c κs =
-    let w = c .before .before .before .before .before .before .before .before .before in
-    let q = w .before .before .before .before .before in
+    let w = widths (c .before .before .before .before .before) in
+    let q = start (w .before .before) in
     let t = rest q in
     (omega (arith, legal-bounds (named q) (q .pre .0) .nc-high), (omega (arith, places w .1, t .few), (omega (arith, places w .0, places w .1), omega (arith, q .pre .1 .1, room-left (c .before .before .before)))))
 
@@ -125,7 +135,7 @@ returns c =
     let v = c .before .before in
     let d = v .before .before .before .before in
     let a = begun (d .before .before .before .before) in
-    let w = d .before .before .before .before .before .before in
+    let w = widths (d .before .before) in
     v .read-fields3 .ensures ∙ check-written (named a) (a .args .s .now) (a .args .out .now) (w .before .width .result) (w .width2 .result) (w .before .width .ensures) (w .width2 .ensures) (d .read-fields2 .last .1 .1 .1 .1 .0) (second d)
 
 pub read-numbers-spec : {M : Type 1} → statement M

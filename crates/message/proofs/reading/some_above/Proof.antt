@@ -17,12 +17,16 @@ Inv-loop s at n k limit c₀ i₀ c i = (i ≤ n) × ((c .at ≡ at + i * k) × 
 abbrev μ-loop : tie.MeasureT-loop
 μ-loop s at n k limit c₀ i₀ c i = n - i
 
+-- where the function starts, seen from a turn of the loop
+abbrev start : tie.In-loop Inv-loop μ-loop → tie.Start Inv-loop μ-loop
+start c = c .before .before .before
+
 -- the value that the cursor reads is the next field
 value-is : (c : tie.After-take Inv-loop μ-loop) →
-    let a = c .before .before .before .before .args in
+    let a = start (c .before) .args in
     c .take .result .value ≡ getD (fields (a .n) (a .k) (drop (a .at) (unpack (a .s .now)))) (c .before .before .loop .i) 0
 value-is c =
-    let a = c .before .before .before .before .args in
+    let a = start (c .before) .args in
     let p = c .before .before .loop in
     c .take .ensures .0 ∙ ap (λ (m : ℕ). number (a .k) (drop m (unpack (a .s .now)))) (p .inv .1 .0) ∙ field-value (a .n) (a .k) (a .at) (p .i) (unpack (a .s .now)) (omega arith)
 
@@ -40,7 +44,7 @@ cast-value c = search needs
 
 returns : tie.Need-returns Inv-loop μ-loop
 returns c =
-    let a = c .before .before .before .before .before .before .args in
+    let a = start (c .before .before .before) .args in
     let t = c .before .before in
     let p = t .before .before .loop in
     let f : List ℕ = fields (a .n) (a .k) (drop (a .at) (unpack (a .s .now))) in
@@ -55,7 +59,7 @@ loop-less c = search needs
 
 loop-again : tie.Need-loop-again Inv-loop μ-loop
 loop-again c =
-    let a = c .before .before .before .before .before .before .before .args in
+    let a = start (c .before .before .before .before) .args in
     let t = c .before .before .before in
     let p = t .before .before .loop in
     let f : List ℕ = fields (a .n) (a .k) (drop (a .at) (unpack (a .s .now))) in

@@ -69,21 +69,28 @@ width-requires-2 : tie.Need-width-requires-2
 width-requires-2 c κs = within (c .before .before .before .before .before) .string
 
 mul-some-above-2 : tie.Need-mul-some-above-2
-mul-some-above-2 c = record { fits = omega (arith, rest (c .before .before .before .before .before .before) .block-fields, rest (c .before .before .before .before .before .before) .few, ap (λ (k : ℕ). c .before .before .before .before .before .before .args .l1 * k) (c .before .before .before .width .ensures)) }
+mul-some-above-2 c =
+    let w = c .before .before .before in
+    let s = w .before .before .before in
+    let t = rest s in
+    record { fits = omega (arith, t .block-fields, t .few, ap (λ (k : ℕ). s .args .l1 * k) (w .width .ensures)) }
 
 mul-some-above-3 : tie.Need-mul-some-above-3
 mul-some-above-3 c = record { fits = omega (arith, within (c .before .before .before .before .before .before) .string) }
 
 some-above-requires-2 : tie.Need-some-above-requires-2
 some-above-requires-2 c κs =
-    let t = rest (c .before .before .before .before .before .before) in
-    rw (part-to-end (c .before .before .before .before .before .before .args .s .now) 9, c .before .before .before .width .ensures, c .width2 .ensures) (omega (arith, t .string-width), (omega (arith, t .few), t .string-fields))
+    let w = c .before .before .before in
+    let s = w .before .before .before in
+    let t = rest s in
+    rw (part-to-end (s .args .s .now) 9, w .width .ensures, c .width2 .ensures)
+    (omega (arith, t .string-width), (omega (arith, t .few), t .string-fields))
 
 returns-2 : tie.Need-returns-2
 unfolding readStringSums body
 returns-2 c =
-    let a = c .before .before .before .before .before .before .before .args in
     let t = c .before .before .before in
+    let a = t .before .before .before .before .args in
     let e = sym (block-answer t) ∙ c .before .before .if1 .left in
     rw e (c .some-above2 .ensures ∙ rw (part-to-end (a .s .now) 9, t .before .width .ensures, c .before .width2 .ensures) refl)
 

@@ -26,9 +26,13 @@ shared-slice-read-wide c = search needs
 wide-requires : tie.Need-wide-requires Inv-loop μ-loop
 wide-requires c κs = search needs
 
+-- where the function starts, seen from the loop
+abbrev start : tie.At-loop Inv-loop μ-loop → tie.Start Inv-loop μ-loop
+start c = c .before .before .before
+
 put-requires : tie.Need-put-requires Inv-loop μ-loop
 put-requires c κs =
-    let s = c .before .before .before .before .before .before .before in
+    let s = start (c .before .before .before .before) in
     let a = s .args in
     let p = c .before .before .before .before .loop in
     let room = placed-room (a .start) (a .out .now) (a .nc) (a .values .now) (length (a .values .now)) refl (s .pre .1 .1) (p .i) (p .f) (p .out) (p .inv .1) (omega arith) in
@@ -40,11 +44,15 @@ add-i c = search needs
 loop-less : tie.Need-loop-less Inv-loop μ-loop
 loop-less c = search needs
 
+-- the loop's head, seen from where `put` has answered
+abbrev loop : tie.After-put Inv-loop μ-loop → tie.At-loop Inv-loop μ-loop
+loop c = c .before .before .before .before .before
+
 loop-again : tie.Need-loop-again Inv-loop μ-loop
 loop-again c =
-    let s = c .before .before .before .before .before .before .before .before .before .before in
+    let s = start (loop (c .before .before)) in
     let a = s .args in
-    let p = c .before .before .before .before .before .before .before .loop in
+    let p = loop (c .before .before) .loop in
     let q = c .before .before .put in
     (omega arith, placed-next (a .start) (a .out .now) (a .nc) (a .values .now) (p .i) (p .f) (p .out) (p .inv .1) (omega arith) _ (c .before .before .before .wide .ensures) _ _ (q .ensures))
 
@@ -53,7 +61,7 @@ same-length c = search needs
 
 returns : tie.Need-returns Inv-loop μ-loop
 returns c =
-    let a = c .before .before .before .before .args in
+    let a = start (c .before) .args in
     let p = c .before .loop in
     placed-end (a .start) (a .out .now) (a .nc) (a .values .now) (p .i) (p .f) (p .out) (p .inv .1) (omega arith)
 

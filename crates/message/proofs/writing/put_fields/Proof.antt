@@ -37,15 +37,19 @@ lay s = layout (s .args .l1) (s .args .l2) (s .args .nc) (s .args .r)
 abbrev row : tie.Start → List ℕ
 row s = rowOf (s .args .nc) (s .args .chunks .now)
 
+-- where the function starts, seen from where `weights` has answered
+abbrev entry : tie.After-weights → tie.Start
+entry c = c .before .before .before .before .before
+
 put-sums-requires : tie.Need-put-sums-requires
 put-sums-requires c κs =
-    let s = c .before .before .before .before .before .before .before in
+    let s = entry (c .before .before) in
     let room = block-room (lay s) (row s) (s .args .out .now) (s .pre .0 .0) (s .pre .1) _ (c .before .before .before .before .width .ensures) in
     ((c .before .before .weights .ensures, s .pre .0), ((search needs, room .0), ((omega arith, omega arith), room .1)))
 
 -- what the function is given, seen from where the block sums are put
 abbrev start : tie.After-put-sums → tie.Start
-start c = c .before .before .before .before .before .before .before .before
+start c = entry (c .before .before .before)
 
 -- after the block sums
 blocks-put : (c : tie.After-put-sums) → let s = start c in

@@ -48,7 +48,7 @@ part-put-checks-start : tie.Need-part-put-checks-start
 part-put-checks-start c = search needs
 
 part-put-checks-end : tie.Need-part-put-checks-end
-part-put-checks-end c = omega (arith, bounds (c .before .before .before .before .before .before) .r-high)
+part-put-checks-end c = omega (arith, bounds (start (c .before .before)) .r-high)
 
 put-checks-requires : tie.Need-put-checks-requires
 put-checks-requires c κs =
@@ -59,9 +59,13 @@ put-checks-requires c κs =
 same-length : tie.Need-same-length
 same-length c = search needs
 
+-- where `fill_checks` has answered, seen from where `put_checks` has answered
+abbrev filled : tie.After-put-checks → tie.After-fill-checks
+filled c = c .before .before .before .before .before
+
 returns : tie.Need-returns
 returns c =
-    let k = c .before .before .before .before .before .before .before in
+    let k = filled (c .before .before) in
     rw (values k) at (c .before .before .put-checks .ensures)
 
 pub put-row-checks-spec : {M : Type 1} → statement M

@@ -43,20 +43,24 @@ loop-holds c =
     let a = s .args in
     (search needs, placed-start (a .start) (a .out .now) (a .k) (vs s) (s .pre .1 .1 .0))
 
+-- where the function starts, seen from the loop
+abbrev start : tie.At-loop Inv-loop μ-loop → tie.Start Inv-loop μ-loop
+start c = c .before .before .before
+
 add-sum-of : tie.Need-add-sum-of Inv-loop μ-loop
 add-sum-of c =
-    let s = c .before .before .before .before in
+    let s = start (c .before) in
     let z = sizes (lay s) (legal-bounds (lay s) (s .pre .0 .1 .0)) in
     omega (arith, s .pre .1 .0 .0, z .l1-high, z .l2-high)
 
 sum-of-requires : tie.Need-sum-of-requires Inv-loop μ-loop
 sum-of-requires c κs =
-    let s = c .before .before .before .before in
+    let s = start (c .before) in
     (s .pre .0 .0, (s .pre .0 .1 .0, (s .pre .0 .1 .1, omega (arith, s .pre .1 .0 .0))))
 
 put-requires : tie.Need-put-requires Inv-loop μ-loop
 put-requires c κs =
-    let s = c .before .before .before .before .before .before in
+    let s = start (c .before .before .before) in
     let a = s .args in
     let p = c .before .before .before .loop in
     let room = placed-room (a .start) (a .out .now) (a .k) (vs s) (a .count) (count s) (s .pre .1 .1 .1) (p .i) (p .f) (p .out) (p .inv .1) (omega arith) in
@@ -68,11 +72,15 @@ add-i c = search needs
 loop-less : tie.Need-loop-less Inv-loop μ-loop
 loop-less c = search needs
 
+-- the loop's head, seen from where `put` has answered
+abbrev loop : tie.After-put Inv-loop μ-loop → tie.At-loop Inv-loop μ-loop
+loop c = c .before .before .before .before
+
 loop-again : tie.Need-loop-again Inv-loop μ-loop
 loop-again c =
-    let s = c .before .before .before .before .before .before .before .before .before in
+    let s = start (loop (c .before .before)) in
     let a = s .args in
-    let p = c .before .before .before .before .before .before .loop in
+    let p = loop (c .before .before) .loop in
     let q = c .before .before .put in
     let v = c .before .before .before .before .sum-of .ensures ∙ sum-of-part (lay s) (row s) (a .first) (a .count) (p .i) (omega arith) in
     (omega arith, placed-next (a .start) (a .out .now) (a .k) (vs s) (p .i) (p .f) (p .out) (p .inv .1) (omega (arith, count s)) _ v _ _ (q .ensures))
@@ -82,7 +90,7 @@ same-length c = search needs
 
 returns : tie.Need-returns Inv-loop μ-loop
 returns c =
-    let s = c .before .before .before .before in
+    let s = start (c .before) in
     let a = s .args in
     let p = c .before .loop in
     placed-end (a .start) (a .out .now) (a .k) (vs s) (p .i) (p .f) (p .out) (p .inv .1) (omega (arith, count s))

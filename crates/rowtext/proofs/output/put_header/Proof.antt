@@ -13,22 +13,26 @@ use Rattle.rowtext.proofs.output.put_header.Tie as tie
 copy-to-requires : tie.Need-copy-to-requires
 copy-to-requires c κs = search needs
 
+-- where the function starts, seen from where `copy_to` has answered
+abbrev start : tie.After-copy-to → tie.Start
+start c = c .before .before .before .before
+
 -- the word is put
-word : (c : tie.After-copy-to) → let a = c .before .before .before .before .args in
+word : (c : tie.After-copy-to) → let a = start c .args in
     Put (a .word .now) 0 (a .out .now) (c .copy-to .last .1 .0) (length (a .word .now))
 word c =
-    let a = c .before .before .before .before .args in
+    let a = start c .args in
     record { slice = c .copy-to .ensures; after = sym (zero-add (length (a .word .now))) }
 
 put-decimal-requires : tie.Need-put-decimal-requires
 put-decimal-requires c κs =
-    let k = c .before .before .before .before .before .before .before in
+    let k = start (c .before .before .before) in
     omega (arith, decimal-short 4 (k .args .n) (k .pre .0), k .pre .1)
 
 put-char-requires : tie.Need-put-char-requires
 put-char-requires c κs =
     let p = c .before .before .before in
-    let k = p .before .before .before .before .before .before .before .before in
+    let k = start (p .before .before .before .before) in
     omega (arith, decimal-short 4 (k .args .n) (k .pre .0), k .pre .1, p .put-decimal .ensures .after)
 
 same-length : tie.Need-same-length
