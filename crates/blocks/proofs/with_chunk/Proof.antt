@@ -11,51 +11,39 @@ use Rattle.blocks.proofs.with_chunk.Lts as lts
 use Rattle.bits.proofs.wide.Reads as wide-reads
 use Rattle.blocks.proofs.too_many.Reads as too-many-reads
 
--- src/lib.rt:51:9
 wide-requires : tie.Need-wide-requires
 wide-requires c κs = search needs
 
--- src/lib.rt:54:9
 too-many-requires : tie.Need-too-many-requires
 too-many-requires c κs = search needs
 
--- src/lib.rt:54:9
 returns : tie.Need-returns
 returns c = λ e. absurd (false≢true (sym (c .too-many .ensures) ∙ e))
 
--- src/lib.rt:57:9
 too-many-requires-2 : tie.Need-too-many-requires-2
 too-many-requires-2 c κs = search needs
 
--- src/lib.rt:57:9
 returns-2 : tie.Need-returns-2
 returns-2 c = λ e. absurd (false≢true (sym (c .too-many2 .ensures) ∙ e))
 
--- src/lib.rt:60:5
 array-write-block : tie.Need-array-write-block
 array-write-block c = search needs
 
--- src/lib.rt:62:5
 mul-places : tie.Need-mul-places
 mul-places c = search needs
 
--- src/lib.rt:62:5
 array-write-places : tie.Need-array-write-places
 array-write-places c = search needs
 
--- src/lib.rt:64:5
 array-write-losses : tie.Need-array-write-losses
 array-write-losses c = search needs
 
--- src/lib.rt:66:12
 add-t16 : tie.Need-add-t16
 add-t16 c = search needs
 
--- src/lib.rt:73:15
 add-t16-2 : tie.Need-add-t16-2
 add-t16-2 c = search needs
 
--- src/lib.rt:46:1
 returns-3 : tie.Need-returns-3
 returns-3 c =
     λ e.
