@@ -31,8 +31,8 @@ fn is_in(cells: Cells, i: usize, z: usize) -> bool
     cells.block[z] as usize == i
 }
 
-// Chunks that cannot be weighed.
-fn too_many(chunks: weigh::Chunks) -> Cut
+// Chunks that are not weighed: too many, or not in ascending columns.
+fn not_weighed(chunks: weigh::Chunks) -> Cut
     ensures { λ r. ⌜ r .ok ≡ false ⌝ }
 {
     Cut {
@@ -51,10 +51,10 @@ fn with_chunk(cut: Cut, j: u8, place: usize, lost: u8) -> Cut
     let column = bits::wide(j);
     let next = cut.next;
     if weigh::MOST <= n {
-        return too_many(old);
+        return not_weighed(old);
     }
     if column < next {
-        return too_many(old);
+        return not_weighed(old);
     }
     let mut block = old.block;
     block[n] = j;

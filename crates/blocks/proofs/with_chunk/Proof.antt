@@ -9,22 +9,22 @@ use Rattle.blocks.proofs.with_chunk.Tie as tie
 use Rattle.blocks.proofs.with_chunk.Reads as reads
 use Rattle.blocks.proofs.with_chunk.Lts as lts
 use Rattle.bits.proofs.wide.Reads as wide-reads
-use Rattle.blocks.proofs.too_many.Reads as too-many-reads
+use Rattle.blocks.proofs.not_weighed.Reads as not-weighed-reads
 
 wide-requires : tie.Need-wide-requires
 wide-requires c κs = search needs
 
-too-many-requires : tie.Need-too-many-requires
-too-many-requires c κs = search needs
+not-weighed-requires : tie.Need-not-weighed-requires
+not-weighed-requires c κs = search needs
 
 returns : tie.Need-returns
-returns c = λ e. absurd (false≢true (sym (c .too-many .ensures) ∙ e))
+returns c = λ e. absurd (false≢true (sym (c .not-weighed .ensures) ∙ e))
 
-too-many-requires-2 : tie.Need-too-many-requires-2
-too-many-requires-2 c κs = search needs
+not-weighed-requires-2 : tie.Need-not-weighed-requires-2
+not-weighed-requires-2 c κs = search needs
 
 returns-2 : tie.Need-returns-2
-returns-2 c = λ e. absurd (false≢true (sym (c .too-many2 .ensures) ∙ e))
+returns-2 c = λ e. absurd (false≢true (sym (c .not-weighed2 .ensures) ∙ e))
 
 array-write-block : tie.Need-array-write-block
 array-write-block c = search needs
@@ -62,9 +62,9 @@ with-chunk-spec =
     tie.close
     (tie.spec
     wide-requires
-    too-many-requires
+    not-weighed-requires
     returns
-    too-many-requires-2
+    not-weighed-requires-2
     returns-2
     array-write-block
     mul-places
