@@ -8,7 +8,6 @@ use mathlib.Core.List.{List, [], _∷_}
 use native.Mathlib.Nat.{mul-one, add-comm}
 use native.Mathlib.Omega.{arith}
 use borrow.Author.Tests.{eqb-true, eqb-false}
-use lib.Arith.{digits-div, digits-mod}
 use lib.Dec.{eqb}
 use lib.ListN.{length, getD, drop, set}
 use lib.Seq.{getD-set-same, getD-set-other}
@@ -30,13 +29,6 @@ same-or-not a b = go (eqb a b) refl
     go : (t : Bool) → eqb a b ≡ t → (a ≡ b) ⊎ (a ≡ b → ⊥)
     go true e = inl (eqb-true a b e)
     go false e = inr (eqb-false a b e)
-
--- block and column say which chunk it is
-pub same-chunk : (n i j k m : ℕ) → j < n → m < n → i * n + j ≡ k * n + m → (i ≡ k) × (j ≡ m)
-same-chunk n i j k m h g e = (
-  sym (digits-div i h) ∙ ap (λ (c : ℕ). c / n) e ∙ digits-div k g,
-  sym (digits-mod i h) ∙ ap (λ (c : ℕ). c % n) e ∙ digits-mod k g,
-)
 
 -- chunk j of block i, counted in row order, is one of at most 255
 pub chunk-low : (l : Layout) → legal l ≡ true → (i j : ℕ) → i < l .l1 → j < l .l2 → i * l .l2 + j < 255
