@@ -1,17 +1,17 @@
 // Which rows are consistent with a message and a received row, and the tests that a search makes of a candidate. Contracts cite
 // specs/Consistent.antt and specs/Greedy.antt; strings are unpacked, one byte a bit.
 ghost use mathlib.Core.Path.{_≡_};
-ghost use mathlib.Core.Bool.{true, _&&_};
+ghost use mathlib.Core.Bool.{true};
 ghost use mathlib.Core.List.{[], _∷_, _++_};
 ghost use Prim.Native.Nat.{_+_, _-_, _*_, _<_, _≤_};
 ghost use lib.ListN.{length, getD, take, drop};
-ghost use Rattle.bits.specs.Bits.{AllBits, same, cut};
+ghost use Rattle.bits.specs.Bits.{AllBits, same};
 ghost use Rattle.rows.specs.Deletion.{comesFrom};
 ghost use Rattle.message.specs.Chunks.{rowOf, Chunked};
 ghost use Rattle.message.specs.Layout.{layout, legal as isLegal, rowBits};
 ghost use Rattle.message.specs.Message.{blockSums, stringSums, checks};
 ghost use Rattle.consistent.specs.Consistent.{candidate};
-ghost use Rattle.consistent.specs.Greedy.{eat, losses, table, used};
+ghost use Rattle.consistent.specs.Greedy.{eat, losses};
 
 // The most bits that are compared at a time.
 const PIECE: usize = 64;
@@ -89,30 +89,6 @@ pub fn comes(x: &[u8], y: &[u8]) -> bool
         i = end;
     }
     at == y.len()
-}
-
-// Whether the pieces of w bits that x is cut into lose just these counts, one after another, and y is used up.
-pub fn loses(x: &[u8], w: usize, y: &[u8], counts: &[u8]) -> bool
-    requires { ⌜ length (now x) ≡ length (now counts) * w ⌝ }
-    ensures { λ r. ⌜ r ≡ (same (table (cut (length (now (counts .entry))) w (now (x .entry))) (now (y .entry))) (now (counts .entry))
-        && used (now (x .entry)) (now (y .entry))) ⌝ }
-{
-    let mut at: usize = 0;
-    let mut i: usize = 0;
-    while i < counts.len() {
-        let from = i * w;
-        let to = from + w;
-        let n = taken(&x[from..to], &y[at..]);
-        if w - n != bits::wide(counts[i]) {
-            return false;
-        }
-        at += n;
-        i += 1;
-    }
-    if at == y.len() {
-        return true;
-    }
-    false
 }
 
 // Whether these numbers are the sums of the row with these chunks.
