@@ -1,10 +1,10 @@
 -- The rows under a state: what is known of a block or a chunk-string by the losses that are still open in it, and what a cell
 -- that is found changes. Assumes nothing.
-use Prim.Native.Nat.{ℕ, zero, suc, _+_, _*_, _/_, _%_, _<_}
+use Prim.Native.Nat.{ℕ, _+_, _*_, _<_}
 use mathlib.Core.Path.{_≡_, refl, sym, ap, _∙_}
 use mathlib.Core.Bool.{Bool, true, false}
 use mathlib.Core.Logic.{_⊎_, inl, inr, ⊎-elim}
-use mathlib.Core.List.{List, [], _∷_}
+use mathlib.Core.List.{List}
 use native.Mathlib.Nat.{mul-one, add-comm}
 use native.Mathlib.Omega.{arith}
 use borrow.Author.Tests.{eqb-true, eqb-false}
@@ -12,6 +12,7 @@ use lib.Dec.{eqb}
 use lib.ListN.{length, getD, drop, set}
 use lib.Seq.{getD-set-same, getD-set-other}
 use Rattle.bits.specs.Bits.{digits}
+use Rattle.bits.proofs.Laws.{set-zero}
 use Rattle.message.specs.Layout.{legal}
 use Rattle.message.specs.declared.Layout.{Layout}
 use Rattle.message.proofs.Fields.{field-room}
@@ -49,16 +50,11 @@ module _ (cells : Cells) (keys : List ℕ) (n : length keys ≡ 12) where
       others = share-one keys (cells .lost) (getD keys z 0) (s .alone) z (omega arith) refl (omega (arith, s .one)) .1
 
 -- ---- a cell that is found
-found-lost : (lost : List ℕ) (z : ℕ) → getD (set lost z 0) z 0 ≡ 0
-found-lost [] z = refl
-found-lost (a ∷ lost) zero = refl
-found-lost (a ∷ lost) (suc z) = found-lost lost z
-
 module _ (cells : Cells) (z w : ℕ) where
   -- a cell that is open afterwards is another, which was open before
   pub open-before : Open (found cells z) w → (w ≡ z → ⊥) × Open cells w
   open-before o =
-      let n : (w ≡ z → ⊥) = λ e. absurd (omega (arith, rw e at (o .1), found-lost (cells .lost) z)) in
+      let n : (w ≡ z → ⊥) = λ e. absurd (omega (arith, rw e at (o .1), set-zero (cells .lost) z)) in
       (n, (o .0, rw (getD-set-other (cells .lost) z w 0 0 n) at (o .1)))
 
   -- and every other that was open still is, with its losses
