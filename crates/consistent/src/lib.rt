@@ -64,7 +64,8 @@ fn starts(p: &[u8], y: &[u8]) -> bool
 
 // How many bits of y a piece takes: all its own where it is the first bits of y.
 fn piece_taken(p: &[u8], y: &[u8]) -> usize
-    ensures { λ r. ⌜ (r ≤ length (now (y .entry))) × (eat (now (p .entry)) (now (y .entry)) ≡ drop r (now (y .entry))) ⌝ }
+    ensures { λ r. ⌜ (r ≤ length (now (y .entry)))
+        × (eat (now (p .entry)) (now (y .entry)) ≡ drop r (now (y .entry))) ⌝ }
 {
     if p.len() <= y.len() {
         if starts(p, y) {
@@ -76,7 +77,8 @@ fn piece_taken(p: &[u8], y: &[u8]) -> usize
 
 // Whether y comes from x by deleting bits, piece by piece.
 pub fn comes(x: &[u8], y: &[u8]) -> bool
-    ensures { λ r. ⌜ r ≡ comesFrom (now (x .entry)) (length (now (x .entry)) - length (now (y .entry))) (now (y .entry)) ⌝ }
+    ensures { λ r. ⌜ r
+        ≡ comesFrom (now (x .entry)) (length (now (x .entry)) - length (now (y .entry))) (now (y .entry)) ⌝ }
 {
     let mut at: usize = 0;
     let mut i: usize = 0;
@@ -93,8 +95,10 @@ pub fn comes(x: &[u8], y: &[u8]) -> bool
 
 // Whether these numbers are the sums of the row with these chunks.
 fn sums_agree(l1: usize, l2: usize, nc: usize, r: usize, chunks: &[u8], numbers: &[u16]) -> bool
-    requires { ⌜ (isLegal (layout l1 l2 nc r) ≡ true) × (Chunked (layout l1 l2 nc r) (now chunks) × (length (now numbers) ≡ l1 + l2)) ⌝ }
-    ensures { λ b. ⌜ b ≡ same (blockSums (layout l1 l2 nc r) (rowOf nc (now (chunks .entry))) ++ stringSums (layout l1 l2 nc r) (rowOf nc (now (chunks .entry)))) (now (numbers .entry)) ⌝ }
+    requires { ⌜ (isLegal (layout l1 l2 nc r) ≡ true)
+        × (Chunked (layout l1 l2 nc r) (now chunks) × (length (now numbers) ≡ l1 + l2)) ⌝ }
+    ensures { λ b. ⌜ b ≡ same (blockSums (layout l1 l2 nc r) (rowOf nc (now (chunks .entry)))
+        ++ stringSums (layout l1 l2 nc r) (rowOf nc (now (chunks .entry)))) (now (numbers .entry)) ⌝ }
 {
     let t = vt::weights();
     let mut k: usize = 0;
@@ -125,7 +129,8 @@ fn equal(values: &[u8], numbers: &[u16]) -> bool
 
 // Whether these numbers are the checks of the row with these chunks.
 fn checks_agree(l1: usize, l2: usize, nc: usize, r: usize, chunks: &[u8], numbers: &[u16]) -> bool
-    requires { ⌜ (isLegal (layout l1 l2 nc r) ≡ true) × (Chunked (layout l1 l2 nc r) (now chunks) × (length (now numbers) ≡ r)) ⌝ }
+    requires { ⌜ (isLegal (layout l1 l2 nc r) ≡ true)
+        × (Chunked (layout l1 l2 nc r) (now chunks) × (length (now numbers) ≡ r)) ⌝ }
     ensures { λ b. ⌜ b ≡ same (checks (layout l1 l2 nc r) (rowOf nc (now (chunks .entry)))) (now (numbers .entry)) ⌝ }
 {
     let mut values: [u8; 16] = [0; 16];
@@ -135,8 +140,10 @@ fn checks_agree(l1: usize, l2: usize, nc: usize, r: usize, chunks: &[u8], number
 
 // Whether these numbers, as they are read of a message, are the sums and the checks of the row with these chunks.
 fn chunks_agree(l1: usize, l2: usize, nc: usize, r: usize, chunks: &[u8], numbers: &[u16]) -> bool
-    requires { ⌜ (isLegal (layout l1 l2 nc r) ≡ true) × (Chunked (layout l1 l2 nc r) (now chunks) × (length (now numbers) ≡ l1 + l2 + r)) ⌝ }
-    ensures { λ b. ⌜ b ≡ same (blockSums (layout l1 l2 nc r) (rowOf nc (now (chunks .entry))) ++ stringSums (layout l1 l2 nc r) (rowOf nc (now (chunks .entry)))
+    requires { ⌜ (isLegal (layout l1 l2 nc r) ≡ true)
+        × (Chunked (layout l1 l2 nc r) (now chunks) × (length (now numbers) ≡ l1 + l2 + r)) ⌝ }
+    ensures { λ b. ⌜ b ≡ same (blockSums (layout l1 l2 nc r) (rowOf nc (now (chunks .entry)))
+        ++ stringSums (layout l1 l2 nc r) (rowOf nc (now (chunks .entry)))
         ++ checks (layout l1 l2 nc r) (rowOf nc (now (chunks .entry)))) (now (numbers .entry)) ⌝ }
 {
     let n = l1 + l2;
@@ -146,10 +153,13 @@ fn chunks_agree(l1: usize, l2: usize, nc: usize, r: usize, chunks: &[u8], number
     checks_agree(l1, l2, nc, r, chunks, &numbers[n..])
 }
 
-// Whether these numbers, as they are read of a message, are the sums and the checks of a row: the row yields that message.
+// Whether these numbers, as they are read of a message, are the sums and the checks of a row: the row yields that
+// message.
 fn agrees(l1: usize, l2: usize, nc: usize, r: usize, x: &[u8], numbers: &[u16]) -> bool
-    requires { ⌜ (isLegal (layout l1 l2 nc r) ≡ true) × (AllBits (now x) × ((length (now x) ≡ rowBits (layout l1 l2 nc r)) × (length (now numbers) ≡ l1 + l2 + r))) ⌝ }
-    ensures { λ b. ⌜ b ≡ same (blockSums (layout l1 l2 nc r) (now (x .entry)) ++ stringSums (layout l1 l2 nc r) (now (x .entry))
+    requires { ⌜ (isLegal (layout l1 l2 nc r) ≡ true) × (AllBits (now x)
+        × ((length (now x) ≡ rowBits (layout l1 l2 nc r)) × (length (now numbers) ≡ l1 + l2 + r))) ⌝ }
+    ensures { λ b. ⌜ b
+        ≡ same (blockSums (layout l1 l2 nc r) (now (x .entry)) ++ stringSums (layout l1 l2 nc r) (now (x .entry))
         ++ checks (layout l1 l2 nc r) (now (x .entry))) (now (numbers .entry)) ⌝ }
 {
     let mut values: [u8; 255] = [0; 255];
@@ -168,7 +178,8 @@ pub fn is_consistent(
     y: &[u8],
     numbers: &[u16],
 ) -> bool
-    requires { ⌜ (isLegal (layout l1 l2 nc r) ≡ true) × (AllBits (now x) × ((length (now x) ≡ rowBits (layout l1 l2 nc r)) × (length (now numbers) ≡ l1 + l2 + r))) ⌝ }
+    requires { ⌜ (isLegal (layout l1 l2 nc r) ≡ true) × (AllBits (now x)
+        × ((length (now x) ≡ rowBits (layout l1 l2 nc r)) × (length (now numbers) ≡ l1 + l2 + r))) ⌝ }
     ensures { λ b. ⌜ b ≡ candidate (layout l1 l2 nc r) (now (numbers .entry)) (now (y .entry)) (now (x .entry)) ⌝ }
 {
     if !comes(x, y) {

@@ -71,8 +71,10 @@ pub fn sum_of(
     chunks: &[u8],
     k: usize,
 ) -> usize
-    requires { ⌜ (now t ≡ weights) × ((isLegal (layout l1 l2 nc r) ≡ true) × (Chunked (layout l1 l2 nc r) (now chunks) × (k < l1 + l2))) ⌝ }
-    ensures { λ s. ⌜ s ≡ getD (blockSums (layout l1 l2 nc r) (rowOf nc (now (chunks .entry))) ++ stringSums (layout l1 l2 nc r) (rowOf nc (now (chunks .entry)))) k 0 ⌝ }
+    requires { ⌜ (now t ≡ weights) × ((isLegal (layout l1 l2 nc r) ≡ true)
+        × (Chunked (layout l1 l2 nc r) (now chunks) × (k < l1 + l2))) ⌝ }
+    ensures { λ s. ⌜ s ≡ getD (blockSums (layout l1 l2 nc r) (rowOf nc (now (chunks .entry)))
+        ++ stringSums (layout l1 l2 nc r) (rowOf nc (now (chunks .entry)))) k 0 ⌝ }
 {
     if k < l1 {
         return line_sum(t, nc, chunks, k * l2, 1, l2);
@@ -82,7 +84,8 @@ pub fn sum_of(
 
 // The checks of a row at the start of a slice, if there are any; what stands behind them is free.
 pub fn fill_checks(l1: usize, l2: usize, nc: usize, r: usize, chunks: &[u8], out: &mut [u8])
-    requires { ⌜ (isLegal (layout l1 l2 nc r) ≡ true) × (Chunked (layout l1 l2 nc r) (now chunks) × (r ≤ length (now out))) ⌝ }
+    requires { ⌜ (isLegal (layout l1 l2 nc r) ≡ true)
+        × (Chunked (layout l1 l2 nc r) (now chunks) × (r ≤ length (now out))) ⌝ }
     ensures { λ _. ⌜ take r (now (out .exit)) ≡ checks (layout l1 l2 nc r) (rowOf nc (now (chunks .entry))) ⌝ }
 {
     if r == 0 {

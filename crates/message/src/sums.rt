@@ -23,8 +23,10 @@ pub fn number_at(bits: &[u8], at: usize, k: usize) -> u8
 
 // The chunks of a row as numbers, in row order, at the start of a slice.
 pub fn fill_chunks(l1: usize, l2: usize, nc: usize, r: usize, row: &[u8], out: &mut [u8])
-    requires { ⌜ (isLegal (layout l1 l2 nc r) ≡ true) × (AllBits (now row) × ((length (now row) ≡ rowBits (layout l1 l2 nc r)) × (l1 * l2 ≤ length (now out)))) ⌝ }
-    ensures { λ _. ⌜ now (out .exit) ≡ map (number nc) (chunks (layout l1 l2 nc r) (now (row .entry))) ++ drop (l1 * l2) (now (out .entry)) ⌝ }
+    requires { ⌜ (isLegal (layout l1 l2 nc r) ≡ true) × (AllBits (now row)
+        × ((length (now row) ≡ rowBits (layout l1 l2 nc r)) × (l1 * l2 ≤ length (now out)))) ⌝ }
+    ensures { λ _. ⌜ now (out .exit)
+        ≡ map (number nc) (chunks (layout l1 l2 nc r) (now (row .entry))) ++ drop (l1 * l2) (now (out .entry)) ⌝ }
 {
     let n = l1 * l2;
     let mut i: usize = 0;
