@@ -142,7 +142,7 @@ fn read_on(l: Layout, y: &[u8], i: usize, end: u8, j: usize, row: &mut [u8]) -> 
         if y.len() < place + nc {
             return false;
         }
-        row[first + c] = message::sums::number_at(y, place, nc);
+        row[first + c] = message::chunks::number_at(y, place, nc);
         c += 1;
     }
     true
