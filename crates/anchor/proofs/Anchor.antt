@@ -13,7 +13,7 @@ use lib.Dec.{eqb, leb}
 use lib.ListN.{length, getD, take, drop, length-drop, length-map}
 use lib.Seq.{length-take-le, take-all, getD-take, getD-drop}
 use Rattle.bits.specs.Bits.{cut, number, bytesFor, unpack}
-use Rattle.bits.proofs.Laws.{lt-or-ge, both-left, both-right}
+use Rattle.bits.proofs.Laws.{lt-or-ge, both-left, both-right, number-take}
 use Rattle.field.specs.Field.{check}
 use Rattle.field.proofs.Double.{size-low}
 use Rattle.rows.specs.Held.{Held, Known}
@@ -22,9 +22,8 @@ use Rattle.rows.proofs.Held.{known-stays}
 use Rattle.rows.proofs.Slice.{length-cut}
 use Rattle.message.specs.Layout.{rowBits, chunks}
 use Rattle.message.specs.Message.{checks}
-use Rattle.message.specs.Read.{fields}
 use Rattle.message.specs.declared.Layout.{Layout}
-use Rattle.message.proofs.Cutting.{number-cut, each-number}
+use Rattle.message.proofs.Cutting.{each-number}
 use Rattle.message.proofs.Fields.{field-room}
 use Rattle.message.proofs.Legal.{Bounds, legal-bounds}
 use Rattle.consistent.specs.Consistent.{mostLosses}
@@ -41,11 +40,6 @@ use Rattle.anchor.specs.Anchor.{OwnCounts, LightInHand, BlockMost}
 use Rattle.anchor.proofs.Desk.{blocks-split}
 use Rattle.anchor.proofs.Over.{most-one, over-none, over-front, over-same, over-lost, weight-unlike}
 use Rattle.anchor.proofs.Totals.{total-next}
-
--- a number of k bits reads k bits
-number-take : (k : ℕ) (x : List ℕ) → number k (take k x) ≡ number k x
-unfolding cut fields
-number-take k x = ap (λ (v : List ℕ). getD v 0 0) (number-cut 1 k x)
 
 -- a consistent row under the first i counts of a pattern differs from the anchor in at most m chunks of the first b blocks
 abbrev pub Counted : Layout → (numbers y desk counts row : List ℕ) (i b m : ℕ) → Type 0

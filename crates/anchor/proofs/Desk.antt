@@ -197,9 +197,6 @@ module _ (l : Layout) (y vs old chunks s₀ s₁ s₂ s₃ : List ℕ) (few : l 
   room₁ : 1 + length chunks ≤ length s₀
   room₁ = omega arith
 
-  pub first-size : length s₁ ≡ length s₀
-  first-size = ap length put₁ ∙ put-length s₀ chunks 1 room₁
-
   chunk₁ : (c : ℕ) → c < l .l1 * l .l2 → getD s₁ (1 + c) 0 ≡ getD vs c 0
   chunk₁ c h =
       ap (λ (s : List ℕ). getD s (1 + c) 0) put₁

@@ -45,7 +45,7 @@ fn reads(nc: usize, y: &[u8], c: usize, t: usize, v: u8) -> bool
     if y.len() < from + nc {
         return true;
     }
-    message::sums::number_at(y, from, nc) == v
+    message::chunks::number_at(y, from, nc) == v
 }
 
 // For each number of losses before chunk c, up to k, how many more leave it v.
@@ -140,7 +140,7 @@ fn first_chunks(l: Layout, list: &[u8], out: &mut [u8])
     let w = (n + 7) / 8;
     let mut row: [u8; bits::LONGEST] = [0; bits::LONGEST];
     bits::unpack(&list[0..w], n, &mut row);
-    message::sums::fill_chunks(l.l1, l.l2, l.nc, l.r, &row[0..n], out);
+    message::chunks::fill_chunks(l.l1, l.l2, l.nc, l.r, &row[0..n], out);
 }
 
 // The desk prepared for the first row of the list slice.

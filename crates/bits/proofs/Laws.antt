@@ -10,7 +10,7 @@ use native.Mathlib.Omega.{arith}
 use borrow.Author.Tests.{ltb-true, ltb-false, eq-eqb, ne-eqb, eqb-true}
 use lib.Arith.{digits-lt, digits-div, mod-mul}
 use lib.Dec.{ltb, eqb}
-use lib.ListN.{length, getD, take, drop, length-append, List·getD-eq-default, drop-of-length-le}
+use lib.ListN.{length, getD, set, take, drop, length-append, List·getD-eq-default, drop-of-length-le}
 use lib.Pow.{pow-pos, pow-mono}
 use lib.Seq.{drop-cons}
 use Rattle.bits.specs.Bits.{AllBits, number, digits, unpack, same}
@@ -48,6 +48,12 @@ neither-left false b e = refl
 pub neither-right : (a b : Bool) → (a || b) ≡ false → b ≡ false
 neither-right true b e = absurd (true≢false e)
 neither-right false b e = e
+
+-- where a zero is set a zero stands, also beyond the end
+pub set-zero : (xs : List ℕ) (c : ℕ) → getD (set xs c 0) c 0 ≡ 0
+set-zero [] c = refl
+set-zero (x ∷ xs) zero = refl
+set-zero (x ∷ xs) (suc c) = set-zero xs c
 
 pub pow-next : (j : ℕ) → 2 ^ (j + 1) ≡ 2 ^ j * 2
 pow-next j = rw (add-one j) (pow-suc 2 j)
@@ -115,6 +121,13 @@ unfolding number
 number-lt zero x a = omega arith
 number-lt (suc k) [] a = pow-pos (suc k)
 number-lt (suc k) (b ∷ x) a = rw (pow-suc 2 k, mul-comm (2 ^ k) 2) (digits-lt (a .0) (number-lt k x (a .1)))
+
+-- it needs no more bits than it has digits
+pub number-take : (k : ℕ) (x : List ℕ) → number k (take k x) ≡ number k x
+unfolding number
+number-take zero x = refl
+number-take (suc k) [] = refl
+number-take (suc k) (b ∷ x) = ap (λ (n : ℕ). b * 2 ^ k + n) (number-take k x)
 
 -- a digit more, at the end of those that were read
 horner : (v b m n : ℕ) → (v * 2 + b) * 2 ^ m + n ≡ v * 2 ^ suc m + (b * 2 ^ m + n)

@@ -10,7 +10,7 @@ use Rattle.bits.specs.declared.Filler.{Filler}
 abbrev pub filled : Filler → List ℕ → List ℕ
 filled f out = unpack (take (f .at) out) ++ digits (f .count) (f .held)
 
--- fewer than eight bits are held, and no more
+-- fewer than eight bits are held, and the number held has no more digits than these
 abbrev pub Ready : Filler → Type 0
 Ready f = (f .count < 8) × (f .held < 2 ^ f .count)
 

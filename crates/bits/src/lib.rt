@@ -28,7 +28,9 @@ pub fn power(k: usize) -> usize
 // Elements copied to a place of a slice.
 pub fn copy_to(part: &[u8], out: &mut [u8], at: usize)
     requires { ⌜ at + length (now part) ≤ length (now out) ⌝ }
-    ensures { λ _. ⌜ now (out .exit) ≡ take at (now (out .entry)) ++ now (part .entry) ++ drop (at + length (now (part .entry))) (now (out .entry)) ⌝ }
+    ensures { λ _. ⌜ now (out .exit)
+        ≡ take at (now (out .entry)) ++ now (part .entry)
+        ++ drop (at + length (now (part .entry))) (now (out .entry)) ⌝ }
 {
     let mut i: usize = 0;
     while i < part.len() {
@@ -77,7 +79,9 @@ fn unpack_bytes(s: &[u8], n: usize, out: &mut [u8])
 // The bits of packed bytes from one place up to another, one byte a bit, at the same places of a slice.
 fn unpack_part(s: &[u8], from: usize, to: usize, out: &mut [u8])
     requires { ⌜ (from ≤ to) × ((to ≤ length (now s) * 8) × (to ≤ length (now out))) ⌝ }
-    ensures { λ _. ⌜ now (out .exit) ≡ take from (now (out .entry)) ++ take (to - from) (drop from (unpacked (now (s .entry)))) ++ drop (from + (to - from)) (now (out .entry)) ⌝ }
+    ensures { λ _. ⌜ now (out .exit)
+        ≡ take from (now (out .entry)) ++ take (to - from) (drop from (unpacked (now (s .entry))))
+        ++ drop (from + (to - from)) (now (out .entry)) ⌝ }
 {
     let n = to - from;
     let mut i: usize = 0;
@@ -142,8 +146,10 @@ fn pack_bytes(bits: &[u8], n: usize, out: &mut [u8])
 
 // A string, packed, at the start of a slice.
 pub fn pack(bits: &[u8], out: &mut [u8])
-    requires { ⌜ AllBits (now bits) × ((length (now bits) ≤ longest) × (bytesFor (length (now bits)) ≤ length (now out))) ⌝ }
-    ensures { λ _. ⌜ now (out .exit) ≡ packed (now (bits .entry)) ++ drop (bytesFor (length (now (bits .entry)))) (now (out .entry)) ⌝ }
+    requires { ⌜ AllBits (now bits)
+        × ((length (now bits) ≤ longest) × (bytesFor (length (now bits)) ≤ length (now out))) ⌝ }
+    ensures { λ _. ⌜ now (out .exit)
+        ≡ packed (now (bits .entry)) ++ drop (bytesFor (length (now (bits .entry)))) (now (out .entry)) ⌝ }
 {
     let n = bits.len() / 8;
     pack_bytes(bits, n, out);
@@ -178,7 +184,8 @@ pub fn byte_at(s: &[u8], i: usize) -> usize
     if i < s.len() { wide(s[i]) } else { 0 }
 }
 
-// Three bytes from a place on, as a number: a field of up to 16 bits lies in them, wherever its first bit stands in the first.
+// Three bytes from a place on, as a number: a field of up to 16 bits lies in them, wherever its first bit stands in the
+// first.
 fn three_bytes(s: &[u8], i: usize) -> usize
     requires { ⌜ i ≤ 4096 ⌝ }
     ensures { λ r. ⌜ (r ≡ number 24 (drop (i * 8) (unpacked (now (s .entry))))) × (r < 2 ^ 24) ⌝ }
@@ -221,7 +228,9 @@ impl Filler {
     // The last bits in a byte of their own, with zeros behind them.
     pub fn end(self, out: &mut [u8])
         requires { ⌜ Ready self × (self .at * 8 + self .count ≤ length (now out) * 8) ⌝ }
-        ensures { λ _. ⌜ now (out .exit) ≡ packed (filled self (now (out .entry))) ++ drop (bytesFor (self .at * 8 + self .count)) (now (out .entry)) ⌝ }
+        ensures { λ _. ⌜ now (out .exit)
+            ≡ packed (filled self (now (out .entry)))
+            ++ drop (bytesFor (self .at * 8 + self .count)) (now (out .entry)) ⌝ }
     {
         let at = self.at;
         let count = self.count;
@@ -246,7 +255,8 @@ impl BitCursor {
     // The next k bits of packed bytes as a number, and the cursor after them.
     pub fn take(self, s: &[u8], k: usize) -> Field
         requires { ⌜ (k ≤ 16) × ((length (now s) ≤ 4096) × (self .at + k ≤ length (now s) * 8)) ⌝ }
-        ensures { λ r. ⌜ (r .value ≡ number k (drop (self .at) (unpacked (now (s .entry))))) × (r .next .at ≡ self .at + k) ⌝ }
+        ensures { λ r. ⌜ (r .value ≡ number k (drop (self .at) (unpacked (now (s .entry)))))
+            × (r .next .at ≡ self .at + k) ⌝ }
     {
         let at = self.at;
         let held = three_bytes(s, at / 8);

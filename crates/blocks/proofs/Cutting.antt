@@ -3,7 +3,7 @@
 use Prim.Native.Nat.{ℕ, zero, suc, _+_, _-_, _*_, _^_, _<_, _≤_}
 use mathlib.Core.Path.{_≡_, refl, sym, ap, ap₂, _∙_}
 use mathlib.Core.Bool.{Bool, true, false, cond, false≢true}
-use mathlib.Core.List.{List, [], _∷_}
+use mathlib.Core.List.{List}
 use mathlib.Core.Logic.{_⊎_, inl, inr, ⊎-elim}
 use native.Mathlib.Decide.{ℕ-discrete}
 use native.Mathlib.Nat.{mul-one}
@@ -15,7 +15,7 @@ use lib.Dec.{eqb}
 use lib.ListN.{length, getD, set, drop, length-drop, length-set}
 use lib.Seq.{getD-set-same, getD-set-other}
 use Rattle.bits.specs.Bits.{digits}
-use Rattle.bits.proofs.Laws.{length-digits}
+use Rattle.bits.proofs.Laws.{length-digits, set-zero}
 use Rattle.vt.specs.Sum.{total}
 use Rattle.message.specs.declared.Layout.{Layout}
 use Rattle.consistent.specs.Greedy.{losses}
@@ -28,12 +28,6 @@ use Rattle.weigh.specs.Weigh.{Can, brought}
 use Rattle.weigh.specs.declared.Chunks.{Chunks}
 use Rattle.blocks.specs.Blocks.{isIn, bare, Longer, Lose, ownOf, blockTotal, CutOut}
 use Rattle.blocks.specs.declared.Cut.{Cut}
-
--- where a zero is set a zero stands, also beyond the end
-set-zero : (xs : List ℕ) (c : ℕ) → getD (set xs c 0) c 0 ≡ 0
-set-zero [] c = refl
-set-zero (x ∷ xs) zero = refl
-set-zero (x ∷ xs) (suc c) = set-zero xs c
 
 -- what chunks bring depends on their blocks and their numbers alone
 brought-same : (nc : ℕ) (a b : Chunks) (us vs : ℕ → ℕ) (n : ℕ)

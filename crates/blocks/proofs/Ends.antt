@@ -12,7 +12,7 @@ use Rattle.vt.specs.Sum.{sum}
 use Rattle.message.specs.declared.Layout.{Layout}
 use Rattle.lines.specs.Lines.{line}
 use Rattle.lines.proofs.Lines.{line-same}
-use Rattle.column.proofs.Zeros.{line-sum}
+use Rattle.lines.proofs.Turns.{sum-of-total}
 use Rattle.cells.specs.declared.Cells.{Cells}
 use Rattle.weigh.specs.Weigh.{brought}
 use Rattle.blocks.specs.Blocks.{bare, ownOf, blockTotal, CutOut, ReadOn, Ended}
@@ -48,8 +48,8 @@ module _ {l : Layout} {y numbers : List ℕ} {cells : Cells} {row : List ℕ} {i
   ended-brings cut c =
       let m : ℕ = l .l2 * l .nc + 1 in
       let b : ℕ = brought (l .nc) (cut .chunks) (ownOf l i cut vs) (cut .chunks .n) in
-      ap (λ (n : ℕ). (n + b) % m) (ap sum bare-line ∙ line-sum (l .nc) (i * l .l2) 1 (l .l2) (bare l cells i 12 vs))
+      ap (λ (n : ℕ). (n + b) % m) (ap sum bare-line ∙ sym (sum-of-total (l .nc) (i * l .l2) 1 (l .l2) (bare l cells i 12 vs)))
       ∙ mod-add-mod (blockTotal l i (bare l cells i 12 vs)) m b
       ∙ ap (λ (n : ℕ). n % m) (c .whole vs)
-      ∙ sym (line-sum (l .nc) (i * l .l2) 1 (l .l2) vs)
+      ∙ sum-of-total (l .nc) (i * l .l2) 1 (l .l2) vs
       ∙ e .has-sum

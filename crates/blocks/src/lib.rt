@@ -31,8 +31,8 @@ fn is_in(cells: Cells, i: usize, z: usize) -> bool
     cells.block[z] as usize == i
 }
 
-// Chunks that cannot be weighed.
-fn too_many(chunks: weigh::Chunks) -> Cut
+// Chunks that are not weighed: too many, or not in ascending columns.
+fn not_weighed(chunks: weigh::Chunks) -> Cut
     ensures { λ r. ⌜ r .ok ≡ false ⌝ }
 {
     Cut {
@@ -51,10 +51,10 @@ fn with_chunk(cut: Cut, j: u8, place: usize, lost: u8) -> Cut
     let column = bits::wide(j);
     let next = cut.next;
     if weigh::MOST <= n {
-        return too_many(old);
+        return not_weighed(old);
     }
     if column < next {
-        return too_many(old);
+        return not_weighed(old);
     }
     let mut block = old.block;
     block[n] = j;
@@ -77,8 +77,10 @@ fn with_chunk(cut: Cut, j: u8, place: usize, lost: u8) -> Cut
 
 // Cell z cut out of a row, in which a zero is left for it, if it is open and stands in block i.
 fn cut_cell(l: Layout, y: &[u8], cells: Cells, i: usize, z: usize, cut: Cut, row: &mut [u8]) -> Cut
-    requires { ⌜ ((legal l ≡ true) × (i < l .l1)) × (Placed l (length (now y)) cells × ((z < 12) × (length (now row) ≡ 255))) ⌝ }
-    ensures { λ r. ⌜ (length (now (row .exit)) ≡ length (now (row .entry))) × (r .ok ≡ true → CutOut l (now (y .entry)) cells i z cut
+    requires { ⌜ ((legal l ≡ true) × (i < l .l1))
+        × (Placed l (length (now y)) cells × ((z < 12) × (length (now row) ≡ 255))) ⌝ }
+    ensures { λ r. ⌜ (length (now (row .exit)) ≡ length (now (row .entry)))
+        × (r .ok ≡ true → CutOut l (now (y .entry)) cells i z cut
         → CutOut l (now (y .entry)) cells i (z + 1) r
         × ((vs : List ℕ) → now (row .entry) ≡ bare l cells i z vs → now (row .exit) ≡ bare l cells i (z + 1) vs)) ⌝ }
 {
@@ -94,7 +96,8 @@ fn cut_cell(l: Layout, y: &[u8], cells: Cells, i: usize, z: usize, cut: Cut, row
 // The open cells of block i cut out of a row, in which a zero is left for each.
 fn cut_out(l: Layout, y: &[u8], cells: Cells, i: usize, row: &mut [u8]) -> Cut
     requires { ⌜ (legal l ≡ true) × ((i < l .l1) × (Placed l (length (now y)) cells × (length (now row) ≡ 255))) ⌝ }
-    ensures { λ r. ⌜ (r .ok ≡ true → CutOut l (now (y .entry)) cells i 12 r × (now (row .exit) ≡ bare l cells i 12 (now (row .entry)))) ⌝ }
+    ensures { λ r. ⌜ (r .ok ≡ true
+        → CutOut l (now (y .entry)) cells i 12 r × (now (row .exit) ≡ bare l cells i 12 (now (row .entry)))) ⌝ }
 {
     let none = weigh::Chunks {
         n: 0,
@@ -118,9 +121,11 @@ fn cut_out(l: Layout, y: &[u8], cells: Cells, i: usize, row: &mut [u8]) -> Cut
     cut
 }
 
-// The chunks of block i from column j on as they are read where no loss of the block is left, in a row; whether they are there.
+// The chunks of block i from column j on as they are read where no loss of the block is left, in a row; whether they are
+// there.
 fn read_on(l: Layout, y: &[u8], i: usize, end: u8, j: usize, row: &mut [u8]) -> bool
-    requires { ⌜ (legal l ≡ true) × (AllBits (now y) × ((length (now y) ≤ longest) × ((i < l .l1) × (length (now row) ≡ 255)))) ⌝ }
+    requires { ⌜ (legal l ≡ true)
+        × (AllBits (now y) × ((length (now y) ≤ longest) × ((i < l .l1) × (length (now row) ≡ 255)))) ⌝ }
     ensures { λ r. ⌜ ReadOn l (now (y .entry)) i end j (now (row .entry)) (now (row .exit)) r ⌝ }
 {
     let columns = l.l2;
@@ -137,7 +142,7 @@ fn read_on(l: Layout, y: &[u8], i: usize, end: u8, j: usize, row: &mut [u8]) -> 
         if y.len() < place + nc {
             return false;
         }
-        row[first + c] = message::sums::number_at(y, place, nc);
+        row[first + c] = message::chunks::number_at(y, place, nc);
         c += 1;
     }
     true
@@ -157,9 +162,12 @@ pub fn can_end(
     end: u8,
     j: usize,
 ) -> bool
-    requires { ⌜ ((legal l ≡ true) × (AllBits (now y) × (length (now y) ≤ longest))) × (Tables (now y) 0 (now totals) (now counts)
-        × (Placed l (length (now y)) cells × ((i < l .l1) × ((i < length (now numbers)) × (getD (now numbers) i 0 ≤ l .l2 * l .nc))))) ⌝ }
-    ensures { λ r. ⌜ ((vs : List ℕ) → Ended l (now (y .entry)) (now (numbers .entry)) cells row i end j vs → r ≡ true) ⌝ }
+    requires { ⌜ ((legal l ≡ true) × (AllBits (now y) × (length (now y) ≤ longest)))
+        × (Tables (now y) 0 (now totals) (now counts)
+        × (Placed l (length (now y)) cells × ((i < l .l1)
+        × ((i < length (now numbers)) × (getD (now numbers) i 0 ≤ l .l2 * l .nc))))) ⌝ }
+    ensures { λ r. ⌜ ((vs : List ℕ)
+        → Ended l (now (y .entry)) (now (numbers .entry)) cells row i end j vs → r ≡ true) ⌝ }
 {
     let mut out = row;
     if !read_on(l, y, i, end, j, &mut out) {

@@ -1,18 +1,18 @@
 -- The rows under a state: what is known of a block or a chunk-string by the losses that are still open in it, and what a cell
 -- that is found changes. Assumes nothing.
-use Prim.Native.Nat.{ℕ, zero, suc, _+_, _*_, _/_, _%_, _<_}
+use Prim.Native.Nat.{ℕ, _+_, _*_, _<_}
 use mathlib.Core.Path.{_≡_, refl, sym, ap, _∙_}
 use mathlib.Core.Bool.{Bool, true, false}
 use mathlib.Core.Logic.{_⊎_, inl, inr, ⊎-elim}
-use mathlib.Core.List.{List, [], _∷_}
+use mathlib.Core.List.{List}
 use native.Mathlib.Nat.{mul-one, add-comm}
 use native.Mathlib.Omega.{arith}
 use borrow.Author.Tests.{eqb-true, eqb-false}
-use lib.Arith.{digits-div, digits-mod}
 use lib.Dec.{eqb}
 use lib.ListN.{length, getD, drop, set}
 use lib.Seq.{getD-set-same, getD-set-other}
 use Rattle.bits.specs.Bits.{digits}
+use Rattle.bits.proofs.Laws.{set-zero}
 use Rattle.message.specs.Layout.{legal}
 use Rattle.message.specs.declared.Layout.{Layout}
 use Rattle.message.proofs.Fields.{field-room}
@@ -30,13 +30,6 @@ same-or-not a b = go (eqb a b) refl
     go : (t : Bool) → eqb a b ≡ t → (a ≡ b) ⊎ (a ≡ b → ⊥)
     go true e = inl (eqb-true a b e)
     go false e = inr (eqb-false a b e)
-
--- block and column say which chunk it is
-pub same-chunk : (n i j k m : ℕ) → j < n → m < n → i * n + j ≡ k * n + m → (i ≡ k) × (j ≡ m)
-same-chunk n i j k m h g e = (
-  sym (digits-div i h) ∙ ap (λ (c : ℕ). c / n) e ∙ digits-div k g,
-  sym (digits-mod i h) ∙ ap (λ (c : ℕ). c % n) e ∙ digits-mod k g,
-)
 
 -- chunk j of block i, counted in row order, is one of at most 255
 pub chunk-low : (l : Layout) → legal l ≡ true → (i j : ℕ) → i < l .l1 → j < l .l2 → i * l .l2 + j < 255
@@ -57,16 +50,11 @@ module _ (cells : Cells) (keys : List ℕ) (n : length keys ≡ 12) where
       others = share-one keys (cells .lost) (getD keys z 0) (s .alone) z (omega arith) refl (omega (arith, s .one)) .1
 
 -- ---- a cell that is found
-found-lost : (lost : List ℕ) (z : ℕ) → getD (set lost z 0) z 0 ≡ 0
-found-lost [] z = refl
-found-lost (a ∷ lost) zero = refl
-found-lost (a ∷ lost) (suc z) = found-lost lost z
-
 module _ (cells : Cells) (z w : ℕ) where
   -- a cell that is open afterwards is another, which was open before
   pub open-before : Open (found cells z) w → (w ≡ z → ⊥) × Open cells w
   open-before o =
-      let n : (w ≡ z → ⊥) = λ e. absurd (omega (arith, rw e at (o .1), found-lost (cells .lost) z)) in
+      let n : (w ≡ z → ⊥) = λ e. absurd (omega (arith, rw e at (o .1), set-zero (cells .lost) z)) in
       (n, (o .0, rw (getD-set-other (cells .lost) z w 0 0 n) at (o .1)))
 
   -- and every other that was open still is, with its losses

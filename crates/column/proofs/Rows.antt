@@ -19,7 +19,8 @@ use Rattle.weigh.specs.declared.Chunks.{Chunks}
 use Rattle.weigh.specs.Weigh.{Can, brought}
 use Rattle.column.specs.Column.{Fit, chunkAt, filled, Light, Crosses, readable, Placed, AsRead}
 use Rattle.column.specs.declared.Heavy.{Heavy}
-use Rattle.column.proofs.Zeros.{whole-sum, sum-low}
+use Rattle.lines.proofs.Turns.{sum-low}
+use Rattle.column.proofs.Zeros.{whole-sum}
 
 -- where a chunk of a layout stands
 pub chunk-stands : (l : Layout) → legal l ≡ true → (i j : ℕ) → i < l .l1 → j < l .l2

@@ -2,43 +2,27 @@
 -- total, since a line's total changes just by what a changed chunk brings. Assumes nothing.
 use Prim.Native.Nat.{ℕ, zero, suc, _+_, _*_, _%_, _<_, _≤_}
 use mathlib.Core.Path.{_≡_, refl, sym, ap, _∙_}
-use mathlib.Core.List.{List, [], _∷_}
+use mathlib.Core.List.{List}
 use mathlib.Core.Logic.{⊎-elim}
 use native.Mathlib.Decide.{ℕ-discrete}
-use native.Mathlib.Nat.{mod-add-mod, mod-lt, add-comm}
+use native.Mathlib.Nat.{mod-add-mod, add-comm}
 use native.Mathlib.Omega.{arith}
 use lib.ListN.{getD, set, length}
 use lib.Seq.{getD-set-other}
 use Rattle.bits.specs.Bits.{digits}
-use Rattle.bits.proofs.Laws.{lt-or-ge}
+use Rattle.bits.proofs.Laws.{lt-or-ge, set-zero}
 use Rattle.vt.specs.Sum.{total, sum}
 use Rattle.message.specs.declared.Layout.{Layout}
 use Rattle.message.proofs.Fields.{field-room}
 use Rattle.lines.specs.Lines.{line}
-use Rattle.lines.proofs.Lines.{length-line, line-same}
+use Rattle.lines.proofs.Lines.{line-same}
 use Rattle.lines.proofs.Parts.{total-zero, total-but}
+use Rattle.lines.proofs.Turns.{sum-of-total}
+pub use Rattle.lines.proofs.Turns.{sum-low}
 use Rattle.weigh.specs.declared.Chunks.{Chunks}
 use Rattle.weigh.specs.Weigh.{brought}
 use Rattle.column.specs.Column.{Fit, chunkAt, filled}
 use Rattle.column.specs.declared.Heavy.{Heavy}
-
--- where a zero is set a zero stands, also beyond the end
-set-zero : (xs : List ℕ) (c : ℕ) → getD (set xs c 0) c 0 ≡ 0
-set-zero [] c = refl
-set-zero (x ∷ xs) zero = refl
-set-zero (x ∷ xs) (suc c) = set-zero xs c
-
--- the sum of a line is its total, modulo its length and one
-pub line-sum : (nc start stride count : ℕ) (us : List ℕ)
-    → sum (line nc start stride count us) ≡ total 1 (line nc start stride count us) % (count * nc + 1)
-unfolding sum
-line-sum nc start stride count us =
-    ap (λ (n : ℕ). total 1 (line nc start stride count us) % (n + 1)) (length-line nc start stride count us)
-
--- and is below that
-pub sum-low : (nc start stride count : ℕ) (us : List ℕ) → sum (line nc start stride count us) < count * nc + 1
-sum-low nc start stride count us =
-    rw (line-sum nc start stride count us) (mod-lt (total 1 (line nc start stride count us)) (omega arith))
 
 -- ---- the chunks of the heavy blocks as zeros
 module _ (l : Layout) (heavy : Heavy) (j : ℕ) where
@@ -139,10 +123,10 @@ module _ (l : Layout) (heavy : Heavy) (j : ℕ) where
           let m : ℕ = l .l1 * l .nc + 1 in
           let b : ℕ = brought (l .nc) chunks own (heavy .n) in
           let e = line-same (l .nc) j (l .l2) (l .l1) (zeros (heavy .n) row) (zeros (heavy .n) vs) alike in
-          ap (λ (v : ℕ). (v + b) % m) (ap sum e ∙ line-sum (l .nc) j (l .l2) (l .l1) (zeros (heavy .n) vs))
+          ap (λ (v : ℕ). (v + b) % m) (ap sum e ∙ sym (sum-of-total (l .nc) j (l .l2) (l .l1) (zeros (heavy .n) vs)))
           ∙ mod-add-mod (whole (zeros (heavy .n) vs)) m b
           ∙ ap (λ (v : ℕ). v % m) (makes-up (heavy .n) (omega arith))
-          ∙ sym (line-sum (l .nc) j (l .l2) (l .l1) vs)
+          ∙ sum-of-total (l .nc) j (l .l2) (l .l1) vs
         where
           alike : (i : ℕ) → i < l .l1
               → getD (zeros (heavy .n) row) (j + i * l .l2) 0 ≡ getD (zeros (heavy .n) vs) (j + i * l .l2) 0

@@ -172,7 +172,7 @@ pub fn other(nc: usize, y: &[u8], at: usize, lost: u8, v: u8) -> u8
     if 0 < lost {
         return 1;
     }
-    if message::sums::number_at(y, at, nc) == v {
+    if message::chunks::number_at(y, at, nc) == v {
         return 0;
     }
     1

@@ -1,20 +1,19 @@
 -- Greedy matching one bit, and one piece, at a time. Assumes nothing.
-use Prim.Native.Nat.{ℕ, suc, _+_, _-_, _*_, _<_, _≤_}
-use mathlib.Core.Path.{_≡_, refl, sym, ap, ap₂, _∙_}
-use mathlib.Core.Bool.{Bool, true, false, _&&_}
+use Prim.Native.Nat.{ℕ, _+_, _-_, _<_, _≤_}
+use mathlib.Core.Path.{_≡_, refl, sym, ap, _∙_}
+use mathlib.Core.Bool.{true, false}
 use mathlib.Core.List.{List, [], _∷_, _++_}
-use native.Mathlib.Nat.{add-mul, one-mul, sub-zero}
+use native.Mathlib.Nat.{sub-zero}
 use native.Mathlib.Numerals.{add-one}
 use native.Mathlib.Omega.{arith}
 use borrow.Author.Tests.{eq-eqb, ne-eqb, eqb-true}
 use borrow.Rule.Slice.PartAt.{part-to-end}
 use lib.Dec.{eqb}
 use lib.ListN.{length, getD, take, drop, drop-of-length-le, take-append-drop, length-drop}
-use lib.Seq.{drop-cons, drop-drop, length-take-le}
-use Rattle.bits.specs.Bits.{same, cut}
+use lib.Seq.{drop-cons, drop-drop}
 use Rattle.bits.proofs.Laws.{both-ways}
 use Rattle.rows.specs.Deletion.{comesFrom}
-use Rattle.consistent.specs.Greedy.{eat, losses, table, used}
+use Rattle.consistent.specs.Greedy.{eat, losses}
 use Rattle.consistent.proofs.Greedy.{eat-append, losses-append, comes-eat, eat-comes, piece, reads-whole}
 
 -- ---- one bit
@@ -82,59 +81,3 @@ piece-eaten x y i e at r h k f =
       omega (arith, g .0, length-drop at y),
       sym (ap (λ (t : List ℕ). eat t (drop at y)) d ∙ eat-append p (drop e x) (drop at y) ∙ ap (eat (drop e x)) (g .1 ∙ drop-drop r at y)),
     )
-
--- ---- piece by piece
--- the pieces of x lose these counts against y, and y is used up
-abbrev pub loseAll : (n w : ℕ) (x y counts : List ℕ) → Bool
-loseAll n w x y counts = same (table (cut n w x) y) counts && used x y
-
-used-rest : (w : ℕ) (x y : List ℕ) → used x y ≡ used (drop w x) (eat (take w x) y)
-unfolding used
-used-rest w x y = ap (λ (t : List ℕ). eqb (length t) 0) (ap (λ (t : List ℕ). eat t y) (sym (take-append-drop w x)) ∙ eat-append (take w x) (drop w x) y)
-
--- a piece that loses its count leaves the rest to be looked at
-pub loses-next : (n w c : ℕ) (x y counts : List ℕ) → losses (take w x) y ≡ c → loseAll n w (drop w x) (eat (take w x) y) counts ≡ loseAll (suc n) w x y (c ∷ counts)
-unfolding cut table same
-loses-next n w c x y counts e =
-    rw (eq-eqb (losses (take w x) y) c e) (ap (λ (u : Bool). same (table (cut n w (drop w x)) (eat (take w x) y)) counts && u) (sym (used-rest w x y)))
-
--- a piece that loses another settles it
-pub loses-stop : (n w c : ℕ) (x y counts : List ℕ) → (losses (take w x) y ≡ c → ⊥) → false ≡ loseAll (suc n) w x y (c ∷ counts)
-unfolding cut table same
-loses-stop n w c x y counts k = rw (ne-eqb (losses (take w x) y) c k) refl
-
--- piece i, against what the earlier pieces left of y, which is y from place at on
-module _ (x y counts : List ℕ) (n w i at r : ℕ) (h : i < n) (k : length counts ≡ n) where
-  -- what is to be looked at from piece i on, taken apart
-  apart : loseAll (n - i) w (drop (i * w) x) (drop at y) (drop i counts) ≡ loseAll (suc (n - (i + 1))) w (drop (i * w) x) (drop at y) (getD counts i 0 ∷ drop (i + 1) counts)
-  apart =
-      let e : n - i ≡ suc (n - (i + 1)) = omega arith in
-      ap₂ (λ (m : ℕ) (c : List ℕ). loseAll m w (drop (i * w) x) (drop at y) c) e (rw (add-one i) (drop-cons counts i 0 (omega arith)))
-
-  pub piece-next : eat (take w (drop (i * w) x)) (drop at y) ≡ drop r (drop at y) → losses (take w (drop (i * w) x)) (drop at y) ≡ getD counts i 0
-      → loseAll (n - (i + 1)) w (drop ((i + 1) * w) x) (drop (at + r) y) (drop (i + 1) counts) ≡ loseAll (n - i) w (drop (i * w) x) (drop at y) (drop i counts)
-  piece-next e l =
-      let f : drop w (drop (i * w) x) ≡ drop ((i + 1) * w) x = drop-drop w (i * w) x ∙ ap (λ (m : ℕ). drop m x) (sym (add-mul i 1 w ∙ ap (λ (m : ℕ). i * w + m) (one-mul w))) in
-      let g : eat (take w (drop (i * w) x)) (drop at y) ≡ drop (at + r) y = e ∙ drop-drop r at y in
-      sym (apart ∙ sym (loses-next (n - (i + 1)) w (getD counts i 0) (drop (i * w) x) (drop at y) (drop (i + 1) counts) l)
-      ∙ ap₂ (λ (s t : List ℕ). loseAll (n - (i + 1)) w s t (drop (i + 1) counts)) f g)
-
-  pub piece-stop : (losses (take w (drop (i * w) x)) (drop at y) ≡ getD counts i 0 → ⊥) → false ≡ loseAll (n - i) w (drop (i * w) x) (drop at y) (drop i counts)
-  piece-stop l = loses-stop (n - (i + 1)) w (getD counts i 0) (drop (i * w) x) (drop at y) (drop (i + 1) counts) l ∙ sym apart
-
--- past the last piece it is left to see whether y is used up
-pub pieces-end : (x y counts : List ℕ) (n w i at : ℕ) → n ≤ i → length x ≤ i * w → length counts ≤ i → loseAll (n - i) w (drop (i * w) x) (drop at y) (drop i counts) ≡ eqb (length y - at) 0
-unfolding cut table same used eat
-pieces-end x y counts n w i at h k l =
-    let e : n - i ≡ 0 = omega arith in
-    rw (e, drop-of-length-le x k, drop-of-length-le counts l, length-drop at y) refl
-
--- what matching finds of a piece, where the code has it and the rest of y as parts of their slices
-pub piece-found : (x y : List ℕ) (w i at r : ℕ) → i * w + w ≤ length x
-    → (r ≤ length (take (length y - at) (drop at y))) × ((eat (take (i * w + w - i * w) (drop (i * w) x)) (take (length y - at) (drop at y)) ≡ drop r (take (length y - at) (drop at y))) × (losses (take (i * w + w - i * w) (drop (i * w) x)) (take (length y - at) (drop at y)) + r ≡ length (take (i * w + w - i * w) (drop (i * w) x))))
-    → (r ≤ length y - at) × ((eat (take w (drop (i * w) x)) (drop at y) ≡ drop r (drop at y)) × (losses (take w (drop (i * w) x)) (drop at y) + r ≡ w))
-piece-found x y w i at r h f =
-    let e : i * w + w - i * w ≡ w = omega arith in
-    let n : length (take w (drop (i * w) x)) ≡ w = length-take-le w (drop (i * w) x) (simp length-drop (omega arith)) in
-    let g = rw (part-to-end y at, e, n, length-drop at y) at f in
-    g

@@ -1,10 +1,9 @@
 -- Greedy matching: a row is laid against the received row from the left, and each of its bits that equals the next received bit
 -- takes it. Whatever bits were deleted, this gives the row one loss count for each of its pieces, its own table.
 use Prim.Native.Nat.{ℕ, suc, _+_}
-use mathlib.Core.Bool.{Bool, cond}
+use mathlib.Core.Bool.{cond}
 use mathlib.Core.List.{List, [], _∷_}
 use lib.Dec.{eqb}
-use lib.ListN.{length}
 
 -- what is left of y when x takes it bit by bit from the left
 unfoldable pub eat : (x y : List ℕ) → List ℕ
@@ -28,8 +27,3 @@ table (p ∷ ps) y = losses p y ∷ table ps (eat p y)
 unfoldable pub inAll : List ℕ → ℕ
 inAll [] = 0
 inAll (a ∷ counts) = a + inAll counts
-
--- x takes all of y: y comes from x by deleting bits
-unfoldable pub used : (x y : List ℕ) → Bool
-unfolding eat
-used x y = eqb (length (eat x y)) 0

@@ -1,17 +1,17 @@
 // Which rows are consistent with a message and a received row, and the tests that a search makes of a candidate. Contracts cite
 // specs/Consistent.antt and specs/Greedy.antt; strings are unpacked, one byte a bit.
 ghost use mathlib.Core.Path.{_≡_};
-ghost use mathlib.Core.Bool.{true, _&&_};
+ghost use mathlib.Core.Bool.{true};
 ghost use mathlib.Core.List.{[], _∷_, _++_};
 ghost use Prim.Native.Nat.{_+_, _-_, _*_, _<_, _≤_};
 ghost use lib.ListN.{length, getD, take, drop};
-ghost use Rattle.bits.specs.Bits.{AllBits, same, cut};
+ghost use Rattle.bits.specs.Bits.{AllBits, same};
 ghost use Rattle.rows.specs.Deletion.{comesFrom};
 ghost use Rattle.message.specs.Chunks.{rowOf, Chunked};
 ghost use Rattle.message.specs.Layout.{layout, legal as isLegal, rowBits};
 ghost use Rattle.message.specs.Message.{blockSums, stringSums, checks};
 ghost use Rattle.consistent.specs.Consistent.{candidate};
-ghost use Rattle.consistent.specs.Greedy.{eat, losses, table, used};
+ghost use Rattle.consistent.specs.Greedy.{eat, losses};
 
 // The most bits that are compared at a time.
 const PIECE: usize = 64;
@@ -64,7 +64,8 @@ fn starts(p: &[u8], y: &[u8]) -> bool
 
 // How many bits of y a piece takes: all its own where it is the first bits of y.
 fn piece_taken(p: &[u8], y: &[u8]) -> usize
-    ensures { λ r. ⌜ (r ≤ length (now (y .entry))) × (eat (now (p .entry)) (now (y .entry)) ≡ drop r (now (y .entry))) ⌝ }
+    ensures { λ r. ⌜ (r ≤ length (now (y .entry)))
+        × (eat (now (p .entry)) (now (y .entry)) ≡ drop r (now (y .entry))) ⌝ }
 {
     if p.len() <= y.len() {
         if starts(p, y) {
@@ -76,7 +77,8 @@ fn piece_taken(p: &[u8], y: &[u8]) -> usize
 
 // Whether y comes from x by deleting bits, piece by piece.
 pub fn comes(x: &[u8], y: &[u8]) -> bool
-    ensures { λ r. ⌜ r ≡ comesFrom (now (x .entry)) (length (now (x .entry)) - length (now (y .entry))) (now (y .entry)) ⌝ }
+    ensures { λ r. ⌜ r
+        ≡ comesFrom (now (x .entry)) (length (now (x .entry)) - length (now (y .entry))) (now (y .entry)) ⌝ }
 {
     let mut at: usize = 0;
     let mut i: usize = 0;
@@ -91,34 +93,12 @@ pub fn comes(x: &[u8], y: &[u8]) -> bool
     at == y.len()
 }
 
-// Whether the pieces of w bits that x is cut into lose just these counts, one after another, and y is used up.
-pub fn loses(x: &[u8], w: usize, y: &[u8], counts: &[u8]) -> bool
-    requires { ⌜ length (now x) ≡ length (now counts) * w ⌝ }
-    ensures { λ r. ⌜ r ≡ (same (table (cut (length (now (counts .entry))) w (now (x .entry))) (now (y .entry))) (now (counts .entry))
-        && used (now (x .entry)) (now (y .entry))) ⌝ }
-{
-    let mut at: usize = 0;
-    let mut i: usize = 0;
-    while i < counts.len() {
-        let from = i * w;
-        let to = from + w;
-        let n = taken(&x[from..to], &y[at..]);
-        if w - n != bits::wide(counts[i]) {
-            return false;
-        }
-        at += n;
-        i += 1;
-    }
-    if at == y.len() {
-        return true;
-    }
-    false
-}
-
 // Whether these numbers are the sums of the row with these chunks.
 fn sums_agree(l1: usize, l2: usize, nc: usize, r: usize, chunks: &[u8], numbers: &[u16]) -> bool
-    requires { ⌜ (isLegal (layout l1 l2 nc r) ≡ true) × (Chunked (layout l1 l2 nc r) (now chunks) × (length (now numbers) ≡ l1 + l2)) ⌝ }
-    ensures { λ b. ⌜ b ≡ same (blockSums (layout l1 l2 nc r) (rowOf nc (now (chunks .entry))) ++ stringSums (layout l1 l2 nc r) (rowOf nc (now (chunks .entry)))) (now (numbers .entry)) ⌝ }
+    requires { ⌜ (isLegal (layout l1 l2 nc r) ≡ true)
+        × (Chunked (layout l1 l2 nc r) (now chunks) × (length (now numbers) ≡ l1 + l2)) ⌝ }
+    ensures { λ b. ⌜ b ≡ same (blockSums (layout l1 l2 nc r) (rowOf nc (now (chunks .entry)))
+        ++ stringSums (layout l1 l2 nc r) (rowOf nc (now (chunks .entry)))) (now (numbers .entry)) ⌝ }
 {
     let t = vt::weights();
     let mut k: usize = 0;
@@ -149,7 +129,8 @@ fn equal(values: &[u8], numbers: &[u16]) -> bool
 
 // Whether these numbers are the checks of the row with these chunks.
 fn checks_agree(l1: usize, l2: usize, nc: usize, r: usize, chunks: &[u8], numbers: &[u16]) -> bool
-    requires { ⌜ (isLegal (layout l1 l2 nc r) ≡ true) × (Chunked (layout l1 l2 nc r) (now chunks) × (length (now numbers) ≡ r)) ⌝ }
+    requires { ⌜ (isLegal (layout l1 l2 nc r) ≡ true)
+        × (Chunked (layout l1 l2 nc r) (now chunks) × (length (now numbers) ≡ r)) ⌝ }
     ensures { λ b. ⌜ b ≡ same (checks (layout l1 l2 nc r) (rowOf nc (now (chunks .entry)))) (now (numbers .entry)) ⌝ }
 {
     let mut values: [u8; 16] = [0; 16];
@@ -159,8 +140,10 @@ fn checks_agree(l1: usize, l2: usize, nc: usize, r: usize, chunks: &[u8], number
 
 // Whether these numbers, as they are read of a message, are the sums and the checks of the row with these chunks.
 fn chunks_agree(l1: usize, l2: usize, nc: usize, r: usize, chunks: &[u8], numbers: &[u16]) -> bool
-    requires { ⌜ (isLegal (layout l1 l2 nc r) ≡ true) × (Chunked (layout l1 l2 nc r) (now chunks) × (length (now numbers) ≡ l1 + l2 + r)) ⌝ }
-    ensures { λ b. ⌜ b ≡ same (blockSums (layout l1 l2 nc r) (rowOf nc (now (chunks .entry))) ++ stringSums (layout l1 l2 nc r) (rowOf nc (now (chunks .entry)))
+    requires { ⌜ (isLegal (layout l1 l2 nc r) ≡ true)
+        × (Chunked (layout l1 l2 nc r) (now chunks) × (length (now numbers) ≡ l1 + l2 + r)) ⌝ }
+    ensures { λ b. ⌜ b ≡ same (blockSums (layout l1 l2 nc r) (rowOf nc (now (chunks .entry)))
+        ++ stringSums (layout l1 l2 nc r) (rowOf nc (now (chunks .entry)))
         ++ checks (layout l1 l2 nc r) (rowOf nc (now (chunks .entry)))) (now (numbers .entry)) ⌝ }
 {
     let n = l1 + l2;
@@ -170,14 +153,17 @@ fn chunks_agree(l1: usize, l2: usize, nc: usize, r: usize, chunks: &[u8], number
     checks_agree(l1, l2, nc, r, chunks, &numbers[n..])
 }
 
-// Whether these numbers, as they are read of a message, are the sums and the checks of a row: the row yields that message.
+// Whether these numbers, as they are read of a message, are the sums and the checks of a row: the row yields that
+// message.
 fn agrees(l1: usize, l2: usize, nc: usize, r: usize, x: &[u8], numbers: &[u16]) -> bool
-    requires { ⌜ (isLegal (layout l1 l2 nc r) ≡ true) × (AllBits (now x) × ((length (now x) ≡ rowBits (layout l1 l2 nc r)) × (length (now numbers) ≡ l1 + l2 + r))) ⌝ }
-    ensures { λ b. ⌜ b ≡ same (blockSums (layout l1 l2 nc r) (now (x .entry)) ++ stringSums (layout l1 l2 nc r) (now (x .entry))
+    requires { ⌜ (isLegal (layout l1 l2 nc r) ≡ true) × (AllBits (now x)
+        × ((length (now x) ≡ rowBits (layout l1 l2 nc r)) × (length (now numbers) ≡ l1 + l2 + r))) ⌝ }
+    ensures { λ b. ⌜ b
+        ≡ same (blockSums (layout l1 l2 nc r) (now (x .entry)) ++ stringSums (layout l1 l2 nc r) (now (x .entry))
         ++ checks (layout l1 l2 nc r) (now (x .entry))) (now (numbers .entry)) ⌝ }
 {
     let mut values: [u8; 255] = [0; 255];
-    message::sums::fill_chunks(l1, l2, nc, r, x, &mut values);
+    message::chunks::fill_chunks(l1, l2, nc, r, x, &mut values);
     let n = l1 * l2;
     chunks_agree(l1, l2, nc, r, &values[0..n], numbers)
 }
@@ -192,7 +178,8 @@ pub fn is_consistent(
     y: &[u8],
     numbers: &[u16],
 ) -> bool
-    requires { ⌜ (isLegal (layout l1 l2 nc r) ≡ true) × (AllBits (now x) × ((length (now x) ≡ rowBits (layout l1 l2 nc r)) × (length (now numbers) ≡ l1 + l2 + r))) ⌝ }
+    requires { ⌜ (isLegal (layout l1 l2 nc r) ≡ true) × (AllBits (now x)
+        × ((length (now x) ≡ rowBits (layout l1 l2 nc r)) × (length (now numbers) ≡ l1 + l2 + r))) ⌝ }
     ensures { λ b. ⌜ b ≡ candidate (layout l1 l2 nc r) (now (numbers .entry)) (now (y .entry)) (now (x .entry)) ⌝ }
 {
     if !comes(x, y) {

@@ -26,9 +26,8 @@ fn weight(y: &[u8], totals: &[u32], counts: &[u16], p: usize, w: usize, before: 
         × ((p + w ≤ length (now y)) × (before ≤ longest))) ⌝ }
     ensures { λ r. ⌜ r ≡ total (before + 1) (take w (drop p (now (y .entry)))) ⌝ }
 {
-    let ones = (counts[p + w] - counts[p]) as usize;
-    let high = (totals[p + w] - totals[p]) as usize;
-    high - p * ones + before * ones
+    let seen = weigh::look(y, totals, counts, p, w);
+    seen.total + before * seen.ones
 }
 
 // What the chunk of a block in column j brings to the sum of its chunk-string, where it is read whole with e losses

@@ -37,7 +37,7 @@ fn read_apart(
     if y.len() < at + l.nc {
         return 0;
     }
-    if message::sums::number_at(y, at, l.nc) == z[c] {
+    if message::chunks::number_at(y, at, l.nc) == z[c] {
         return 0;
     }
     1

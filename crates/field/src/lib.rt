@@ -541,15 +541,6 @@ pub fn entry(t: &[u8; 498], nc: usize, e: usize) -> u8
     t[base + e]
 }
 
-// 2 to the power e.
-pub fn power_of(nc: usize, e: usize) -> u8
-    requires { ⌜ (3 ≤ nc) × (nc ≤ 8) × (e + 1 < 2 ^ nc) ⌝ }
-    ensures { λ r. ⌜ r ≡ power nc e ⌝ }
-{
-    let t = table();
-    entry(&t, nc, e)
-}
-
 // An exponent of the same power below 2 ^ nc - 1, from one below twice that.
 fn reduce(nc: usize, e: usize) -> usize
     requires { ⌜ (3 ≤ nc) × (nc ≤ 8) × (e + 2 < 2 * 2 ^ nc) ⌝ }
@@ -592,19 +583,6 @@ pub fn shift(t: &[u8; 498], nc: usize, logs: &[u8], e: usize, x: u8) -> u8
     }
     let d = log_of(nc, logs, x);
     entry(t, nc, reduce(nc, e + d))
-}
-
-// a times b.
-pub fn multiply(nc: usize, logs: &[u8], a: u8, b: u8) -> u8
-    requires { ⌜ (3 ≤ nc) × (nc ≤ 8) × Logs nc (now logs) × Element nc a × Element nc b ⌝ }
-    ensures { λ r. ⌜ r ≡ times nc a b ⌝ }
-{
-    if a == 0 {
-        return 0;
-    }
-    let e = log_of(nc, logs, a);
-    let t = table();
-    shift(&t, nc, logs, e, b)
 }
 
 // The exponent of an element: 2 ^ nc - 1 stands for that of 0, which has none.

@@ -137,11 +137,6 @@ grown-weaken f g =
     record { found = g .found; each = g .each; written = g .written; known = λ x s q. g .known x s (f x s q) }
 
 -- ---- a loop over the values of a choice
--- nothing is below the first value
-pub grown-first : {l : Layout} {numbers y : List ℕ} {cap : ℕ} {s : List ℕ} {c : ℕ} {m : Bool} {P : List ℕ → Type 0}
-    → Holding l numbers y cap s c m → (f : List ℕ → ℕ) → Grown l numbers y cap (λ x. P x × (f x < 0)) s c m s c m
-grown-first h f = grown-nothing h (λ x sent p. omega (arith, p .1))
-
 -- a turn: what is found at one value joins what was found below it
 pub grown-turn : {l : Layout} {numbers y : List ℕ} {cap : ℕ} {entry mid exit : List ℕ} {c d e : ℕ} {m o q : Bool}
     {P Q : List ℕ → Type 0} → Holding l numbers y cap entry c m → (f : List ℕ → ℕ) (v : ℕ)

@@ -1,5 +1,5 @@
 -- The laws of specs/, for the proofs of this crate and of the crates that stand on it.
 pub mod Lines
-mod Turns
+pub mod Turns
 pub mod Parts
 mod Lost

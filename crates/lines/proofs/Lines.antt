@@ -68,16 +68,6 @@ line-same nc start stride (suc n) us vs h =
 
 -- ---- the lines of a layout: they stand among 255 numbers
 module _ (l : Layout) (e : legal l ≡ true) (size : ℕ) (h : 255 ≤ size) where
-  pub row-inside : Inside (l .nc) 0 1 (l .l1 * l .l2) size
-  row-inside =
-      let z : Sizes l = sizes l (legal-bounds l e) in
-      record {
-        nc-high = legal-bounds l e .nc-high;
-        short = z .row;
-        stride-high = omega arith;
-        last = omega (arith, z .chunks, mul-one (l .l1 * l .l2));
-      }
-
   pub block-inside : (i : ℕ) → i < l .l1 → Inside (l .nc) (i * l .l2) 1 (l .l2) size
   block-inside i k =
       let z : Sizes l = sizes l (legal-bounds l e) in

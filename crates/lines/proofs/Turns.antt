@@ -1,15 +1,15 @@
 -- What the loops over a line ask: where its chunks stand, what a slice holds after a chunk more, and what a chunk adds to the
 -- total of the positions of the ones. Assumes nothing.
-use Prim.Native.Nat.{ℕ, zero, suc, _+_, _-_, _*_, _/_, _%_, _^_, _<_, _≤_}
+use Prim.Native.Nat.{ℕ, suc, _+_, _-_, _*_, _%_, _<_, _≤_}
 use mathlib.Core.Path.{_≡_, refl, sym, ap, _∙_}
-use mathlib.Core.List.{List, [], _∷_, _++_, append-assoc, append-nil}
-use native.Mathlib.Nat.{zero-mul, mul-le-mul, mul-le-mul-right, suc-mul, le-trans}
+use mathlib.Core.List.{List, _++_, append-assoc, append-nil}
+use native.Mathlib.Nat.{zero-mul, mul-le-mul, mul-le-mul-right, suc-mul, le-trans, mod-lt}
 use native.Mathlib.Omega.{arith}
 use lib.ListN.{length, getD, take, drop, length-append, take-append-drop}
 use lib.Seq.{length-take-le}
-use Rattle.bits.specs.Bits.{longest, number, digits}
+use Rattle.bits.specs.Bits.{longest, digits}
 use Rattle.bits.proofs.Copy.{part-next}
-use Rattle.bits.proofs.Laws.{bits-digits, digits-number, fill, length-digits, number-digits}
+use Rattle.bits.proofs.Laws.{length-digits}
 use Rattle.message.proofs.Fields.{field-room, field-step}
 use Rattle.message.proofs.Positions.{total-append, total-high}
 use Rattle.vt.specs.Sum.{total, sum}
@@ -61,18 +61,6 @@ spread-next nc start stride at t vs o p q h e f =
     f ∙ rw (e, part-next front d o (at + t * nc) nc n, field-step at nc t, line-end nc start stride t vs) (simp append-assoc)
 
 -- ---- the total of a line
--- a chunk is the last bits of its number
-fill-digits : (k v : ℕ) → fill k (digits k v) ≡ digits k v
-unfolding fill digits
-fill-digits zero v = refl
-fill-digits (suc k) v = ap (λ (x : List ℕ). v / 2 ^ k % 2 ∷ x) (fill-digits k v)
-
-pub digits-low : (k v : ℕ) → digits k (v % 2 ^ k) ≡ digits k v
-digits-low k v =
-    ap (digits k) (sym (number-digits k v []) ∙ ap (number k) (append-nil (digits k v)))
-    ∙ digits-number k (digits k v) (bits-digits k v)
-    ∙ fill-digits k v
-
 -- chunk t and the chunks behind it
 pub total-turn : (nc start stride count t : ℕ) (vs : List ℕ) → t < count
     → total (t * nc + 1) (line nc (start + t * stride) stride (count - t) vs)
@@ -106,8 +94,14 @@ total-most nc start stride count vs h =
     let l : List ℕ = line nc start stride count vs in
     le-trans (total-high 1 l (bits-line nc start stride count vs)) (rw (length-line nc start stride count vs) (mul-le-mul h more))
 
+-- the sum of a line is its total, modulo its length and one
 pub sum-of-total : (nc start stride count : ℕ) (vs : List ℕ)
     → total 1 (line nc start stride count vs) % (count * nc + 1) ≡ sum (line nc start stride count vs)
 unfolding sum
 sum-of-total nc start stride count vs =
     ap (λ (n : ℕ). total 1 (line nc start stride count vs) % (n + 1)) (sym (length-line nc start stride count vs))
+
+-- and is below that
+pub sum-low : (nc start stride count : ℕ) (vs : List ℕ) → sum (line nc start stride count vs) < count * nc + 1
+sum-low nc start stride count vs =
+    rw (← sum-of-total nc start stride count vs) (mod-lt (total 1 (line nc start stride count vs)) (omega arith))

@@ -103,7 +103,7 @@ fn put_back(nc: usize, whole: usize, bits: &[u8]) -> Mended
     vt::mend_bits(whole % (nc + 1), bits, &mut out);
     Mended {
         ok: true,
-        value: message::sums::number_at(&out[0..nc], 0, nc),
+        value: message::chunks::number_at(&out[0..nc], 0, nc),
     }
 }
 

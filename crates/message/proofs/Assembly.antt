@@ -14,7 +14,7 @@ use Rattle.bits.specs.Filling.{filled, Goes}
 use Rattle.bits.specs.declared.Filler.{Filler}
 use Rattle.bits.proofs.Filling.{drop-later, goes-then}
 use Rattle.bits.proofs.Laws.{bits-unpack, length-unpack}
-use Rattle.bits.proofs.Packing.{fits-length, length-string}
+use Rattle.bits.proofs.Packing.{fits-length}
 use Rattle.field.specs.Field.{Elements, check, Checks}
 use Rattle.message.specs.Chunks.{rowOf, Chunked}
 use Rattle.message.specs.Encoding.{FitAll}
@@ -153,9 +153,6 @@ held l p = take (rowBits l) (unpack p)
 module _ (l : Layout) (p o : List ℕ) (e : legal l ≡ true) (g : fits (rowBits l) p ≡ true) (room : messageBytes l ≤ length o) where
   pub enough : (rowBits l ≤ length p * 8) × (rowBits l ≤ longest)
   enough = let z = sizes l (legal-bounds l e) .row in (omega (arith, fits-length (rowBits l) p g), z)
-
-  pub length-held : length (held l p) ≡ rowBits l
-  length-held = length-string (rowBits l) p g
 
   -- the numbers of its chunks at the front of an array, lent
   module _ (q z : List ℕ) (h : q ≡ fields (l .l1 * l .l2) (l .nc) (unpack p) ++ z) where

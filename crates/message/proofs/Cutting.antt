@@ -1,6 +1,6 @@
 -- How a row is cut into blocks, chunks and chunk-strings: how many pieces there are, how long each is and where it stands; and
 -- which sums they have. Assumes nothing.
-use Prim.Native.Nat.{ℕ, zero, suc, _+_, _*_, _^_, _<_, _≤_}
+use Prim.Native.Nat.{ℕ, zero, suc, _+_, _*_, _<_, _≤_}
 use mathlib.Core.Path.{_≡_, refl, sym, ap, ap₂, _∙_}
 use mathlib.Core.List.{List, [], _∷_, _++_, flatMap, map}
 use native.Mathlib.Nat.{add-comm, add-zero, zero-add, zero-mul, suc-mul, mul-comm, mul-assoc}
@@ -10,7 +10,7 @@ use lib.ListN.{length, getD, take, drop, length-append, length-drop, length-map,
 use lib.Pow.{pow-pos}
 use lib.Seq.{drop-cons, drop-drop, take-take, length-take-le}
 use Rattle.bits.specs.Bits.{cut, AllBits, number}
-use Rattle.bits.proofs.Laws.{bits-take, bits-drop}
+use Rattle.bits.proofs.Laws.{bits-take, bits-drop, number-take}
 use Rattle.field.specs.Field.{Elements, check}
 use Rattle.vt.specs.Sum.{sum}
 use Rattle.message.specs.Encoding.{FitAll}
@@ -55,13 +55,6 @@ map-at f (x ∷ xs) (suc i) d e h = map-at f xs i d e (omega arith)
 -- what is made of each number from 0 on, by places
 pub each-number : (f : ℕ → ℕ) (n i : ℕ) → i < n → getD (map f (numbers 0 n)) i 0 ≡ f i
 each-number f n i h = map-at f (numbers 0 n) i 0 0 (omega (arith, length-numbers 0 n)) ∙ ap f (numbers-at 0 n i h ∙ zero-add i)
-
--- the number that bits spell needs no more of them than it has digits
-number-take : (k : ℕ) (x : List ℕ) → number k (take k x) ≡ number k x
-unfolding number
-number-take zero x = refl
-number-take (suc k) [] = refl
-number-take (suc k) (b ∷ x) = ap (λ (n : ℕ). b * 2 ^ k + n) (number-take k x)
 
 -- chunks as numbers are consecutive fields
 pub number-cut : (n k : ℕ) (x : List ℕ) → map (number k) (cut n k x) ≡ fields n k x

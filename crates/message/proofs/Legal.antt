@@ -37,10 +37,6 @@ legal-bounds l e =
       r-high = leb-true (l .r) 16 (both-right (leb 1 (l .l1) && leb 1 (l .l2) && leb 3 (l .nc) && leb (l .nc) 8 && leb (l .l1 * l .l2) (2 ^ l .nc - 1)) (leb (l .r) 16) e);
     }
 
-pub bounds-legal : (l : Layout) → Bounds l → legal l ≡ true
-unfolding legal
-bounds-legal l b = simp (le-leb 1 (l .l1) (b .l1-low), le-leb 1 (l .l2) (b .l2-low), le-leb 3 (l .nc) (b .nc-low), le-leb (l .nc) 8 (b .nc-high), le-leb (l .l1 * l .l2) (2 ^ l .nc - 1) (b .chunks-high), le-leb (l .r) 16 (b .r-high))
-
 -- a layout that breaks a bound is not legal
 pub illegal : (l : Layout) → (Bounds l → ⊥) → false ≡ legal l
 illegal l n = refuted (legal l) (λ e. n (legal-bounds l e))

@@ -10,7 +10,7 @@ use native.Mathlib.Omega.{arith}
 use lib.ListN.{length, getD, take, drop, length-append, length-drop}
 use lib.Pow.{pow-mono}
 use lib.Seq.{drop-cons, drop-nil, take-at, take-add, drop-at, drop-drop}
-use Rattle.bits.specs.Bits.{AllBits, digits}
+use Rattle.bits.specs.Bits.{digits}
 use Rattle.bits.proofs.Laws.{length-digits}
 use Rattle.vt.specs.Ones.{ones}
 use Rattle.vt.specs.Sum.{total, sum}
@@ -20,7 +20,7 @@ use Rattle.message.specs.Layout.{legal, rowBits, blockBits, stringBits, 
 use Rattle.message.specs.Message.{blockSums, stringSums}
 use Rattle.message.specs.declared.Layout.{Layout}
 use Rattle.message.proofs.Cutting.{joined-next, joined-end, length-blocks, chunk-at, block-sum-at, string-sum-at}
-use Rattle.message.proofs.Fields.{length-flat, bits-flat, field-room}
+use Rattle.message.proofs.Fields.{length-flat, field-room}
 
 -- ---- a chunk as a byte
 -- a number of nc bits has zeros before it where it is written in more
@@ -123,9 +123,6 @@ module _ (l : Layout) (cs : List ℕ) (e : Chunked l cs) where
   -- it has as many bits as it should
   pub row-length : length row ≡ rowBits l
   row-length = length-flat (l .nc) cs ∙ ap (λ (n : ℕ). n * l .nc) (e .0)
-
-  pub row-bits : AllBits row
-  row-bits = bits-flat (l .nc) cs
 
   pub block-line : (i : ℕ) → i < l .l1 → sum (rowOf (l .nc) (picked (i * l .l2) 1 (l .l2) cs)) ≡ getD (blockSums l row) i 0
   block-line i h =

@@ -1,12 +1,10 @@
 -- The total of the positions of the ones: of a string in parts, from a bit on, and how high it and the sum are. Assumes nothing.
-use Prim.Native.Nat.{ℕ, suc, _+_, _*_, _<_, _≤_}
-use mathlib.Core.Path.{_≡_, refl}
+use Prim.Native.Nat.{ℕ, suc, _+_, _*_, _≤_}
+use mathlib.Core.Path.{_≡_}
 use mathlib.Core.List.{List, [], _∷_, _++_}
-use native.Mathlib.Nat.{add-suc, suc-mul, mod-lt}
-use native.Mathlib.Numerals.{add-one}
+use native.Mathlib.Nat.{suc-mul, mod-lt}
 use native.Mathlib.Omega.{arith}
-use lib.ListN.{length, getD, drop}
-use lib.Seq.{drop-cons}
+use lib.ListN.{length}
 use Rattle.bits.specs.Bits.{AllBits}
 use Rattle.vt.specs.Sum.{total, sum}
 use Rattle.vt.proofs.Totals.{times-bit}
@@ -22,11 +20,6 @@ total-high i (b ∷ x) a =
     let e : suc i + length x ≡ i + suc (length x) = omega arith in
     let h = rw e at (total-high (suc i) x (a .1)) in
     omega (arith, h, times-bit i b (a .0), suc-mul (length x) (i + suc (length x)))
-
--- the total from bit i on, taken apart at its first bit
-pub total-step : (a : ℕ) (x : List ℕ) (i : ℕ) → i < length x → total (a + i) (drop i x) ≡ (a + i) * getD x i 0 + total (a + (i + 1)) (drop (i + 1) x)
-unfolding total
-total-step a x i h = rw (drop-cons x i 0 h, add-one i, add-suc a i) refl
 
 -- a sum is at most the length of its string
 pub sum-high : (x : List ℕ) → sum x ≤ length x

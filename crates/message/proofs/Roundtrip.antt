@@ -10,12 +10,12 @@ use Rattle.field.specs.Field.{check}
 use Rattle.field.proofs.Linear.{check-element}
 use Rattle.message.specs.Encoding.{AtMost, FitAll, Encodable}
 use Rattle.message.specs.Layout.{legal, rowBits, blockBits, stringBits, chunks}
-use Rattle.message.specs.Message.{messageBytes, blockSums, stringSums, checks, message}
+use Rattle.message.specs.Message.{blockSums, stringSums, checks, message}
 use Rattle.message.specs.Read.{messageRefusal}
 use Rattle.message.specs.declared.Layout.{Layout}
 use Rattle.message.proofs.Cutting.{each-number, length-block-sums, length-string-sums, length-checks, block-sum-low, string-sum-low, chunk-elements}
 use Rattle.message.proofs.Legal.{Bounds, legal-bounds}
-use Rattle.message.proofs.Messages.{ReadsAs, reads-encoded, encoded-fit, length-encode}
+use Rattle.message.proofs.Messages.{ReadsAs, reads-encoded, encoded-fit}
 
 -- ranges by places
 at-most-each : (w : ℕ) (vs : List ℕ) → ((i : ℕ) → i < length vs → getD vs i 0 ≤ w) → AtMost w vs
@@ -55,8 +55,3 @@ module _ (l : Layout) (x : List ℕ) (e : legal l ≡ true) (a : AllBits x) (n :
   pub message-reads : ReadsAs (message l x) l (blockSums l x) (stringSums l x) (checks l x)
   unfolding message
   message-reads = reads-encoded l (blockSums l x) (stringSums l x) (checks l x) row-encodable
-
--- it is as long as its layout says
-pub length-message : (l : Layout) (x : List ℕ) → length (message l x) ≡ messageBytes l
-unfolding message
-length-message l x = length-encode l (blockSums l x) (stringSums l x) (checks l x) (length-block-sums l x) (length-string-sums l x) (length-checks l x)

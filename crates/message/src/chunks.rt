@@ -1,16 +1,16 @@
-// The sums and the checks of a row that is given as the numbers of its chunks, a byte each. Contracts cite specs/Chunks.antt and
-// specs/Message.antt.
+// The chunks of a row as numbers, a byte each, and the sums and the checks of a row that is given so. Contracts cite
+// specs/Layout.antt, specs/Chunks.antt and specs/Message.antt.
 use bits::BitCursor;
 ghost use mathlib.Core.Path.{_≡_};
 ghost use mathlib.Core.Bool.{true};
-ghost use mathlib.Core.List.{_++_};
+ghost use mathlib.Core.List.{_++_, map};
 ghost use Prim.Native.Nat.{_+_, _*_, _^_, _<_, _≤_};
 ghost use lib.ListN.{length, getD, take, drop};
-ghost use Rattle.bits.specs.Bits.{longest, digits, unpack};
+ghost use Rattle.bits.specs.Bits.{AllBits, longest, number, digits, unpack};
 ghost use Rattle.vt.specs.Sum.{total, sum};
 ghost use Rattle.vt.specs.Weights.{weights};
 ghost use Rattle.field.specs.Field.{Elements};
-ghost use Rattle.message.specs.Layout.{layout, legal as isLegal};
+ghost use Rattle.message.specs.Layout.{layout, legal as isLegal, rowBits, chunks as chunksOf};
 ghost use Rattle.message.specs.Chunks.{rowOf, Chunked, picked};
 ghost use Rattle.message.specs.Message.{blockSums, stringSums, checks};
 ghost use Rattle.message.specs.Read.{fields};
@@ -25,6 +25,35 @@ pub fn fill(s: &[u8], n: usize, nc: usize, out: &mut [u8])
         let c = BitCursor { at: i * nc };
         let field = c.take(s, nc);
         out[i] = field.value as u8;
+        i += 1;
+    }
+}
+
+// The number that the k bits from a place on spell.
+pub fn number_at(bits: &[u8], at: usize, k: usize) -> u8
+    requires { ⌜ AllBits (now bits) × ((k ≤ 8) × (at + k ≤ length (now bits))) ⌝ }
+    ensures { λ v. ⌜ v ≡ number k (drop at (now (bits .entry))) ⌝ }
+{
+    let mut v: u8 = 0;
+    let mut i: usize = 0;
+    while i < k {
+        v = v * 2 + bits[at + i];
+        i += 1;
+    }
+    v
+}
+
+// The chunks of a row as numbers, in row order, at the start of a slice.
+pub fn fill_chunks(l1: usize, l2: usize, nc: usize, r: usize, row: &[u8], out: &mut [u8])
+    requires { ⌜ (isLegal (layout l1 l2 nc r) ≡ true) × (AllBits (now row)
+        × ((length (now row) ≡ rowBits (layout l1 l2 nc r)) × (l1 * l2 ≤ length (now out)))) ⌝ }
+    ensures { λ _. ⌜ now (out .exit)
+        ≡ map (number nc) (chunksOf (layout l1 l2 nc r) (now (row .entry))) ++ drop (l1 * l2) (now (out .entry)) ⌝ }
+{
+    let n = l1 * l2;
+    let mut i: usize = 0;
+    while i < n {
+        out[i] = number_at(row, i * nc, nc);
         i += 1;
     }
 }
@@ -71,8 +100,10 @@ pub fn sum_of(
     chunks: &[u8],
     k: usize,
 ) -> usize
-    requires { ⌜ (now t ≡ weights) × ((isLegal (layout l1 l2 nc r) ≡ true) × (Chunked (layout l1 l2 nc r) (now chunks) × (k < l1 + l2))) ⌝ }
-    ensures { λ s. ⌜ s ≡ getD (blockSums (layout l1 l2 nc r) (rowOf nc (now (chunks .entry))) ++ stringSums (layout l1 l2 nc r) (rowOf nc (now (chunks .entry)))) k 0 ⌝ }
+    requires { ⌜ (now t ≡ weights) × ((isLegal (layout l1 l2 nc r) ≡ true)
+        × (Chunked (layout l1 l2 nc r) (now chunks) × (k < l1 + l2))) ⌝ }
+    ensures { λ s. ⌜ s ≡ getD (blockSums (layout l1 l2 nc r) (rowOf nc (now (chunks .entry)))
+        ++ stringSums (layout l1 l2 nc r) (rowOf nc (now (chunks .entry)))) k 0 ⌝ }
 {
     if k < l1 {
         return line_sum(t, nc, chunks, k * l2, 1, l2);
@@ -82,7 +113,8 @@ pub fn sum_of(
 
 // The checks of a row at the start of a slice, if there are any; what stands behind them is free.
 pub fn fill_checks(l1: usize, l2: usize, nc: usize, r: usize, chunks: &[u8], out: &mut [u8])
-    requires { ⌜ (isLegal (layout l1 l2 nc r) ≡ true) × (Chunked (layout l1 l2 nc r) (now chunks) × (r ≤ length (now out))) ⌝ }
+    requires { ⌜ (isLegal (layout l1 l2 nc r) ≡ true)
+        × (Chunked (layout l1 l2 nc r) (now chunks) × (r ≤ length (now out))) ⌝ }
     ensures { λ _. ⌜ take r (now (out .exit)) ≡ checks (layout l1 l2 nc r) (rowOf nc (now (chunks .entry))) ⌝ }
 {
     if r == 0 {

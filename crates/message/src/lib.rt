@@ -3,7 +3,6 @@
 pub mod chunks;
 pub mod layouts;
 pub mod reading;
-pub mod sums;
 pub mod writing;
 
 use refusal::Refusal;

@@ -132,8 +132,11 @@ pub fn check(s: &[u8]) -> Read
 
 // n fields of k bits, the first at bit at of packed bytes, written to a slice from an entry on.
 fn read_fields(s: &[u8], at: usize, n: usize, k: usize, out: &mut [u16], from: usize)
-    requires { ⌜ (k ≤ 16) × ((length (now s) ≤ 4096) × ((at + n * k ≤ length (now s) * 8) × (from + n ≤ length (now out)))) ⌝ }
-    ensures { λ _. ⌜ now (out .exit) ≡ take from (now (out .entry)) ++ fields n k (drop at (unpacked (now (s .entry)))) ++ drop (from + n) (now (out .entry)) ⌝ }
+    requires { ⌜ (k ≤ 16)
+        × ((length (now s) ≤ 4096) × ((at + n * k ≤ length (now s) * 8) × (from + n ≤ length (now out)))) ⌝ }
+    ensures { λ _. ⌜ now (out .exit)
+        ≡ take from (now (out .entry)) ++ fields n k (drop at (unpacked (now (s .entry))))
+        ++ drop (from + n) (now (out .entry)) ⌝ }
 {
     let mut c = BitCursor { at };
     let mut i: usize = 0;
@@ -148,8 +151,10 @@ fn read_fields(s: &[u8], at: usize, n: usize, k: usize, out: &mut [u16], from: u
 
 // The numbers of a fit message: block sums, chunk-string sums, checks, written to the start of a slice.
 fn read_numbers(l1: usize, l2: usize, nc: usize, r: usize, s: &[u8], out: &mut [u16])
-    requires { ⌜ (isLegal (layout l1 l2 nc r) ≡ true) × ((length (now s) ≡ messageBytes (layout l1 l2 nc r)) × (l1 + l2 + r ≤ length (now out))) ⌝ }
-    ensures { λ _. ⌜ now (out .exit) ≡ readBlockSums (layout l1 l2 nc r) (now (s .entry)) ++ readStringSums (layout l1 l2 nc r) (now (s .entry))
+    requires { ⌜ (isLegal (layout l1 l2 nc r) ≡ true)
+        × ((length (now s) ≡ messageBytes (layout l1 l2 nc r)) × (l1 + l2 + r ≤ length (now out))) ⌝ }
+    ensures { λ _. ⌜ now (out .exit)
+        ≡ readBlockSums (layout l1 l2 nc r) (now (s .entry)) ++ readStringSums (layout l1 l2 nc r) (now (s .entry))
         ++ readChecks (layout l1 l2 nc r) (now (s .entry)) ++ drop (l1 + l2 + r) (now (out .entry)) ⌝ }
 {
     let rest = &s[9..];
@@ -164,7 +169,8 @@ fn read_numbers(l1: usize, l2: usize, nc: usize, r: usize, s: &[u8], out: &mut [
 
 // Reads a message: answers its layout, and writes its numbers to the start of a slice.
 pub fn read(s: &[u8], out: &mut [u16]) -> Read
-    ensures { λ r. ⌜ (readOf r ≡ layoutAnswer (readRefusal (now (s .entry)) (length (now (out .entry)))) (now (s .entry)))
+    ensures { λ r. ⌜ (readOf r
+        ≡ layoutAnswer (readRefusal (now (s .entry)) (length (now (out .entry)))) (now (s .entry)))
         × (now (out .exit) ≡ readTarget (now (s .entry)) (now (out .entry))) ⌝ }
 {
     let checked = check(s);

@@ -33,10 +33,13 @@ fn put_sums(
     start: Filler,
     out: &mut [u8],
 ) -> Filler
-    requires { ⌜ ((now table ≡ weights) × ((isLegal (layout l1 l2 nc r) ≡ true) × Chunked (layout l1 l2 nc r) (now chunks)))
-        × (((first + count ≤ l1 + l2) × (k ≤ 16)) × (Ready start × (start .at * 8 + start .count + count * k ≤ length (now out) * 8))) ⌝ }
+    requires { ⌜ ((now table ≡ weights)
+        × ((isLegal (layout l1 l2 nc r) ≡ true) × Chunked (layout l1 l2 nc r) (now chunks)))
+        × (((first + count ≤ l1 + l2) × (k ≤ 16))
+        × (Ready start × (start .at * 8 + start .count + count * k ≤ length (now out) * 8))) ⌝ }
     ensures { λ f. ⌜ Goes start (now (out .entry)) (flatMap (digits k) (take count (drop first
-        (blockSums (layout l1 l2 nc r) (rowOf nc (now (chunks .entry))) ++ stringSums (layout l1 l2 nc r) (rowOf nc (now (chunks .entry)))))))
+        (blockSums (layout l1 l2 nc r) (rowOf nc (now (chunks .entry)))
+        ++ stringSums (layout l1 l2 nc r) (rowOf nc (now (chunks .entry)))))))
         f (now (out .exit)) ⌝ }
 {
     let mut f = start;
@@ -52,7 +55,8 @@ fn put_sums(
 
 // Checks as fields of nc bits behind those that a filler has taken.
 fn put_checks(nc: usize, values: &[u8], start: Filler, out: &mut [u8]) -> Filler
-    requires { ⌜ (nc ≤ 16) × (Ready start × (start .at * 8 + start .count + length (now values) * nc ≤ length (now out) * 8)) ⌝ }
+    requires { ⌜ (nc ≤ 16)
+        × (Ready start × (start .at * 8 + start .count + length (now values) * nc ≤ length (now out) * 8)) ⌝ }
     ensures { λ f. ⌜ Goes start (now (out .entry)) (flatMap (digits nc) (now (values .entry))) f (now (out .exit)) ⌝ }
 {
     let mut f = start;
@@ -77,7 +81,8 @@ fn put_row_checks(
 ) -> Filler
     requires { ⌜ ((isLegal (layout l1 l2 nc r) ≡ true) × Chunked (layout l1 l2 nc r) (now chunks))
         × (Ready start × (start .at * 8 + start .count + r * nc ≤ length (now out) * 8)) ⌝ }
-    ensures { λ f. ⌜ Goes start (now (out .entry)) (flatMap (digits nc) (checks (layout l1 l2 nc r) (rowOf nc (now (chunks .entry))))) f (now (out .exit)) ⌝ }
+    ensures { λ f. ⌜ Goes start (now (out .entry))
+        (flatMap (digits nc) (checks (layout l1 l2 nc r) (rowOf nc (now (chunks .entry))))) f (now (out .exit)) ⌝ }
 {
     let mut values: [u8; 16] = [0; 16];
     chunks::fill_checks(l1, l2, nc, r, chunks, &mut values);
@@ -88,8 +93,10 @@ fn put_row_checks(
 fn put_fields(l1: usize, l2: usize, nc: usize, r: usize, chunks: &[u8], out: &mut [u8])
     requires { ⌜ ((isLegal (layout l1 l2 nc r) ≡ true) × Chunked (layout l1 l2 nc r) (now chunks))
         × (bytesFor (fieldsLength (layout l1 l2 nc r)) ≤ length (now out)) ⌝ }
-    ensures { λ _. ⌜ now (out .exit) ≡ pack (fieldBits (layout l1 l2 nc r) (blockSums (layout l1 l2 nc r) (rowOf nc (now (chunks .entry))))
-        (stringSums (layout l1 l2 nc r) (rowOf nc (now (chunks .entry)))) (checks (layout l1 l2 nc r) (rowOf nc (now (chunks .entry)))))
+    ensures { λ _. ⌜ now (out .exit)
+        ≡ pack (fieldBits (layout l1 l2 nc r) (blockSums (layout l1 l2 nc r) (rowOf nc (now (chunks .entry))))
+        (stringSums (layout l1 l2 nc r) (rowOf nc (now (chunks .entry))))
+        (checks (layout l1 l2 nc r) (rowOf nc (now (chunks .entry)))))
         ++ drop (bytesFor (fieldsLength (layout l1 l2 nc r))) (now (out .entry)) ⌝ }
 {
     let block = layouts::width(l2 * nc);
@@ -129,7 +136,8 @@ fn put_head(l1: usize, l2: usize, nc: usize, r: usize, out: &mut [u8])
 fn put_message(l1: usize, l2: usize, nc: usize, r: usize, row: &[u8], out: &mut [u8])
     requires { ⌜ (isLegal (layout l1 l2 nc r) ≡ true) × ((fits (rowBits (layout l1 l2 nc r)) (now row) ≡ true)
         × (messageBytes (layout l1 l2 nc r) ≤ length (now out))) ⌝ }
-    ensures { λ _. ⌜ now (out .exit) ≡ message (layout l1 l2 nc r) (take (rowBits (layout l1 l2 nc r)) (unpacked (now (row .entry))))
+    ensures { λ _. ⌜ now (out .exit)
+        ≡ message (layout l1 l2 nc r) (take (rowBits (layout l1 l2 nc r)) (unpacked (now (row .entry))))
         ++ drop (messageBytes (layout l1 l2 nc r)) (now (out .entry)) ⌝ }
 {
     let n = l1 * l2;

@@ -12,7 +12,7 @@ use lib.Seq.{take-all, take-at, take-take}
 use Rattle.rows.specs.Held.{Held, none, insert, union, add, WellHeld, Known}
 use Rattle.rows.specs.Order.{Less, byOrder, order, Mem, Before, After, Ascending, Row}
 use Rattle.rows.specs.Rows.{allRows, keep}
-use Rattle.rows.proofs.Order.{less-trans, Compared, compared, answer, mem-before, mem-left, mem-right, mem-append, same-members, rows-ascending, keep-ascending, keep-complete, keep-sound, kept-row}
+use Rattle.rows.proofs.Order.{less-trans, Compared, compared, answer, mem-before, mem-left, mem-right, mem-append, same-members, rows-ascending, keep-ascending, keep-complete, keep-sound}
 
 -- ---- one row put in
 pub insert-mem : (z x : List ℕ) (ys : List (List ℕ)) → Mem z (x ∷ ys) → Mem z (insert x ys)
@@ -303,16 +303,6 @@ module _ {cap n : ℕ} {f : List ℕ → Bool} {h : Held} (w : WellHeld cap n f 
       let both : add cap h (x ∷ a) ≡ add cap h a = sym (add-add cap h (x ∷ []) a) ∙ ap (λ (g : Held). add cap g a) one in
       subst (λ (g : Held). Known g x) both (known-added cap h (x ∷ a) x (w .ascending) (inr (inl refl)))
 
-  -- the order of two parts does not count
-  pub add-swap : (a b : List (List ℕ)) → add cap (add cap h a) b ≡ add cap (add cap h b) a
-  add-swap a b =
-      add-add cap h a b
-      ∙ add-members cap h (a ++ b) (b ++ a) (w .ascending) (turn a b) (turn b a)
-      ∙ sym (add-add cap h b a)
-    where
-      turn : (c d : List (List ℕ)) (z : List ℕ) → Mem z (c ++ d) → Mem z (h .rows) ⊎ Mem z (d ++ c)
-      turn c d z m = inr (⊎-elim (λ p. mem-right z d c p) (λ q. mem-left z d c q) (mem-append z c d m))
-
   -- the rows kept by an "or" are the rows kept by the one test and those kept by the other
   pub add-or : (f g : List ℕ → Bool) (xs : List (List ℕ))
       → add cap (add cap h (keep f xs)) (keep g xs) ≡ add cap h (keep (λ (x : List ℕ). f x || g x) xs)
@@ -353,36 +343,11 @@ module _ {cap n : ℕ} {f : List ℕ → Bool} {h : Held} (w : WellHeld cap n f 
       cut-full true e q = simp length-take (omega (arith, w .full e, union-length (h .rows) a))
       cut-full false e q = simp length-take (omega (arith, ltb-true cap (length (union (h .rows) a)) q))
 
--- two parts whose rows are each in the other or known add the same
-pub add-same : {cap n : ℕ} {f : List ℕ → Bool} {h : Held} (w : WellHeld cap n f h) (a b : List (List ℕ))
-    → ((x : List ℕ) → Mem x a → Row n x × (f x ≡ true)) → ((x : List ℕ) → Mem x b → Row n x × (f x ≡ true))
-    → ((x : List ℕ) → Mem x a → Known h x ⊎ Mem x b) → ((x : List ℕ) → Mem x b → Known h x ⊎ Mem x a)
-    → add cap h a ≡ add cap h b
-add-same {cap} {n} {f} {h} w a b ra rb p q = sym (absorb a b ra q) ∙ add-swap w a b ∙ absorb b a rb p
-  where
-    absorb : (c d : List (List ℕ)) → ((x : List ℕ) → Mem x c → Row n x × (f x ≡ true))
-        → ((x : List ℕ) → Mem x d → Known h x ⊎ Mem x c) → add cap (add cap h c) d ≡ add cap h c
-    absorb c d r k = add-known (add-well w c r) d (λ x m. ⊎-elim (known-stays w c x) (λ y. known-added cap h c x (w .ascending) (inr y)) (k x m))
-
--- where nothing fits and more were found, adding changes nothing
-pub add-no-room : {n : ℕ} {f : List ℕ → Bool} {h : Held} → WellHeld 0 n f h → h .more ≡ true → (a : List (List ℕ))
-    → add 0 h a ≡ h
-add-no-room {h} w e a = add-known w a (λ x m. inr (e, after (h .rows) x (w .atMost)))
-  where
-    after : (ys : List (List ℕ)) (x : List ℕ) → length ys ≤ 0 → After ys x
-    after [] x l = tt
-    after (y ∷ ys) x l = absurd (omega arith)
-
 -- tests that agree on the rows keep the same
 pub keep-same : (f g : List ℕ → Bool) (xs : List (List ℕ)) → ((x : List ℕ) → Mem x xs → f x ≡ g x) → keep f xs ≡ keep g xs
 unfolding keep
 keep-same f g [] e = refl
 keep-same f g (x ∷ xs) e = rw (e x (inl refl), keep-same f g xs (λ z m. e z (inr m))) refl
-
--- rows of n bits that pass a test at least as strict keep the list well held
-pub add-kept-well : {cap n : ℕ} {f : List ℕ → Bool} {h : Held} → WellHeld cap n f h → (g : List ℕ → Bool)
-    → ((x : List ℕ) → g x ≡ true → f x ≡ true) → WellHeld cap n f (add cap h (keep g (allRows n)))
-add-kept-well {n} w g strict = add-well w (keep g (allRows n)) (λ x m. let k = kept-row n g x m in (k .0, strict x (k .1)))
 
 -- what comes after the last row of an ascending list comes after all
 pub after-last : (ys : List (List ℕ)) (y x : List ℕ) → Ascending (ys ++ (y ∷ [])) → Less y x → After (ys ++ (y ∷ [])) x

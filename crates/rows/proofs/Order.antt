@@ -111,9 +111,6 @@ order-less x y e = subst (λ (o : Ordering). Compared x y o) e (compared x y)
 pub order-same : (x y : List ℕ) → order x y ≡ Ordering·eq → x ≡ y
 order-same x y e = subst (λ (o : Ordering). Compared x y o) e (compared x y)
 
-pub order-more : (x y : List ℕ) → order x y ≡ Ordering·gt → Less y x
-order-more x y e = subst (λ (o : Ordering). Compared x y o) e (compared x y)
-
 -- ---- members
 pub mem-before : (x y : List ℕ) (ys : List (List ℕ)) → Before x ys → Mem y ys → Less x y
 mem-before x y [] b m = absurd m

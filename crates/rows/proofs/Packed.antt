@@ -16,7 +16,7 @@ use Rattle.rows.specs.Order.{byOrder, order, Mem, Before, Ascending, Row
 use Rattle.rows.specs.Rows.{allRows, keep}
 use Rattle.rows.specs.Slice.{flat, heldIn, Written, packed, rowsIn}
 use Rattle.rows.proofs.Held.{insert-only, add-add, add-well, add-length, add-kept}
-use Rattle.rows.proofs.Order.{ComparedN, compared-n, answer-n, order-same, order-less, answer}
+use Rattle.rows.proofs.Order.{ComparedN, compared-n, answer-n, order-less, answer}
 use Rattle.rows.proofs.Slice.{Wide, length-cut, flat-cut, written-held, written-written}
 
 -- ---- packing keeps the order
@@ -69,11 +69,6 @@ pack-order n x y r s =
     let e : bytesFor (length x) ≡ bytesFor n = ap bytesFor (r .0) in
     let f : bytesFor (length y) ≡ bytesFor n = ap bytesFor (s .0) in
     rw (e, f) (bytes-order (bytesFor n) x y (r .0 ∙ sym (s .0)) (omega (arith, r .0)) (r .1) (s .1))
-
--- two rows that pack to the same bytes are the same
-pub pack-same : (n : ℕ) (x y : List ℕ) → Row n x → Row n y → pack x ≡ pack y → x ≡ y
-unfolding order
-pack-same n x y r s e = order-same x y (sym (pack-order n x y r s) ∙ ap (λ (v : List ℕ). order v (pack y)) e ∙ answer (pack y) (pack y) Ordering·eq refl)
 
 -- ---- what is held, packed
 map-take : (c : ℕ) (ys : List (List ℕ)) → take c (map pack ys) ≡ map pack (take c ys)

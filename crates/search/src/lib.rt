@@ -46,7 +46,7 @@ fn put_block(nc: usize, l2: usize, bits: &[u8], row: &mut [u8], i: usize)
     let at = i * l2;
     let mut j: usize = 0;
     while j < l2 {
-        row[at + j] = message::sums::number_at(bits, j * nc, nc);
+        row[at + j] = message::chunks::number_at(bits, j * nc, nc);
         j += 1;
     }
 }

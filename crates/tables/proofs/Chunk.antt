@@ -7,12 +7,11 @@ use native.Mathlib.Nat.{add-mul, one-mul, mul-le-mul-right}
 use native.Mathlib.Omega.{arith}
 use lib.ListN.{length, getD, take, drop, length-drop}
 use lib.Seq.{length-take-le}
-use Rattle.bits.specs.Bits.{cut, number, digits}
+use Rattle.bits.specs.Bits.{number, digits}
+use Rattle.bits.proofs.Laws.{number-take}
 use Rattle.rows.specs.Order.{Row}
 use Rattle.message.specs.Layout.{rowBits}
 use Rattle.message.specs.declared.Layout.{Layout}
-use Rattle.message.specs.Read.{fields}
-use Rattle.message.proofs.Cutting.{number-cut}
 use Rattle.message.proofs.Fields.{field-room}
 use Rattle.consistent.specs.Greedy.{losses}
 use Rattle.consistent.proofs.Greedy.{piece, whole}
@@ -20,11 +19,6 @@ use Rattle.consistent.proofs.Shift.{lost-most, lost-more, piece-loses}
 use Rattle.lines.specs.Lines.{values}
 use Rattle.lines.proofs.Lines.{value-at, chunk-digits}
 use Rattle.tables.specs.Tables.{lostBefore, Loses}
-
--- a number is that of its own bits
-number-take : (k : ℕ) (x : List ℕ) → number k (take k x) ≡ number k x
-unfolding cut fields
-number-take k x = ap (λ (v : List ℕ). getD v 0 0) (number-cut 1 k x)
 
 -- chunk j of block i is one of the row
 pub chunk-inside : (l1 l2 i j : ℕ) → i < l1 → j < l2 → i * l2 + j < l1 * l2

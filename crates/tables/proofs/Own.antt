@@ -42,9 +42,6 @@ module _ {l : Layout} {numbers y : List ℕ} {heavy : Heavy} {t : Table} {x : Li
   own-all : (j s : ℕ) → j ≤ l .l2 → s < heavy .n → lost j s + own j s ≡ getD (heavy .end) s 0
   own-all j s a h = omega (arith, lost-later j (l .l2) s a (omega arith) h, end-at u s h)
 
-  own-most : (j s : ℕ) → j ≤ l .l2 → s < heavy .n → own j s ≤ getD (t .left) s 0
-  own-most j s a h = omega (arith, lost-later 0 j s (omega arith) a h, left-own u s h)
-
   own-falls : (j s : ℕ) → j < l .l2 → s < heavy .n → own (j + 1) s ≤ own j s
   own-falls j s a h = omega (arith, lost-later j (j + 1) s (omega arith) (omega arith) h)
 

@@ -78,7 +78,7 @@ fn read_chunk(nc: usize, y: &[u8], c: usize, place: usize, t: Table) -> Table
     ensures { λ r. ⌜ r ≡ withChunk t c (number nc (drop place (now (y .entry)))) ⌝ }
 {
     let mut r = t;
-    r.row[c] = message::sums::number_at(y, place, nc);
+    r.row[c] = message::chunks::number_at(y, place, nc);
     r
 }
 

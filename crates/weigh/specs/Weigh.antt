@@ -1,5 +1,5 @@
--- What chunks that lost bits can bring to the sum of their chunk-string: a chunk of block i brings the total of the
--- positions of its ones there, which are i * nc higher than those in the chunk.
+-- What chunks that lost bits can bring to the sum of their line, a chunk-string or a block: the chunk at place i of the line, its
+-- `block`, brings the total of the positions of its ones there, which are i * nc higher than those in the chunk.
 use Prim.Native.Nat.{ℕ, zero, suc, _+_, _-_, _*_, _^_, _<_, _≤_}
 use mathlib.Core.Path.{_≡_}
 use mathlib.Core.List.{List}

@@ -1,4 +1,4 @@
-// What chunks that lost bits can bring to the sum of their chunk-string. Contracts cite specs/Weigh.antt.
+// What chunks that lost bits can bring to the sum of their line, a chunk-string or a block. Contracts cite specs/Weigh.antt.
 ghost use mathlib.Core.Path.{_≡_};
 ghost use mathlib.Core.Bool.{true};
 ghost use Prim.Native.Nat.{ℕ, _+_, _*_, _-_, _%_, _<_, _≤_};
@@ -7,11 +7,11 @@ ghost use Rattle.bits.specs.Bits.{AllBits, longest};
 ghost use Rattle.windows.specs.Windows.{Tables};
 ghost use Rattle.weigh.specs.Weigh.{Can, brought, SeenIn, MoreOnes, There, Wider, Within, Weighable};
 
-// The most chunks of a chunk-string that are weighed.
+// The most chunks of a line that are weighed.
 pub const MOST: usize = 6;
 
-// Chunks of one chunk-string that are matched against the received row: of each the block, where its bits start, and
-// how many it lost.
+// Chunks of one line that are matched against the received row: of each its place in the line (`block`: the chunk's block in a
+// chunk-string, its column in a block), where its bits start, and how many it lost.
 pub struct Chunks {
     pub n: usize,
     pub block: [u8; MOST],

@@ -3,7 +3,7 @@
 use Prim.Native.Nat.{ℕ, zero, suc, _+_, _-_, _*_, _%_, _<_, _≤_}
 use mathlib.Core.Path.{_≡_, refl, sym, ap, _∙_}
 use mathlib.Core.Logic.{⊎-elim}
-use mathlib.Core.List.{List, [], _∷_, _++_}
+use mathlib.Core.List.{List, [], _∷_}
 use native.Mathlib.Nat.{zero-mul, suc-mul, mul-le-mul-left}
 use native.Mathlib.Numerals.{add-one}
 use native.Mathlib.Omega.{arith}
@@ -14,6 +14,7 @@ use Rattle.bits.proofs.Laws.{bits-take, lt-or-ge}
 use Rattle.vt.specs.Ones.{ones}
 use Rattle.vt.specs.Sum.{total, sum}
 use Rattle.vt.proofs.Totals.{times-bit, total-up, ones-length}
+use Rattle.vt.proofs.Weighing.{ones-append}
 use Rattle.message.proofs.Positions.{total-append}
 use Rattle.windows.specs.Windows.{Tables}
 
@@ -31,11 +32,6 @@ total-most k m [] a h = omega arith
 total-most k m (b ∷ x) a h =
     omega (arith, times-bit k b (a .0), total-most (suc k) m x (a .1) (omega arith), suc-mul (length x) m)
 
-ones-join : (x y : List ℕ) → ones (x ++ y) ≡ ones x + ones y
-unfolding ones
-ones-join [] y = omega arith
-ones-join (b ∷ x) y = omega (arith, ones-join x y)
-
 -- one bit more
 total-more : (y : List ℕ) (i : ℕ) → i < length y → total 1 (take (i + 1) y) ≡ total 1 (take i y) + (i + 1) * getD y i 0
 unfolding total
@@ -46,7 +42,7 @@ total-more y i h =
 
 ones-more : (y : List ℕ) (i : ℕ) → i < length y → ones (take (i + 1) y) ≡ ones (take i y) + getD y i 0
 unfolding ones
-ones-more y i h = rw (add-one i, take-suc y i 0) (ones-join (take i y) (getD y i 0 ∷ []) ∙ omega arith)
+ones-more y i h = rw (add-one i, take-suc y i 0) (ones-append (take i y) (getD y i 0 ∷ []) ∙ omega arith)
 
 -- ---- the tables of a whole string, filled up to place i
 pub record Filled (y totals counts : List ℕ) (i : ℕ) : Type 0 where
@@ -126,7 +122,7 @@ tables-later y p a totals counts h t =
         ∙ ap (λ (q : ℕ). total (p + 1) (take a y) + total q (take j (drop a y))) k
 
     halves : (j : ℕ) → ones (take (a + j) y) ≡ ones (take a y) + ones (take j (drop a y))
-    halves j = ap ones (take-add a j y) ∙ ones-join (take a y) (take j (drop a y))
+    halves j = ap ones (take-add a j y) ∙ ones-append (take a y) (take j (drop a y))
 
 -- what the tables give for the next w bits
 pub record Next (y : List ℕ) (p w t0 tw c0 cw : ℕ) : Type 0 where

@@ -11,7 +11,7 @@ use lib.ListN.{length, getD}
 use Rattle.vt.specs.Sum.{sum}
 use Rattle.message.proofs.Legal.{legal-bounds, sizes}
 use Rattle.column.proofs.Rows.{chunk-stands}
-use Rattle.column.proofs.Zeros.{sum-low}
+use Rattle.lines.proofs.Turns.{sum-low}
 use Rattle.lines.specs.Lines.{line}
 use Rattle.lines.proofs.Lines.{block-inside}
 use Rattle.weigh.specs.Weigh.{brought}

@@ -22,37 +22,30 @@ Inv-loop l y cells i row₀ cut₀ z₀ row cut z =
 abbrev μ-loop : tie.MeasureT-loop
 μ-loop l y cells i row₀ cut₀ z₀ row cut z = 12 - z
 
--- src/lib.rt:111:5
 loop-holds : tie.Need-loop-holds Inv-loop μ-loop
 unfolding bare
 loop-holds c = (omega arith, (refl, (cut-none _ _ _ _ _ refl (refl, (refl, refl)), refl)))
 
--- src/lib.rt:112:9
 cut-cell-requires : tie.Need-cut-cell-requires Inv-loop μ-loop
 cut-cell-requires c κs =
     let p = c .before .before in
     let q = p .before .before .before .pre in
     ((q .0, q .1 .0), (q .1 .1 .0, (c .before .loop-test .taken, p .loop .inv .1 .0 ∙ q .1 .1 .1)))
 
--- src/lib.rt:114:13
 same-length : tie.Need-same-length Inv-loop μ-loop
 same-length c =
     let e = c .before .before .before .before in
     e .cut-cell .ensures .0 ∙ e .before .before .before .loop .inv .1 .0
 
--- src/lib.rt:114:13
 returns : tie.Need-returns Inv-loop μ-loop
 returns c = λ e. absurd (false≢true (sym (not-true _ (c .if1 .taken)) ∙ e))
 
--- src/lib.rt:116:9
 add-z : tie.Need-add-z Inv-loop μ-loop
 add-z c = search needs
 
--- src/lib.rt:111:5
 loop-less : tie.Need-loop-less Inv-loop μ-loop
 loop-less c = search needs
 
--- src/lib.rt:111:5
 loop-again : tie.Need-loop-again Inv-loop μ-loop
 loop-again c =
     let e = c .before .before .before .before in
@@ -63,11 +56,9 @@ loop-again c =
     let w = e .cut-cell .ensures .1 (not-false _ (c .if1 .left)) (v .1 .1 .0) in
     (omega (arith, t .loop-test .taken), (e .cut-cell .ensures .0 ∙ v .1 .0, (w .0, w .1 (a .row .now) (v .1 .1 .1))))
 
--- src/lib.rt:95:1
 same-length-2 : tie.Need-same-length-2 Inv-loop μ-loop
 same-length-2 c = c .before .loop .inv .1 .0
 
--- src/lib.rt:95:1
 returns-2 : tie.Need-returns-2 Inv-loop μ-loop
 returns-2 c =
     let v = c .before .loop .inv in

@@ -9,53 +9,41 @@ use Rattle.blocks.proofs.with_chunk.Tie as tie
 use Rattle.blocks.proofs.with_chunk.Reads as reads
 use Rattle.blocks.proofs.with_chunk.Lts as lts
 use Rattle.bits.proofs.wide.Reads as wide-reads
-use Rattle.blocks.proofs.too_many.Reads as too-many-reads
+use Rattle.blocks.proofs.not_weighed.Reads as not-weighed-reads
 
--- src/lib.rt:51:9
 wide-requires : tie.Need-wide-requires
 wide-requires c κs = search needs
 
--- src/lib.rt:54:9
-too-many-requires : tie.Need-too-many-requires
-too-many-requires c κs = search needs
+not-weighed-requires : tie.Need-not-weighed-requires
+not-weighed-requires c κs = search needs
 
--- src/lib.rt:54:9
 returns : tie.Need-returns
-returns c = λ e. absurd (false≢true (sym (c .too-many .ensures) ∙ e))
+returns c = λ e. absurd (false≢true (sym (c .not-weighed .ensures) ∙ e))
 
--- src/lib.rt:57:9
-too-many-requires-2 : tie.Need-too-many-requires-2
-too-many-requires-2 c κs = search needs
+not-weighed-requires-2 : tie.Need-not-weighed-requires-2
+not-weighed-requires-2 c κs = search needs
 
--- src/lib.rt:57:9
 returns-2 : tie.Need-returns-2
-returns-2 c = λ e. absurd (false≢true (sym (c .too-many2 .ensures) ∙ e))
+returns-2 c = λ e. absurd (false≢true (sym (c .not-weighed2 .ensures) ∙ e))
 
--- src/lib.rt:60:5
 array-write-block : tie.Need-array-write-block
 array-write-block c = search needs
 
--- src/lib.rt:62:5
 mul-places : tie.Need-mul-places
 mul-places c = search needs
 
--- src/lib.rt:62:5
 array-write-places : tie.Need-array-write-places
 array-write-places c = search needs
 
--- src/lib.rt:64:5
 array-write-losses : tie.Need-array-write-losses
 array-write-losses c = search needs
 
--- src/lib.rt:66:12
 add-t16 : tie.Need-add-t16
 add-t16 c = search needs
 
--- src/lib.rt:73:15
 add-t16-2 : tie.Need-add-t16-2
 add-t16-2 c = search needs
 
--- src/lib.rt:46:1
 returns-3 : tie.Need-returns-3
 returns-3 c =
     λ e.
@@ -74,9 +62,9 @@ with-chunk-spec =
     tie.close
     (tie.spec
     wide-requires
-    too-many-requires
+    not-weighed-requires
     returns
-    too-many-requires-2
+    not-weighed-requires-2
     returns-2
     array-write-block
     mul-places

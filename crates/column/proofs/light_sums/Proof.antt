@@ -12,7 +12,7 @@ use Rattle.lines.specs.Lines.{line}
 use Rattle.lines.proofs.Lines.{string-inside}
 use Rattle.column.specs.Column.{filled}
 use Rattle.column.proofs.Rows.{string-high}
-use Rattle.column.proofs.Zeros.{sum-low}
+use Rattle.lines.proofs.Turns.{sum-low}
 use Rattle.column.proofs.light_sums.Statement.{statement}
 use Rattle.column.proofs.light_sums.Tie as tie
 

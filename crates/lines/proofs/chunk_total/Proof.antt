@@ -8,7 +8,7 @@ use lib.Bits.{bitAnd, and-mask}
 use lib.Pow.{pow-pos, pow-mono}
 use Rattle.bits.specs.Bits.{digits}
 use Rattle.vt.specs.Sum.{total}
-use Rattle.lines.proofs.Turns.{digits-low}
+use Rattle.bits.proofs.Filling.{digits-low}
 use Rattle.lines.proofs.chunk_total.Statement.{statement}
 use Rattle.lines.proofs.chunk_total.Tie as tie
 

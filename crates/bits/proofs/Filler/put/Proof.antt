@@ -25,7 +25,6 @@ Inv-loop out₀ k v size all at₀ count₀ out at count =
 abbrev μ-loop : tie.MeasureT-loop
 μ-loop out₀ k v size all at₀ count₀ out at count = count
 
--- src/lib.rt:205:13
 -- the power, and that all bits are few
 size-is : (c : tie.After-power Inv-loop μ-loop) → c .power .result ≡ 2 ^ c .before .before .args .k
 size-is c = c .power .ensures
@@ -44,47 +43,36 @@ few c =
 power-requires : tie.Need-power-requires Inv-loop μ-loop
 power-requires c κs = search needs
 
--- src/lib.rt:206:19
 mul-all : tie.Need-mul-all Inv-loop μ-loop
 mul-all c = record { fits = omega (arith, few (c .before) .0) }
 
--- src/lib.rt:206:38
 rem-all : tie.Need-rem-all Inv-loop μ-loop
 rem-all c = omega (arith, few (c .before) .1 .0)
 
--- src/lib.rt:206:19
 add-all : tie.Need-add-all Inv-loop μ-loop
 add-all c = record { fits = omega (arith, few (c .before), mod-lt (c .before .before .before .args .v) {m = c .before .power .result} (few (c .before) .1 .0)) }
 
--- src/lib.rt:208:25
 add-count : tie.Need-add-count Inv-loop μ-loop
 add-count c = record { fits = omega (arith, c .before .before .before .before .pre .0) }
 
--- src/lib.rt:209:9
 loop-holds : tie.Need-loop-holds Inv-loop μ-loop
 loop-holds c = ((refl, (refl, omega (arith, c .before .before .before .before .pre .0))), (refl, refl))
 
--- src/lib.rt:211:25
 shr-out : tie.Need-shr-out Inv-loop μ-loop
 shr-out c = omega (arith, c .before .loop .inv .0 .1 .1)
 
--- src/lib.rt:211:23
 cast-out : tie.Need-cast-out Inv-loop μ-loop
 cast-out c = record { fits = omega arith }
 
--- src/lib.rt:211:13
 slice-write-out : tie.Need-slice-write-out Inv-loop μ-loop
 slice-write-out c = omega (arith, c .before .loop .inv .0, c .loop-test .taken, c .before .before .before .before .before .before .pre .1)
 
--- src/lib.rt:212:13
 add-at : tie.Need-add-at Inv-loop μ-loop
 add-at c = search needs
 
--- src/lib.rt:209:9
 loop-less : tie.Need-loop-less Inv-loop μ-loop
 loop-less c = search needs
 
--- src/lib.rt:209:9
 loop-again : tie.Need-loop-again Inv-loop μ-loop
 loop-again c =
     let s = c .before .before .before .before .before .before in
@@ -101,19 +89,15 @@ loop-again c =
       ),
     )
 
--- src/lib.rt:216:25
 power-requires-2 : tie.Need-power-requires-2 Inv-loop μ-loop
 power-requires-2 c κs = omega (arith, c .loop-test .left)
 
--- src/lib.rt:216:19
 rem-t10 : tie.Need-rem-t10 Inv-loop μ-loop
 rem-t10 c = omega (arith, c .power2 .ensures, pow-pos (c .before .before .loop .count))
 
--- src/lib.rt:201:5
 same-length : tie.Need-same-length Inv-loop μ-loop
 same-length c = search needs
 
--- src/lib.rt:201:5
 returns : tie.Need-returns Inv-loop μ-loop
 returns c =
     let w = c .before .before .before .before .before in

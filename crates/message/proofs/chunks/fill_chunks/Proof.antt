@@ -1,4 +1,4 @@
--- `message::sums::fill_chunks` meets its contract. The loop's invariant: the slice starts with the numbers of the first i chunks.
+-- `message::chunks::fill_chunks` meets its contract. The loop's invariant: the slice starts with the numbers of the first i chunks.
 -- Assumes nothing.
 use borrow.Author.Needs.{needs}
 use Prim.Native.Nat.{ℕ, _+_, _-_, _*_, _≤_}
@@ -13,8 +13,8 @@ use Rattle.message.specs.Read.{fields}
 use Rattle.message.proofs.Cutting.{chunk-numbers}
 use Rattle.message.proofs.Fields.{fields-at, length-fields, field-room}
 use Rattle.message.proofs.Legal.{Bounds, Sizes, legal-bounds, sizes}
-use Rattle.message.proofs.sums.fill_chunks.Statement.{statement}
-use Rattle.message.proofs.sums.fill_chunks.Tie as tie
+use Rattle.message.proofs.chunks.fill_chunks.Statement.{statement}
+use Rattle.message.proofs.chunks.fill_chunks.Tie as tie
 
 abbrev Inv-loop : tie.InvT-loop
 Inv-loop l1 l2 nc r row out₀ n i₀ out i = (i ≤ l1 * l2) × ((length out ≡ length out₀) × (out ≡ take i (fields (l1 * l2) nc row) ++ drop i out₀))

@@ -1,4 +1,4 @@
--- `message::sums::number_at` meets its contract. The loop's invariant: the bits read so far, and those to come, spell the number.
+-- `message::chunks::number_at` meets its contract. The loop's invariant: the bits read so far, and those to come, spell the number.
 -- Assumes nothing.
 use borrow.Author.Needs.{needs}
 use Prim.Native.Nat.{_+_, _-_, _*_, _^_, _<_, _≤_}
@@ -9,8 +9,8 @@ use lib.ListN.{getD, drop}
 use lib.Pow.{pow-mono}
 use Rattle.bits.specs.Bits.{number}
 use Rattle.bits.proofs.Laws.{bit-at, number-next, number-end, pow-next}
-use Rattle.message.proofs.sums.number_at.Statement.{statement}
-use Rattle.message.proofs.sums.number_at.Tie as tie
+use Rattle.message.proofs.chunks.number_at.Statement.{statement}
+use Rattle.message.proofs.chunks.number_at.Tie as tie
 
 abbrev Inv-loop : tie.InvT-loop
 Inv-loop bits at k v₀ i₀ v i = (i ≤ k) × ((v < 2 ^ i) × (v * 2 ^ (k - i) + number (k - i) (drop (at + i) bits) ≡ number k (drop at bits)))
