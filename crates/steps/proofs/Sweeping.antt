@@ -119,15 +119,9 @@ ground-stays new same g =
     record {
       seeable = g .seeable;
       others = g .others;
-      blocks = g .blocks;
-      shaped = g .shaped;
-      states = g .states;
-      within = g .within;
+      counted = g .counted;
       below = g .below;
       high = g .high;
-      marked = g .marked;
-      counted = g .counted;
-      long-some = g .long-some;
       long-fresh = omega (arith, g .long-fresh, same);
     }
 

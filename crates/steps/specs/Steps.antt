@@ -74,15 +74,9 @@ pub record Ground (l : Layout) (y totals counts : List ℕ) (heavy : Heavy) (z :
     (modulus need : ℕ) (marks : List ℕ) (at : ℕ) (some fresh : List ℕ) : Type 0 where
   pub seeable : Seeable l y totals counts heavy j
   pub others : l .l1 * l .l2 ≤ length z
-  pub blocks : shape .n ≡ heavy .n
-  pub shaped : Shaped (shape .n) (shape .size) (shape .stride) (shape .states)
-  pub states : shape .states ≤ 729
-  pub within : (s : ℕ) → s < shape .n → getD left s 0 ≤ each (shape .size) s
+  pub counted : Counted heavy shape left marks at some
   pub below : need < modulus
   pub high : modulus ≤ longest + 1
-  pub marked : at + shape .states ≤ length marks
-  pub counted : Counts marks at (shape .states) some
-  pub long-some : shape .states < length some
   pub long-fresh : shape .states ≤ length fresh
 
 -- where a sweep stands: the heavy blocks from s on have their shares, which make the number q; what they bring is in a span

@@ -120,7 +120,7 @@ share-begin t c = c .before .before .before .before .before .before .before .bef
 
 -- what one loss of block b counts in the number of a state
 stride-is : (t : ℕ) (s : Share-start t) → getD (s .args .t7 .stride) (s .args .b) 0 ≡ stride (each (s .args .t7 .size)) (s .args .b)
-stride-is t s = s .pre .1 .0 .shaped .counts (s .args .b) (omega (arith, s .pre .1 .0 .blocks, s .pre .1 .1 .1 .0))
+stride-is t s = s .pre .1 .0 .counted .shaped .counts (s .args .b) (omega (arith, s .pre .1 .0 .counted .blocks, s .pre .1 .1 .1 .0))
 
 -- where the chunk stands
 chunk-is : (t : ℕ) (c : share-lts.After-wide (share-claims t) (share-at t) share.Post share-Inv-loop share-μ-loop)
@@ -157,13 +157,13 @@ share-add-none-marked : (t : ℕ)
     → share-lts.Need-add-none-marked (share-claims t) (share-at t) share.Post share-Inv-loop share-μ-loop
 share-add-none-marked t c =
     let s = c .before .before .before .before .before .before .before .before in
-    record { fits = omega (arith, stride-is t s, s .pre .1 .1 .0 .room, s .pre .1 .0 .states) }
+    record { fits = omega (arith, stride-is t s, s .pre .1 .1 .0 .room, s .pre .1 .0 .counted .states) }
 
 share-none-marked-requires : (t : ℕ)
     → share-lts.Need-none-marked-requires (share-claims t) (share-at t) share.Post share-Inv-loop share-μ-loop
 share-none-marked-requires t c κs =
     let s = c .before .before .before .before .before .before .before .before in
-    let g = s .pre .1 .0 in
+    let g = s .pre .1 .0 .counted in
     let room = s .pre .1 .1 .0 .room in
     let some = stride-pos (each (s .args .t7 .size)) (s .args .b) in
     (omega (arith, g .long-some, room, some), omega (arith, g .long-some, room, stride-is t s))
@@ -173,7 +173,7 @@ share-returns : (t : ℕ)
 share-returns t c =
     let s = c .before .before .before .before .before .before .before .before .before .before in
     let a = s .args in
-    let g = s .pre .1 .0 in
+    let g = s .pre .1 .0 .counted in
     let d = s .pre .1 .1 in
     let none = rw (stride-is t s) at (c .before .none-marked .ensures (c .if1 .taken)) in
     raised-none _
@@ -395,7 +395,7 @@ upper t c =
 own-one : (t : ℕ) (c : Left-at t) → let a = sweep-begin t c .args in
     stride (each (a .t7 .size)) (a .s - 1) ≡ getD (a .t7 .stride) (a .s - 1) 0
 own-one t c =
-    let g = sweep-begin t c .pre .1 .0 in
+    let g = sweep-begin t c .pre .1 .0 .counted in
     sym (g .shaped .counts _ (omega (arith, g .blocks, below-n t c)))
 
 -- the number of the state with a share, and that it stays low
@@ -414,7 +414,7 @@ in-room t c =
     let e = w .before in
     let s = sweep-begin t e in
     let a = s .args in
-    let g = s .pre .1 .0 in
+    let g = s .pre .1 .0 .counted in
     let left = getD (a .t9) (a .s - 1) 0 in
     let few : p .loop .a ≤ left = omega (arith, c .loop-test .taken, w .wide .ensures) in
     let h = stands-share left (p .loop .a) (upper t e) (g .within (a .s - 1) (omega (arith, g .blocks, below-n t e))) few in
@@ -424,7 +424,7 @@ sweep-add-raise-one : (t : ℕ)
     → sweep-lts.Need-add-raise-one (sweep-claims t) (sweep-at t) sweep.Post sweep-Inv-loop sweep-μ-loop
 sweep-add-raise-one t c =
     let s = c .before .before .before .before .before .before .before .before in
-    let g = s .pre .1 .0 in
+    let g = s .pre .1 .0 .counted in
     let some = stride-pos (each (s .args .t7 .size)) (s .args .s) in
     record { fits = omega (arith, g .marked, s .pre .1 .1 .room, some, s .good .1 .1 .1 .1 .1 .1 .1 .1 .1 .1 .1 .1 .0) }
 
@@ -433,7 +433,7 @@ sweep-shared-slice-read-raise-one : (t : ℕ)
 sweep-shared-slice-read-raise-one t c =
     let s = c .before .before .before .before .before .before .before .before .before in
     let some = stride-pos (each (s .args .t7 .size)) (s .args .s) in
-    omega (arith, s .pre .1 .0 .marked, s .pre .1 .1 .room, some)
+    omega (arith, s .pre .1 .0 .counted .marked, s .pre .1 .1 .room, some)
 
 sweep-raise-one-requires : (t : ℕ)
     → sweep-lts.Need-raise-one-requires (sweep-claims t) (sweep-at t) sweep.Post sweep-Inv-loop sweep-μ-loop
@@ -524,7 +524,7 @@ sweep-share-requires t c κs =
         ground-stays (p .loop .fresh) (p .loop .inv .raises .long) g,
         (
           subst (λ (v : ℕ). Shares (a .t7) (a .heavy .n) (a .s - 1) v (a .span) (a .apart)) (number-is t w (p .loop .a))
-              (stands-share left (p .loop .a) (upper t e) (g .within (a .s - 1) (omega (arith, g .blocks, below-n t e))) few),
+              (stands-share left (p .loop .a) (upper t e) (g .counted .within (a .s - 1) (omega (arith, g .counted .blocks, below-n t e))) few),
           (below-n t e, few),
         ),
       ),

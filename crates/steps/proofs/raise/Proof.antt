@@ -90,15 +90,9 @@ sweep-requires c κs =
               column = p .0 .1 .1 .0;
             };
         others = p .0 .1 .1 .1 .1;
-        blocks = d .blocks;
-        shaped = d .shaped;
-        states = d .states;
-        within = d .within;
+        counted = d;
         below = c .before .missing .ensures .0;
         high = omega (arith, low s .modulus);
-        marked = d .marked;
-        counted = d .counted;
-        long-some = d .long-some;
         long-fresh = p .1 .1;
       },
       record {
