@@ -2,11 +2,15 @@
 -- span. Assumes nothing.
 use Prim.Native.Nat.{ℕ, zero, suc, _+_, _-_, _*_, _%_, _<_, _≤_}
 use mathlib.Core.Path.{_≡_, refl, sym, ap, ap₂, subst, _∙_}
+use mathlib.Core.Bool.{Bool, true, false, cond}
 use mathlib.Core.List.{List, []}
 use mathlib.Core.Logic.{_⊎_, inl, inr, ⊎-elim}
 use native.Mathlib.Decide.{ℕ-discrete}
 use native.Mathlib.Nat.{mul-le-mul-right}
+use native.Mathlib.Numerals.{add-one}
 use native.Mathlib.Omega.{arith}
+use borrow.Author.Tests.{ne-eqb}
+use lib.Dec.{eqb}
 use lib.ListN.{length, getD, set, take, drop, length-set}
 use lib.Seq.{getD-set-same, getD-set-other}
 use Rattle.bits.specs.Bits.{AllBits, digits, number}
@@ -27,40 +31,52 @@ use Rattle.column.specs.Column.{Fit, Light, chunkAt, filled, Crosses, apartIn}
 use Rattle.column.specs.declared.Heavy.{Heavy}
 use Rattle.column.proofs.Rows.{no-loss}
 use Rattle.column.proofs.Zeros.{sum-low, whole-sum}
-use Rattle.steps.specs.Steps.{Above, Raises, Counts, brings, Viewed, Ground, Stands, Shares, Chosen, Sharing, Raised}
+use Rattle.steps.specs.Steps.{Above, Raises, oneIf, markedBelow, Counts, brings, Viewed, Ground, Stands, Shares, Chosen, Sharing, Raised}
 use Rattle.steps.specs.declared.View.{View}
 
--- where as many states are marked below two states, none between them is
-pub none-between : {marks : List ℕ} {at states : ℕ} {some : List ℕ} → Counts marks at states some → (low high : ℕ) → high ≤ states
-    → getD some high 0 ≤ getD some low 0 → (q : ℕ) → low ≤ q → q < high → 0 < getD marks (at + q) 0 → ⊥
-none-between c low high top same q a b m =
-    omega (arith, c .rises low q a (omega arith), c .counts q (omega arith) m, c .rises (q + 1) high (omega arith) top)
+-- ---- marked states are counted
+one-most : (b : Bool) → cond b 0 1 ≤ 1
+one-most true = omega arith
+one-most false = omega arith
 
--- the counts with those of one state more
-pub counts-next : (marks : List ℕ) (at q d : ℕ) (some : List ℕ) → q + 1 < length some → (0 < getD marks (at + q) 0 → 0 < d)
-    → Counts marks at q some → Counts marks at (q + 1) (set some (q + 1) (getD some q 0 + d))
-counts-next marks at q d some long own c =
-    record {
-      rises = λ i k h g. ⊎-elim (λ (e : k < q + 1). rw (was k e, was i (omega arith)) (c .rises i k h (omega arith)))
-          (λ (e : q + 1 ≤ k). ⊎-elim
-          (λ (f : i < q + 1). let eq : k ≡ q + 1 = omega arith in rw (eq, is, was i f) (omega (arith, c .rises i q (omega arith) (omega arith))))
-          (λ (f : q + 1 ≤ i). let eq : i ≡ k = omega arith in rw eq (omega arith))
-          (lt-or-ge i (q + 1)))
-          (lt-or-ge k (q + 1));
-      counts = λ i h m. ⊎-elim
-          (λ (e : i < q). rw (was i (omega arith), was (i + 1) (omega arith)) (c .counts i e m))
-          (λ (e : q ≤ i). let eq : i ≡ q = omega arith in rw (eq, was q (omega arith), is) (omega (arith, own (rw eq at m))))
-          (lt-or-ge i q);
-    }
-  where
-    new : List ℕ
-    new = set some (q + 1) (getD some q 0 + d)
+module _ (marks : List ℕ) (at : ℕ) where
+  pub marked-most : (q : ℕ) → markedBelow marks at q ≤ q
+  unfolding markedBelow
+  marked-most zero = omega arith
+  marked-most (suc q) = omega (arith, marked-most q, one-most (eqb (getD marks (at + q) 0) 0))
 
-    was : (i : ℕ) → i < q + 1 → getD new i 0 ≡ getD some i 0
-    was i h = getD-set-other some (q + 1) i (getD some q 0 + d) 0 (λ e. omega (arith, e))
+  -- below a higher state no fewer are marked
+  marked-rises : (low high : ℕ) → low ≤ high → markedBelow marks at low ≤ markedBelow marks at high
+  unfolding markedBelow
+  marked-rises low zero h = let e : low ≡ 0 = omega arith in rw e (omega arith)
+  marked-rises low (suc high) h =
+      ⊎-elim (λ (k : low < suc high). omega (arith, marked-rises low high (omega arith)))
+      (λ (k : suc high ≤ low). let e : low ≡ suc high = omega arith in rw e (omega arith))
+      (lt-or-ge low (suc high))
 
-    is : getD new (q + 1) 0 ≡ getD some q 0 + d
-    is = getD-set-same some (q + 1) (getD some q 0 + d) 0 long
+  -- a marked state counts
+  marked-counts : (q : ℕ) → 0 < getD marks (at + q) 0 → markedBelow marks at q < markedBelow marks at (suc q)
+  unfolding markedBelow
+  marked-counts q m = rw (ne-eqb (getD marks (at + q) 0) 0 (λ e. omega arith)) (omega arith)
+
+  -- where as many states are marked below two states, none between them is
+  pub none-between : (states : ℕ) (some : List ℕ) → Counts marks at states some → (low high : ℕ) → high ≤ states
+      → getD some high 0 ≤ getD some low 0 → (q : ℕ) → low ≤ q → q < high → 0 < getD marks (at + q) 0 → ⊥
+  none-between states some c low high top same q a b m =
+      omega (arith, c low (omega arith), c high top, marked-rises low q a, marked-counts q m, marked-rises (suc q) high (omega arith))
+
+  -- the counts with those of one state more
+  pub counts-next : (q d : ℕ) (some : List ℕ) → q + 1 < length some → d ≡ oneIf (getD marks (at + q) 0) → Counts marks at q some
+      → Counts marks at (q + 1) (set some (q + 1) (getD some q 0 + d))
+  unfolding markedBelow
+  counts-next q d some long own c i h =
+      ⊎-elim
+      (λ (k : i < q + 1). getD-set-other some (q + 1) i (getD some q 0 + d) 0 (λ e. omega (arith, e)) ∙ c i (omega arith))
+      (λ (k : q + 1 ≤ i).
+      let e : i ≡ suc q = omega arith in
+      let is = getD-set-same some (q + 1) (getD some q 0 + d) 0 long in
+      rw (e, ← add-one q) (is ∙ ap₂ _+_ (c q (omega arith)) own))
+      (lt-or-ge i (q + 1))
 
 -- a mark that is higher is above as much
 pub above-more : (there apart a b : ℕ) → a ≤ b → Above there apart a → Above there apart b

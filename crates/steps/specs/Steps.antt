@@ -2,9 +2,10 @@
 -- first, and with each choice what the chunks can bring to the column's sum, and in how many of them a row can differ from another one.
 use Prim.Native.Nat.{ℕ, zero, suc, _+_, _-_, _*_, _%_, _<_, _≤_}
 use mathlib.Core.Path.{_≡_}
-use mathlib.Core.Bool.{Bool, true}
+use mathlib.Core.Bool.{true, cond}
 use mathlib.Core.Logic.{_⊎_}
 use mathlib.Core.List.{List}
+use lib.Dec.{eqb}
 use lib.ListN.{length, getD, take, drop}
 use Rattle.bits.specs.Bits.{AllBits, longest, digits}
 use Rattle.vt.specs.Sum.{total}
@@ -28,10 +29,18 @@ pub record Raises (entry exit : List ℕ) : Type 0 where
   pub long : length exit ≡ length entry
   pub grows : (i : ℕ) → getD entry i 0 ≤ getD exit i 0
 
+-- 1 for a mark, 0 for none
+abbrev pub oneIf : ℕ → ℕ
+oneIf mark = cond (eqb mark 0) 0 1
+
+-- how many of the states below q are marked, of the marks from a place on
+unfoldable pub markedBelow : (marks : List ℕ) (at q : ℕ) → ℕ
+markedBelow marks at zero = 0
+markedBelow marks at (suc q) = markedBelow marks at q + oneIf (getD marks (at + q) 0)
+
 -- counts of the marked states below each, of the marks from a place on
-pub record Counts (marks : List ℕ) (at states : ℕ) (some : List ℕ) : Type 0 where
-  pub rises : (i k : ℕ) → i ≤ k → k ≤ states → getD some i 0 ≤ getD some k 0
-  pub counts : (i : ℕ) → i < states → 0 < getD marks (at + i) 0 → getD some i 0 < getD some (i + 1) 0
+abbrev pub Counts : (marks : List ℕ) (at states : ℕ) (some : List ℕ) → Type 0
+Counts marks at states some = (q : ℕ) → q ≤ states → getD some q 0 ≡ markedBelow marks at q
 
 -- the loss states of the heavy blocks, of which so much left is one, and the counts of those that are marked
 pub record Counted (heavy : Heavy) (shape : Shape) (left marks : List ℕ) (at : ℕ) (some : List ℕ) : Type 0 where

@@ -14,11 +14,11 @@ ghost use Rattle.bits.specs.Bits.{longest};
 ghost use Rattle.states.specs.States.{state, each};
 ghost use Rattle.windows.specs.Windows.{Tables};
 ghost use Rattle.column.specs.Column.{Fit, Light, chunkAt, Crosses, apartIn, Readable};
-ghost use Rattle.steps.specs.Steps.{Counts, Above, Raises, Seeable, Viewed, Counted, Ground, Stands, Shares, Chosen, Sharing, Raised};
+ghost use Rattle.steps.specs.Steps.{oneIf, Counts, Above, Raises, Seeable, Viewed, Counted, Ground, Stands, Shares, Chosen, Sharing, Raised};
 
 // One for a mark, zero for none.
 fn one_if(mark: u8) -> u16
-    ensures { λ r. ⌜ (r ≤ 1) × (0 < mark → 0 < r) ⌝ }
+    ensures { λ r. ⌜ r ≡ oneIf mark ⌝ }
 {
     if mark == 0 {
         return 0;

@@ -179,7 +179,7 @@ share-returns t c =
     raised-none _
     (λ numbers row vs next x r m.
     let high = sharing-range x (a .a) r (d .1 .0) (g .blocks) (g .within) in
-    none-between (g .counted) (a .q) (a .q + stride (each (a .t7 .size)) (a .b)) (d .0 .room) none _
+    none-between (a .marks .now) (a .at) (a .t7 .states) (a .some .now) (g .counted) (a .q) (a .q + stride (each (a .t7 .size)) (a .b)) (d .0 .room) none _
     (omega (arith, r .number)) high m)
 
 share-array-read-look-at : (t : ℕ)
