@@ -13,7 +13,7 @@ use borrow.Author.Tests.{ne-eqb}
 use lib.Dec.{eqb}
 use lib.ListN.{length, getD, set, take, drop, length-set}
 use lib.Seq.{getD-set-same, getD-set-other}
-use Rattle.bits.specs.Bits.{AllBits, digits, number}
+use Rattle.bits.specs.Bits.{longest, digits, number}
 use Rattle.bits.proofs.Laws.{bits-digits, length-digits, lt-or-ge}
 use Rattle.vt.specs.Ones.{ones}
 use Rattle.vt.specs.Sum.{total}
@@ -29,9 +29,9 @@ use Rattle.weigh.specs.declared.Span.{Span}
 use Rattle.weigh.proofs.Spans.{one-wider}
 use Rattle.column.specs.Column.{Fit, Light, chunkAt, filled, Crosses, apartIn}
 use Rattle.column.specs.declared.Heavy.{Heavy}
-use Rattle.column.proofs.Rows.{no-loss}
+use Rattle.column.proofs.Rows.{chunk-stands, string-high, no-loss}
 use Rattle.column.proofs.Zeros.{sum-low, whole-sum}
-use Rattle.steps.specs.Steps.{Above, Raises, oneIf, markedBelow, Counts, brings, Viewed, Ground, Stands, Shares, Chosen, Sharing, Raised}
+use Rattle.steps.specs.Steps.{Above, Raises, oneIf, markedBelow, Counts, brings, Seeable, Viewed, Ground, Stands, Shares, Chosen, Sharing, Raised}
 use Rattle.steps.specs.declared.View.{View}
 
 -- ---- marked states are counted
@@ -78,6 +78,31 @@ module _ (marks : List ℕ) (at : ℕ) where
       rw (e, ← add-one q) (is ∙ ap₂ _+_ (c q (omega arith)) own))
       (lt-or-ge i (q + 1))
 
+-- ---- where a chunk stands
+-- chunk i * l2 + j is that of heavy block s in column j: it is one of the layout's, and there are few positions before it in the row, and
+-- few before it in its chunk-string
+pub record ChunkIs (l : Layout) (heavy : Heavy) (j s i : ℕ) : Type 0 where
+  pub is : i * l .l2 + j ≡ chunkAt l heavy j s
+  pub inside : i * l .l2 + j < l .l1 * l .l2
+  pub low : i * l .l2 + j < 255
+  pub in-row : (i * l .l2 + j) * l .nc ≤ longest
+  pub in-string : i * l .nc ≤ longest
+
+pub chunk-is : {l : Layout} {y totals counts : List ℕ} {heavy : Heavy} {j : ℕ} → Seeable l y totals counts heavy j → (s i : ℕ)
+    → s < heavy .n → i ≡ getD (heavy .block) s 0 → ChunkIs l heavy j s i
+chunk-is {l} {heavy = heavy} {j} g s i h e =
+    let b = g .blocks s h in
+    let k = chunk-stands l (g .allowed) (getD (heavy .block) s 0) j b (g .column) in
+    let before : getD (heavy .block) s 0 * l .nc ≤ l .l1 * l .nc = mul-le-mul-right (l .nc) (omega arith) in
+    rw e (record {
+      is = refl;
+      inside = k .0;
+      low = k .1 .0;
+      in-row = k .1 .1;
+      in-string = omega (arith, before, string-high l (g .allowed));
+    })
+
+-- ---- marks are raised
 -- a mark that is higher is above as much
 pub above-more : (there apart a b : ℕ) → a ≤ b → Above there apart a → Above there apart b
 above-more there apart a b h u = ⊎-elim (λ k. inl (omega arith)) (λ k. inr (omega arith)) u

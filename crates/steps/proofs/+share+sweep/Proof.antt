@@ -18,14 +18,14 @@ use mir.Val.{Fits}
 use Rattle.bits.specs.Bits.{digits}
 use Rattle.bits.proofs.Laws.{lt-or-ge}
 use Rattle.vt.specs.Ones.{ones}
-use Rattle.message.proofs.Legal.{legal-bounds, sizes}
+use Rattle.message.proofs.Legal.{legal-bounds}
 use Rattle.states.specs.States.{stride, each}
 use Rattle.states.proofs.States.{stride-pos}
 use Rattle.weigh.specs.Weigh.{Wider}
 use Rattle.column.specs.Column.{chunkAt}
-use Rattle.column.proofs.Rows.{chunk-stands, crosses-readable}
+use Rattle.column.proofs.Rows.{crosses-readable}
 use Rattle.steps.specs.Steps.{Ground, Stands, Shares, Chosen, Sharing, Viewed, Raised}
-use Rattle.steps.proofs.Sweeping.{none-between, raised-then, raised-none, raised-end, ground-stays}
+use Rattle.steps.proofs.Sweeping.{ChunkIs, chunk-is, none-between, raised-then, raised-none, raised-end, ground-stays}
 use Rattle.steps.proofs.Sweeping.{stands-share, shares-stands, sharing-range, chosen-share}
 use Rattle.steps.proofs.Sweeping.{as-read, ones-first, ones-last, sharing-next}
 use Rattle.steps.proofs.share.Reads as share
@@ -123,22 +123,11 @@ stride-is : (t : ℕ) (s : Share-start t) → getD (s .args .t7 .stride) (s .arg
 stride-is t s = s .pre .1 .0 .counted .shaped .counts (s .args .b) (omega (arith, s .pre .1 .0 .counted .blocks, s .pre .1 .1 .1 .0))
 
 -- where the chunk stands
-chunk-is : (t : ℕ) (c : share-lts.After-wide (share-claims t) (share-at t) share.Post share-Inv-loop share-μ-loop)
-    → let a = share-begin t (c .before .before) .args in let i = c .wide .result in
-    (i * a .l .l2 + a .j ≡ chunkAt (a .l) (a .t5) (a .j) (a .b))
-    × ((i * a .l .l2 + a .j < a .l .l1 * a .l .l2) × ((i * a .l .l2 + a .j < 255) × (i * a .l .nc ≤ 2040)))
-chunk-is t c =
+stands : (t : ℕ) (c : share-lts.After-wide (share-claims t) (share-at t) share.Post share-Inv-loop share-μ-loop)
+    → let a = share-begin t (c .before .before) .args in ChunkIs (a .l) (a .t5) (a .j) (a .b) (c .wide .result)
+stands t c =
     let s = share-begin t (c .before .before) in
-    let a = s .args in
-    let g = s .pre .1 .0 .seeable in
-    let e = ap (λ (v : ℕ). v * a .l .l2 + a .j) (c .wide .ensures) in
-    let b = g .blocks (a .b) (s .pre .1 .1 .1 .0) in
-    let k = chunk-stands (a .l) (g .allowed) (getD (a .t5 .block) (a .b) 0) (a .j) b (g .column) in
-    let low : c .wide .result ≤ 255 = omega (arith, c .wide .ensures, b, sizes (a .l) (legal-bounds (a .l) (g .allowed)) .l1-high) in
-    let before : c .wide .result * a .l .nc ≤ 2040 =
-    mul-le-mul {n₁ = c .wide .result} {m₁ = a .l .nc} {n₂ = 255} {m₂ = 8} low (legal-bounds (a .l) (g .allowed) .nc-high)
-    in
-    (e, (rw e (k .0), (rw e (k .1 .0), before)))
+    chunk-is (s .pre .1 .0 .seeable) (s .args .b) (c .wide .result) (s .pre .1 .1 .1 .0) (c .wide .ensures)
 
 -- what was seen
 viewed : (t : ℕ) (c : Seen-at t) → let a = share-begin t c .args in
@@ -217,17 +206,17 @@ share-wide-requires t c κs = search needs
 share-mul-other : (t : ℕ)
     → share-lts.Need-mul-other (share-claims t) (share-at t) share.Post share-Inv-loop share-μ-loop
 share-mul-other t c =
-    record { fits = omega (arith, chunk-is t (c .before) .1 .1 .0) }
+    record { fits = omega (arith, stands t (c .before) .low) }
 
 share-add-other : (t : ℕ)
     → share-lts.Need-add-other (share-claims t) (share-at t) share.Post share-Inv-loop share-μ-loop
 share-add-other t c =
-    record { fits = omega (arith, chunk-is t (c .before) .1 .1 .0) }
+    record { fits = omega (arith, stands t (c .before) .low) }
 
 share-shared-slice-read-other : (t : ℕ)
     → share-lts.Need-shared-slice-read-other (share-claims t) (share-at t) share.Post share-Inv-loop share-μ-loop
 share-shared-slice-read-other t c =
-    omega (arith, chunk-is t (c .before .before) .1 .0, share-begin t (c .before .before .before .before) .pre .1 .0 .others)
+    omega (arith, stands t (c .before .before) .inside, share-begin t (c .before .before .before .before) .pre .1 .0 .others)
 
 share-other-requires : (t : ℕ)
     → share-lts.Need-other-requires (share-claims t) (share-at t) share.Post share-Inv-loop share-μ-loop
@@ -255,7 +244,7 @@ share-loop-holds t c =
 share-mul-widen : (t : ℕ)
     → share-lts.Need-mul-widen (share-claims t) (share-at t) share.Post share-Inv-loop share-μ-loop
 share-mul-widen t c =
-    record { fits = omega (arith, chunk-is t (c .before .before .before .before .before .before .before) .1 .1 .1) }
+    record { fits = omega (arith, stands t (c .before .before .before .before .before .before .before) .in-string) }
 
 share-wide-requires-2 : (t : ℕ)
     → share-lts.Need-wide-requires-2 (share-claims t) (share-at t) share.Post share-Inv-loop share-μ-loop
@@ -273,7 +262,7 @@ share-widen-requires t c κs =
     let lost = c .wide2 .ensures in
     let keeps : s .args .l .nc - s .args .a ≤ 8 = omega (arith, legal-bounds (s .args .l) (g .allowed) .nc-high) in
     let low : e .before .before .look-at .result .seen .total ≤ 64 = omega (arith, i .positions-small, mul-le-mul keeps keeps) in (
-      (legal-bounds (s .args .l) (g .allowed) .nc-high, chunk-is t (c .before .before .before .before .before .before .before .before) .1 .1 .1),
+      (legal-bounds (s .args .l) (g .allowed) .nc-high, stands t (c .before .before .before .before .before .before .before .before) .in-string),
       (
         (
           omega (arith, i .count-small, v .few, lost),
@@ -323,7 +312,7 @@ share-loop-again t c =
     let a = s .args in
     let h = s .pre .1 .1 .1 .0 in
     let v = viewed t e in
-    let chunk = chunk-is t (c .before .before .before .before .before .before .before .before .before .before .before .before .before) .0 in
+    let chunk = stands t (c .before .before .before .before .before .before .before .before .before .before .before .before .before) .is in
     let block = c .before .before .before .before .before .before .before .before .before .before .before .before .before .wide .ensures in
     let lost = n .before .wide2 .ensures in
     let seen = e .before .before .look-at .result .seen in

@@ -11,7 +11,7 @@ use mir.Val.{Fits}
 use Rattle.message.proofs.Legal.{legal-bounds}
 use Rattle.weigh.specs.Weigh.{SeenIn, MoreOnes}
 use Rattle.column.specs.Column.{chunkAt}
-use Rattle.column.proofs.Rows.{chunk-stands}
+use Rattle.steps.proofs.Sweeping.{ChunkIs, chunk-is}
 use Rattle.steps.proofs.look_at.Statement.{statement}
 use Rattle.steps.proofs.look_at.Tie as tie
 
@@ -20,14 +20,10 @@ abbrev begin : tie.After-wide2 → tie.Start
 begin c = c .before .before .before .before .before .before .before
 
 -- where the chunk stands
-chunk-is : (c : tie.After-wide2) → let a = begin c .args in let i = c .wide2 .result * a .l .l2 + a .j in
-    (i ≡ chunkAt (a .l) (a .t5) (a .j) (a .s)) × ((i < 255) × (i * a .l .nc ≤ 2040))
-chunk-is c =
+stands : (c : tie.After-wide2) → let a = begin c .args in ChunkIs (a .l) (a .t5) (a .j) (a .s) (c .wide2 .result)
+stands c =
     let s = begin c in
-    let a = s .args in
-    let g = s .pre .0 in
-    let e = ap (λ (v : ℕ). v * a .l .l2 + a .j) (c .wide2 .ensures) in
-    (e, rw e (chunk-stands (a .l) (g .allowed) (getD (a .t5 .block) (a .s) 0) (a .j) (g .blocks (a .s) (s .pre .1 .0)) (g .column) .1))
+    chunk-is (s .pre .0) (s .args .s) (c .wide2 .result) (s .pre .1 .0) (c .wide2 .ensures)
 
 -- where its bits would start
 from-is : (c : tie.After-wide3) → let a = begin (c .before .before) .args in
@@ -36,8 +32,8 @@ from-is : (c : tie.After-wide3) → let a = begin (c .before .before) .args in
 from-is c =
     let s = begin (c .before .before) in
     let a = s .args in
-    let k = chunk-is (c .before .before) in
-    (ap₂ (λ (u v : ℕ). u * a .l .nc + v) (k .0) (c .wide3 .ensures), omega (arith, k .1 .1, c .wide3 .ensures, s .fits .left))
+    let k = stands (c .before .before) in
+    (ap₂ (λ (u v : ℕ). u * a .l .nc + v) (k .is) (c .wide3 .ensures), omega (arith, k .in-row, c .wide3 .ensures, s .fits .left))
 
 wide-requires : tie.Need-wide-requires
 wide-requires c κs = search needs
@@ -58,13 +54,13 @@ wide-requires-2 : tie.Need-wide-requires-2
 wide-requires-2 c κs = search needs
 
 mul-from : tie.Need-mul-from
-mul-from c = record { fits = omega (arith, chunk-is (c .before) .1 .0) }
+mul-from c = record { fits = omega (arith, stands (c .before) .low) }
 
 add-from : tie.Need-add-from
-add-from c = record { fits = omega (arith, chunk-is (c .before) .1 .0) }
+add-from c = record { fits = omega (arith, stands (c .before) .low) }
 
 mul-from-2 : tie.Need-mul-from-2
-mul-from-2 c = record { fits = omega (arith, chunk-is (c .before) .1 .1) }
+mul-from-2 c = record { fits = omega (arith, stands (c .before) .in-row) }
 
 wide-requires-3 : tie.Need-wide-requires-3
 wide-requires-3 c κs = search needs
