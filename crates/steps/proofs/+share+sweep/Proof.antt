@@ -108,23 +108,55 @@ sweep-claims t = (
   share.Post,
 )
 
--- the place where the chunk was looked at, the entry seen from there, and the turn of the loop
-abbrev Seen-at : ℕ → Type 0
-Seen-at t = share-lts.Else2 (share-claims t) (share-at t) share.Post share-Inv-loop share-μ-loop
-
+-- where `share` starts, seen from where half of its slices are known, from where all that is lent is, from where marked states were asked
+-- for, and from where the chunk can be matched
 abbrev Share-start : ℕ → Type 0
 Share-start t = share-lts.Start (share-claims t) (share-at t) share.Post share-Inv-loop share-μ-loop
 
+abbrev share-half : (t : ℕ) → share-lts.After-shared-slice-known4 (share-claims t) (share-at t) share.Post share-Inv-loop share-μ-loop → Share-start t
+share-half t c = c .before .before .before .before
+
+abbrev share-known : (t : ℕ) → share-lts.After-slice-known (share-claims t) (share-at t) share.Post share-Inv-loop share-μ-loop → Share-start t
+share-known t c = share-half t (c .before .before .before)
+
+abbrev share-asked : (t : ℕ) → share-lts.After-none-marked (share-claims t) (share-at t) share.Post share-Inv-loop share-μ-loop → Share-start t
+share-asked t c = share-known t (c .before .before)
+
+abbrev Seen-at : ℕ → Type 0
+Seen-at t = share-lts.Else2 (share-claims t) (share-at t) share.Post share-Inv-loop share-μ-loop
+
 abbrev share-begin : (t : ℕ) → Seen-at t → Share-start t
-share-begin t c = c .before .before .before .before .before .before .before .before .before .before .before .before .before
+share-begin t c = share-asked t (c .before .before .before .before)
+
+-- where the block is known and where the chunk can be matched, seen from where it was compared; that seen from a turn of the loop; and the
+-- turn seen from its wider span
+abbrev Block-at : ℕ → Type 0
+Block-at t = share-lts.After-wide (share-claims t) (share-at t) share.Post share-Inv-loop share-μ-loop
+
+abbrev Other-at : ℕ → Type 0
+Other-at t = share-lts.After-other (share-claims t) (share-at t) share.Post share-Inv-loop share-μ-loop
+
+abbrev Turn-at : ℕ → Type 0
+Turn-at t = share-lts.In-loop (share-claims t) (share-at t) share.Post share-Inv-loop share-μ-loop
+
+abbrev block : (t : ℕ) → Other-at t → Block-at t
+block t c = c .before .before .before
+
+abbrev seen : (t : ℕ) → Other-at t → Seen-at t
+seen t c = block t c .before .before
+
+abbrev other : (t : ℕ) → Turn-at t → Other-at t
+other t c = c .before .before .before
+
+abbrev turn : (t : ℕ) → share-lts.After-widen (share-claims t) (share-at t) share.Post share-Inv-loop share-μ-loop → Turn-at t
+turn t c = c .before .before .before
 
 -- what one loss of block b counts in the number of a state
 stride-is : (t : ℕ) (s : Share-start t) → getD (s .args .t7 .stride) (s .args .b) 0 ≡ stride (each (s .args .t7 .size)) (s .args .b)
 stride-is t s = s .pre .1 .0 .counted .shaped .counts (s .args .b) (omega (arith, s .pre .1 .0 .counted .blocks, s .pre .1 .1 .1 .0))
 
 -- where the chunk stands
-stands : (t : ℕ) (c : share-lts.After-wide (share-claims t) (share-at t) share.Post share-Inv-loop share-μ-loop)
-    → let a = share-begin t (c .before .before) .args in ChunkIs (a .l) (a .t5) (a .j) (a .b) (c .wide .result)
+stands : (t : ℕ) (c : Block-at t) → let a = share-begin t (c .before .before) .args in ChunkIs (a .l) (a .t5) (a .j) (a .b) (c .wide .result)
 stands t c =
     let s = share-begin t (c .before .before) in
     chunk-is (s .pre .1 .0 .seeable) (s .args .b) (c .wide .result) (s .pre .1 .1 .1 .0) (c .wide .ensures)
@@ -145,13 +177,13 @@ share-element-copy-out-none-marked t c = search needs
 share-add-none-marked : (t : ℕ)
     → share-lts.Need-add-none-marked (share-claims t) (share-at t) share.Post share-Inv-loop share-μ-loop
 share-add-none-marked t c =
-    let s = c .before .before .before .before .before .before .before .before in
+    let s = share-known t (c .before) in
     record { fits = omega (arith, stride-is t s, s .pre .1 .1 .0 .room, s .pre .1 .0 .counted .states) }
 
 share-none-marked-requires : (t : ℕ)
     → share-lts.Need-none-marked-requires (share-claims t) (share-at t) share.Post share-Inv-loop share-μ-loop
 share-none-marked-requires t c κs =
-    let s = c .before .before .before .before .before .before .before .before in
+    let s = share-known t (c .before) in
     let g = s .pre .1 .0 .counted in
     let room = s .pre .1 .1 .0 .room in
     let some = stride-pos (each (s .args .t7 .size)) (s .args .b) in
@@ -160,7 +192,7 @@ share-none-marked-requires t c κs =
 share-returns : (t : ℕ)
     → share-lts.Need-returns (share-claims t) (share-at t) share.Post share-Inv-loop share-μ-loop
 share-returns t c =
-    let s = c .before .before .before .before .before .before .before .before .before .before in
+    let s = share-asked t (c .before) in
     let a = s .args in
     let g = s .pre .1 .0 .counted in
     let d = s .pre .1 .1 in
@@ -178,14 +210,14 @@ share-array-read-look-at t c = search needs
 share-look-at-requires : (t : ℕ)
     → share-lts.Need-look-at-requires (share-claims t) (share-at t) share.Post share-Inv-loop share-μ-loop
 share-look-at-requires t c κs =
-    let p = c .before .before .before .before .before .before .before .before .before .before .pre .1 in
+    let p = share-asked t (c .before) .pre .1 in
     (p .0 .seeable, (p .1 .1 .0, p .1 .1 .1))
 
 share-returns-2 : (t : ℕ)
     → share-lts.Need-returns-2 (share-claims t) (share-at t) share.Post share-Inv-loop share-μ-loop
 share-returns-2 t c =
     let w = c .before .before in
-    let s = w .before .before .before .before .before .before .before .before .before .before .before in
+    let s = share-asked t (w .before .before) in
     let a = s .args in
     raised-none _
     (λ numbers row vs next x r m.
@@ -229,13 +261,13 @@ share-other-requires t c κs =
 share-add-more : (t : ℕ)
     → share-lts.Need-add-more (share-claims t) (share-at t) share.Post share-Inv-loop share-μ-loop
 share-add-more t c =
-    let s = share-begin t (c .before .before .before .before .before) in
+    let s = share-begin t (seen t c) in
     record { fits = omega (arith, c .other .ensures .1, s .pre .1 .1 .0 .apart-low, s .pre .1 .0 .seeable .few) }
 
 share-loop-holds : (t : ℕ)
     → share-lts.Need-loop-holds (share-claims t) (share-at t) share.Post share-Inv-loop share-μ-loop
 share-loop-holds t c =
-    let e = c .before .before .before .before .before .before in
+    let e = seen t (c .before) in
     let s = share-begin t e in
     raised-none _
     (λ numbers row vs next x r m.
@@ -244,7 +276,7 @@ share-loop-holds t c =
 share-mul-widen : (t : ℕ)
     → share-lts.Need-mul-widen (share-claims t) (share-at t) share.Post share-Inv-loop share-μ-loop
 share-mul-widen t c =
-    record { fits = omega (arith, stands t (c .before .before .before .before .before .before .before) .in-string) }
+    record { fits = omega (arith, stands t (block t (other t (c .before))) .in-string) }
 
 share-wide-requires-2 : (t : ℕ)
     → share-lts.Need-wide-requires-2 (share-claims t) (share-at t) share.Post share-Inv-loop share-μ-loop
@@ -253,7 +285,8 @@ share-wide-requires-2 t c κs = search needs
 share-widen-requires : (t : ℕ)
     → share-lts.Need-widen-requires (share-claims t) (share-at t) share.Post share-Inv-loop share-μ-loop
 share-widen-requires t c κs =
-    let e = c .before .before .before .before .before .before .before .before .before .before in
+    let o = other t (c .before .before) in
+    let e = seen t o in
     let s = share-begin t e in
     let g = s .pre .1 .0 .seeable in
     let h = s .pre .1 .1 .0 in
@@ -262,7 +295,7 @@ share-widen-requires t c κs =
     let lost = c .wide2 .ensures in
     let keeps : s .args .l .nc - s .args .a ≤ 8 = omega (arith, legal-bounds (s .args .l) (g .allowed) .nc-high) in
     let low : e .before .before .look-at .result .seen .total ≤ 64 = omega (arith, i .positions-small, mul-le-mul keeps keeps) in (
-      (legal-bounds (s .args .l) (g .allowed) .nc-high, stands t (c .before .before .before .before .before .before .before .before) .in-string),
+      (legal-bounds (s .args .l) (g .allowed) .nc-high, stands t (block t o) .in-string),
       (
         (
           omega (arith, i .count-small, v .few, lost),
@@ -276,10 +309,10 @@ share-sweep-requires : (t : ℕ)
     → share-lts.Need-sweep-requires (share-claims t) (share-at t) share.Post share-Inv-loop share-μ-loop
 share-sweep-requires t c κs =
     let w = c .before in
-    let e = c .before .before .before .before .before .before .before .before .before .before .before .before in
-    let s = share-begin t e in
-    let p = w .before .before .before .before in
-    let o = c .before .before .before .before .before .before .before in
+    let i = turn t w in
+    let p = i .before in
+    let o = other t i in
+    let s = share-begin t (seen t o) in
     let n = w .widen .ensures in (
       omega (arith, s .pre .0),
       (
@@ -292,33 +325,33 @@ share-sweep-requires t c κs =
 share-add-g : (t : ℕ)
     → share-lts.Need-add-g (share-claims t) (share-at t) share.Post share-Inv-loop share-μ-loop
 share-add-g t c =
-    let e = c .before .before .before .before .before .before .before .before .before .before .before .before .before .before .before in
-    record { fits = omega (arith, c .before .before .before .before .before .before .before .loop-test .taken, viewed t e .more .few, share-begin t e .fits .a) }
+    let i = turn t (c .before .before .before .before) in
+    let e = seen t (other t i) in
+    record { fits = omega (arith, i .loop-test .taken, viewed t e .more .few, share-begin t e .fits .a) }
 
 share-loop-less : (t : ℕ)
     → share-lts.Need-loop-less (share-claims t) (share-at t) share.Post share-Inv-loop share-μ-loop
 share-loop-less t c =
-    omega (arith, c .before .before .before .before .before .before .before .loop-test .taken)
+    omega (arith, turn t (c .before .before .before .before) .loop-test .taken)
 
 share-loop-again : (t : ℕ)
     → share-lts.Need-loop-again (share-claims t) (share-at t) share.Post share-Inv-loop share-μ-loop
 share-loop-again t c =
     let n = c .before .before .before .before in
-    let i = c .before .before .before .before .before .before .before in
-    let p = i .before in
-    let o = c .before .before .before .before .before .before .before .before .before .before in
-    let e = c .before .before .before .before .before .before .before .before .before .before .before .before .before .before .before in
+    let p = turn t n .before in
+    let o = other t (turn t n) in
+    let k = block t o in
+    let e = seen t o in
     let s = share-begin t e in
     let a = s .args in
     let h = s .pre .1 .1 .1 .0 in
     let v = viewed t e in
-    let chunk = stands t (c .before .before .before .before .before .before .before .before .before .before .before .before .before) .is in
-    let block = c .before .before .before .before .before .before .before .before .before .before .before .before .before .wide .ensures in
+    let chunk = stands t k .is in
     let lost = n .before .wide2 .ensures in
-    let seen = e .before .before .look-at .result .seen in
-    let wider : Wider (a .l .nc) (getD (a .t5 .block) (a .b) 0 * a .l .nc) (a .a) seen (p .loop .g) (a .span) (n .widen .result) =
-    subst (λ (k : ℕ). Wider (a .l .nc) (k * a .l .nc) (a .a) seen (p .loop .g) (a .span) (n .widen .result)) block
-    (subst (λ (k : ℕ). Wider (a .l .nc) (c .before .before .before .before .before .before .before .before .before .before .before .before .before .wide .result * a .l .nc) k seen (p .loop .g) (a .span) (n .widen .result)) lost
+    let had = e .before .before .look-at .result .seen in
+    let wider : Wider (a .l .nc) (getD (a .t5 .block) (a .b) 0 * a .l .nc) (a .a) had (p .loop .g) (a .span) (n .widen .result) =
+    subst (λ (k : ℕ). Wider (a .l .nc) (k * a .l .nc) (a .a) had (p .loop .g) (a .span) (n .widen .result)) (k .wide .ensures)
+    (subst (λ (v : ℕ). Wider (a .l .nc) (k .wide .result * a .l .nc) v had (p .loop .g) (a .span) (n .widen .result)) lost
     (n .widen .ensures))
     in
     raised-then (p .loop .inv) (c .before .before .sweep .ensures)
@@ -327,13 +360,13 @@ share-loop-again t c =
     (λ k. inl (r .0, k))
     (λ k.
     let just : ones (digits (a .l .nc) (getD vs (chunkAt (a .l) (a .t5) (a .j) (a .b)) 0))
-    ≡ e .before .before .look-at .result .seen .ones + p .loop .g =
+    ≡ had .ones + p .loop .g =
     omega (arith, r .1, k)
     in
-    let other = o .other .ensures .0 (getD vs (chunkAt (a .l) (a .t5) (a .j) (a .b)) 0) (as-read x h (a .a) v (r .0)) in
+    let like = o .other .ensures .0 (getD vs (chunkAt (a .l) (a .t5) (a .j) (a .b)) 0) (as-read x h (a .a) v (r .0)) in
     inr (sharing-next x h (a .a) v (r .0) (p .loop .g) (a .apart + o .other .result) (n .widen .result) just wider
-    (omega (arith, rw chunk at other))))
-    (lt-or-ge (ones (digits (a .l .nc) (getD vs (chunkAt (a .l) (a .t5) (a .j) (a .b)) 0))) (e .before .before .look-at .result .seen .ones + p .loop .g)))
+    (omega (arith, rw chunk at like))))
+    (lt-or-ge (ones (digits (a .l .nc) (getD vs (chunkAt (a .l) (a .t5) (a .j) (a .b)) 0))) (had .ones + p .loop .g)))
 
 share-same-length : (t : ℕ)
     → share-lts.Need-same-length (share-claims t) (share-at t) share.Post share-Inv-loop share-μ-loop
@@ -344,7 +377,7 @@ share-returns-3 : (t : ℕ)
     → share-lts.Need-returns-3 (share-claims t) (share-at t) share.Post share-Inv-loop share-μ-loop
 share-returns-3 t c =
     let p = c .before in
-    let e = c .before .before .before .before .before .before .before .before in
+    let e = seen t (p .before .before) in
     let s = share-begin t e in
     let v = viewed t e in
     let i = p .loop .inv in
@@ -355,16 +388,24 @@ share-returns-3 t c =
           (r, omega (arith, ones-last x (s .pre .1 .1 .1 .0) (s .args .a) v r, c .loop-test .left)) is m;
     }
 
--- the place where a block is left, and the entry seen from there
+-- where `sweep` starts, seen from where half of its slices are known, from where all that is lent is, and from where a block is left
+abbrev Sweep-start : ℕ → Type 0
+Sweep-start t = sweep-lts.Start (sweep-claims t) (sweep-at t) sweep.Post sweep-Inv-loop sweep-μ-loop
+
+abbrev sweep-half : (t : ℕ) → sweep-lts.After-shared-slice-known4 (sweep-claims t) (sweep-at t) sweep.Post sweep-Inv-loop sweep-μ-loop → Sweep-start t
+sweep-half t c = c .before .before .before .before
+
+abbrev sweep-known : (t : ℕ) → sweep-lts.After-slice-known (sweep-claims t) (sweep-at t) sweep.Post sweep-Inv-loop sweep-μ-loop → Sweep-start t
+sweep-known t c = sweep-half t (c .before .before .before)
+
 abbrev Left-at : ℕ → Type 0
 Left-at t = sweep-lts.Else1 (sweep-claims t) (sweep-at t) sweep.Post sweep-Inv-loop sweep-μ-loop
 
-abbrev sweep-begin : (t : ℕ) → Left-at t → sweep-lts.Start (sweep-claims t) (sweep-at t) sweep.Post sweep-Inv-loop sweep-μ-loop
-sweep-begin t c = c .before .before .before .before .before .before .before .before
+abbrev sweep-begin : (t : ℕ) → Left-at t → Sweep-start t
+sweep-begin t c = sweep-known t (c .before)
 
 -- what is left in a block is a byte
-left-byte : (t : ℕ) (s : sweep-lts.Start (sweep-claims t) (sweep-at t) sweep.Post sweep-Inv-loop sweep-μ-loop) (i : ℕ)
-    → Fits w8 (getD (s .args .t9) i 0)
+left-byte : (t : ℕ) (s : Sweep-start t) (i : ℕ) → Fits w8 (getD (s .args .t9) i 0)
 left-byte t s i = search needs
 
 -- the block is one of the heavy blocks, and one more than its number are left
@@ -412,7 +453,7 @@ in-room t c =
 sweep-add-raise-one : (t : ℕ)
     → sweep-lts.Need-add-raise-one (sweep-claims t) (sweep-at t) sweep.Post sweep-Inv-loop sweep-μ-loop
 sweep-add-raise-one t c =
-    let s = c .before .before .before .before .before .before .before .before in
+    let s = sweep-known t (c .before) in
     let g = s .pre .1 .0 .counted in
     let some = stride-pos (each (s .args .t7 .size)) (s .args .s) in
     record { fits = omega (arith, g .marked, s .pre .1 .1 .room, some, s .good .1 .1 .1 .1 .1 .1 .1 .1 .1 .1 .1 .1 .0) }
@@ -420,14 +461,14 @@ sweep-add-raise-one t c =
 sweep-shared-slice-read-raise-one : (t : ℕ)
     → sweep-lts.Need-shared-slice-read-raise-one (sweep-claims t) (sweep-at t) sweep.Post sweep-Inv-loop sweep-μ-loop
 sweep-shared-slice-read-raise-one t c =
-    let s = c .before .before .before .before .before .before .before .before .before in
+    let s = sweep-known t (c .before .before) in
     let some = stride-pos (each (s .args .t7 .size)) (s .args .s) in
     omega (arith, s .pre .1 .0 .counted .marked, s .pre .1 .1 .room, some)
 
 sweep-raise-one-requires : (t : ℕ)
     → sweep-lts.Need-raise-one-requires (sweep-claims t) (sweep-at t) sweep.Post sweep-Inv-loop sweep-μ-loop
 sweep-raise-one-requires t c κs =
-    let s = c .before .before .before .before .before .before .before .before .before .before in
+    let s = sweep-known t (c .before .before .before) in
     let g = s .pre .1 .0 in
     let d = s .pre .1 .1 in
     let some = stride-pos (each (s .args .t7 .size)) (s .args .s) in
@@ -452,7 +493,7 @@ sweep-sub-b t c =
 sweep-array-read-wide : (t : ℕ)
     → sweep-lts.Need-array-read-wide (sweep-claims t) (sweep-at t) sweep.Post sweep-Inv-loop sweep-μ-loop
 sweep-array-read-wide t c =
-    let s = c .before .before .before .before .before .before .before .before in
+    let s = sweep-begin t c in
     omega (arith, s .pre .1 .1 .inside, s .pre .1 .0 .seeable .few, c .if1 .left)
 
 sweep-wide-requires : (t : ℕ)
@@ -468,13 +509,13 @@ sweep-mul-one t c =
 sweep-element-copy-out-one : (t : ℕ)
     → sweep-lts.Need-element-copy-out-one (sweep-claims t) (sweep-at t) sweep.Post sweep-Inv-loop sweep-μ-loop
 sweep-element-copy-out-one t c =
-    let s = c .before .before .before .before .before .before .before .before .before in
+    let s = sweep-begin t (c .before) in
     omega (arith, s .pre .1 .1 .inside, s .pre .1 .0 .seeable .few, c .before .if1 .left)
 
 sweep-loop-holds : (t : ℕ)
     → sweep-lts.Need-loop-holds (sweep-claims t) (sweep-at t) sweep.Post sweep-Inv-loop sweep-μ-loop
 sweep-loop-holds t c =
-    let s = c .before .before .before .before .before .before .before .before .before .before in
+    let s = sweep-begin t (c .before .before) in
     let h = below-n t (c .before .before) in
     raised-none _ (λ numbers row vs next x r m. omega (arith, r .1, x .falls (s .args .s - 1) h))
 

@@ -15,9 +15,16 @@ use Rattle.steps.proofs.Sweeping.{ChunkIs, chunk-is}
 use Rattle.steps.proofs.look_at.Statement.{statement}
 use Rattle.steps.proofs.look_at.Tie as tie
 
--- the start of the function
+-- where the function starts, seen from where the losses are known, and from where the block is
+abbrev start : tie.After-wide → tie.Start
+start c = c .before .before .before .before
+
 abbrev begin : tie.After-wide2 → tie.Start
-begin c = c .before .before .before .before .before .before .before
+begin c = start (c .before .before .before)
+
+-- where the block is known, seen from where the chunk can be matched
+abbrev block : tie.Else2 → tie.After-wide2
+block c = c .before .before .before .before .before .before
 
 -- where the chunk stands
 stands : (c : tie.After-wide2) → let a = begin c .args in ChunkIs (a .l) (a .t5) (a .j) (a .s) (c .wide2 .result)
@@ -44,7 +51,7 @@ unseen-requires c κs = search needs
 returns : tie.Need-returns
 returns c = (
   λ e. absurd (false≢true (sym (c .unseen .ensures) ∙ e)),
-  λ r. absurd (omega (arith, r .few, c .before .if1 .taken, c .before .before .wide .ensures, c .before .before .before .before .before .before .pre .1 .1)),
+  λ r. absurd (omega (arith, r .few, c .before .if1 .taken, c .before .before .wide .ensures, start (c .before .before) .pre .1 .1)),
 )
 
 element-copy-out-wide : tie.Need-element-copy-out-wide
@@ -81,19 +88,19 @@ place-of-requires c κs =
     (legal-bounds (s .args .l) (g .allowed) .nc-high, (g .short, omega (arith, from-is (c .before) .1)))
 
 -- the place that was found
-found : (c : tie.Else2) → let p = c .before .before in let a = begin (p .before .before .before .before) .args in
+found : (c : tie.Else2) → let p = c .before .before in let a = begin (block c) .args in
     (p .place-of .result .at ≡ chunkAt (a .l) (a .t5) (a .j) (a .s) * a .l .nc + a .left - getD (a .t5 .end) (a .s) 0)
     × ((p .place-of .result .at + a .l .nc ≤ length (a .y .now) + a .a) × (a .a ≤ a .l .nc))
 found c =
     let p = c .before .before in
-    let w = p .before .before in
-    let s = begin (w .before .before) in
+    let k = block c .before .before in
+    let s = begin (block c) in
     let a = s .args in
     let e = p .place-of .ensures .1 (not-false _ (c .if2 .left)) in
     let lost : p .place-of .result .lost ≡ a .a = e .1 .0 ∙ omega (arith, s .pre .1 .1) in
     let few = s .pre .1 .1 in (
-      e .0 ∙ ap (λ (k : ℕ). k - getD (a .t5 .end) (a .s) 0) (from-is w .0),
-      (omega (arith, e .1 .1, lost), omega (arith, w .before .before .before .before .if1 .left, w .before .before .before .before .before .wide .ensures)),
+      e .0 ∙ ap (λ (k : ℕ). k - getD (a .t5 .end) (a .s) 0) (from-is (p .before .before) .0),
+      (omega (arith, e .1 .1, lost), omega (arith, k .if1 .left, k .before .wide .ensures)),
     )
 
 unseen-requires-2 : tie.Need-unseen-requires-2
@@ -110,13 +117,13 @@ returns-2 c =
 look-requires : tie.Need-look-requires
 look-requires c κs =
     let f = found c in
-    let g = begin (c .before .before .before .before .before .before) .pre .0 in
+    let g = begin (block c) .pre .0 in
     (g .bits, (g .short, (g .tables, omega (arith, f))))
 
 more-ones-requires : tie.Need-more-ones-requires
 more-ones-requires c κs =
     let f = found (c .before) in
-    let g = begin (c .before .before .before .before .before .before .before) .pre .0 in
+    let g = begin (block (c .before)) .pre .0 in
     (g .bits, (g .short, (g .tables, omega (arith, f))))
 
 returns-3 : tie.Need-returns-3
@@ -124,9 +131,9 @@ returns-3 c =
     let e = c .before .before in
     let f = found e in
     let l = c .before .look .ensures in
-    let w = e .before .before .before .before .before .before .before .before in
+    let w = block e .before .before in
     let lost = w .before .wide .ensures in
-    let a = begin (e .before .before .before .before .before .before) .args in
+    let a = begin (block e) .args in
     let at = e .before .before .place-of .result .at in (
       λ ok.
           record {

@@ -13,6 +13,13 @@ use Rattle.steps.proofs.Sweeping.{light-low, light-brings, chosen-none}
 use Rattle.steps.proofs.raise.Statement.{statement}
 use Rattle.steps.proofs.raise.Tie as tie
 
+-- where the function starts, seen from where half of the slices are known, and from where all that is lent is
+abbrev half : tie.After-shared-slice-known5 → tie.Start
+half c = c .before .before .before .before .before
+
+abbrev start : tie.After-struct-known → tie.Start
+start c = half (c .before .before .before .before .before)
+
 -- the modulus is small, and so are the sum and its place
 record Low (s : tie.Start) : Type 0 where
   modulus : s .args .l .l1 * s .args .l .nc ≤ 2040
@@ -30,48 +37,48 @@ low s =
     }
 
 mul-modulus : tie.Need-mul-modulus
-mul-modulus c = record { fits = omega (arith, low (c .before .before .before .before .before .before .before .before .before .before) .modulus) }
+mul-modulus c = record { fits = omega (arith, low (start c) .modulus) }
 
 add-modulus : tie.Need-add-modulus
-add-modulus c = record { fits = omega (arith, low (c .before .before .before .before .before .before .before .before .before .before) .modulus) }
+add-modulus c = record { fits = omega (arith, low (start c) .modulus) }
 
 add-missing : tie.Need-add-missing
-add-missing c = record { fits = omega (arith, low (c .before .before .before .before .before .before .before .before .before .before .before) .index) }
+add-missing c = record { fits = omega (arith, low (start (c .before)) .index) }
 
 mul-missing : tie.Need-mul-missing
-mul-missing c = record { fits = omega (arith, low (c .before .before .before .before .before .before .before .before .before .before .before) .index) }
+mul-missing c = record { fits = omega (arith, low (start (c .before)) .index) }
 
 shared-slice-read-missing : tie.Need-shared-slice-read-missing
 shared-slice-read-missing c =
-    let s = c .before .before .before .before .before .before .before .before .before .before .before .before in
+    let s = start (c .before .before) in
     omega (arith, s .pre .0 .0 .sums, s .pre .0 .1 .1 .0)
 
 cast-missing : tie.Need-cast-missing
 cast-missing c =
-    let b = low (c .before .before .before .before .before .before .before .before .before .before .before .before) in
+    let b = low (start (c .before .before)) in
     record { fits = omega (arith, b .modulus, b .sum) }
 
 mul-missing-2 : tie.Need-mul-missing-2
-mul-missing-2 c = record { fits = omega (arith, low (c .before .before .before .before .before .before .before .before .before .before .before .before) .index) }
+mul-missing-2 c = record { fits = omega (arith, low (start (c .before .before)) .index) }
 
 shared-slice-read-missing-2 : tie.Need-shared-slice-read-missing-2
 shared-slice-read-missing-2 c =
-    let s = c .before .before .before .before .before .before .before .before .before .before .before .before .before in
+    let s = start (c .before .before .before) in
     omega (arith, s .pre .0 .1 .1 .0, s .pre .0 .1 .1 .1 .0)
 
 cast-missing-2 : tie.Need-cast-missing-2
 cast-missing-2 c =
-    let a = c .before .before .before .before .before .before .before .before .before .before .before .before .before .args in
+    let a = start (c .before .before .before) .args in
     record { fits = omega (arith, c .shared-slice-known10 .given (a .j)) }
 
 missing-requires : tie.Need-missing-requires
 missing-requires c κs =
-    let b = low (c .before .before .before .before .before .before .before .before .before .before .before .before .before) in
+    let b = low (start (c .before .before .before)) in
     (omega (arith, b .sum), omega (arith, b .modulus))
 
 sweep-requires : tie.Need-sweep-requires
 sweep-requires c κs =
-    let s = c .before .before .before .before .before .before .before .before .before .before .before .before .before .before .before in
+    let s = start (c .before .before .before .before .before) in
     let p = s .pre in
     let f = p .0 .0 in
     let d = p .1 .0 in
@@ -111,7 +118,7 @@ returns : tie.Need-returns
 returns c =
     let w = c .before .before in
     let n = w .before .before in
-    let s = n .before .before .before .before .before .before .before .before .before .before .before .before .before .before in
+    let s = start (n .before .before .before .before) in
     let a = s .args in
     let p = s .pre in (
       w .sweep .ensures .raises,
