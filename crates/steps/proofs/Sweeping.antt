@@ -31,7 +31,8 @@ use Rattle.column.specs.Column.{Fit, Light, chunkAt, filled, Crosses, apartIn}
 use Rattle.column.specs.declared.Heavy.{Heavy}
 use Rattle.column.proofs.Rows.{chunk-stands, string-high, no-loss}
 use Rattle.column.proofs.Zeros.{sum-low, whole-sum}
-use Rattle.steps.specs.Steps.{Above, Raises, oneIf, markedBelow, Counts, brings, Seeable, Viewed, Ground, Stands, Shares, Chosen, Sharing, Raised}
+use Rattle.steps.specs.Steps.{Above, Raises, oneIf, markedBelow, Counts, brings}
+use Rattle.steps.specs.Steps.{Seeable, Viewed, Ground, Stands, Shares, Chosen, Sharing, Raised}
 use Rattle.steps.specs.declared.View.{View}
 
 -- ---- marked states are counted
@@ -63,15 +64,17 @@ module _ (marks : List ℕ) (at : ℕ) where
   pub none-between : (states : ℕ) (some : List ℕ) → Counts marks at states some → (low high : ℕ) → high ≤ states
       → getD some high 0 ≤ getD some low 0 → (q : ℕ) → low ≤ q → q < high → 0 < getD marks (at + q) 0 → ⊥
   none-between states some c low high top same q a b m =
-      omega (arith, c low (omega arith), c high top, marked-rises low q a, marked-counts q m, marked-rises (suc q) high (omega arith))
+      let up = marked-rises (suc q) high (omega arith) in
+      omega (arith, c low (omega arith), c high top, marked-rises low q a, marked-counts q m, up)
 
   -- the counts with those of one state more
-  pub counts-next : (q d : ℕ) (some : List ℕ) → q + 1 < length some → d ≡ oneIf (getD marks (at + q) 0) → Counts marks at q some
-      → Counts marks at (q + 1) (set some (q + 1) (getD some q 0 + d))
+  pub counts-next : (q d : ℕ) (some : List ℕ) → q + 1 < length some → d ≡ oneIf (getD marks (at + q) 0)
+      → Counts marks at q some → Counts marks at (q + 1) (set some (q + 1) (getD some q 0 + d))
   unfolding markedBelow
   counts-next q d some long own c i h =
       ⊎-elim
-      (λ (k : i < q + 1). getD-set-other some (q + 1) i (getD some q 0 + d) 0 (λ e. omega (arith, e)) ∙ c i (omega arith))
+      (λ (k : i < q + 1).
+      getD-set-other some (q + 1) i (getD some q 0 + d) 0 (λ e. omega (arith, e)) ∙ c i (omega arith))
       (λ (k : q + 1 ≤ i).
       let e : i ≡ suc q = omega arith in
       let is = getD-set-same some (q + 1) (getD some q 0 + d) 0 long in
@@ -79,8 +82,8 @@ module _ (marks : List ℕ) (at : ℕ) where
       (lt-or-ge i (q + 1))
 
 -- ---- where a chunk stands
--- chunk i * l2 + j is that of heavy block s in column j: it is one of the layout's, and there are few positions before it in the row, and
--- few before it in its chunk-string
+-- chunk i * l2 + j is that of heavy block s in column j: it is one of the layout's, and few positions are before it
+-- in the row, and in its chunk-string
 pub record ChunkIs (l : Layout) (heavy : Heavy) (j s i : ℕ) : Type 0 where
   pub is : i * l .l2 + j ≡ chunkAt l heavy j s
   pub inside : i * l .l2 + j < l .l1 * l .l2
@@ -88,8 +91,8 @@ pub record ChunkIs (l : Layout) (heavy : Heavy) (j s i : ℕ) : Type 0 where
   pub in-row : (i * l .l2 + j) * l .nc ≤ longest
   pub in-string : i * l .nc ≤ longest
 
-pub chunk-is : {l : Layout} {y totals counts : List ℕ} {heavy : Heavy} {j : ℕ} → Seeable l y totals counts heavy j → (s i : ℕ)
-    → s < heavy .n → i ≡ getD (heavy .block) s 0 → ChunkIs l heavy j s i
+pub chunk-is : {l : Layout} {y totals counts : List ℕ} {heavy : Heavy} {j : ℕ} → Seeable l y totals counts heavy j
+    → (s i : ℕ) → s < heavy .n → i ≡ getD (heavy .block) s 0 → ChunkIs l heavy j s i
 chunk-is {l} {heavy = heavy} {j} g s i h e =
     let b = g .blocks s h in
     let k = chunk-stands l (g .allowed) (getD (heavy .block) s 0) j b (g .column) in
@@ -138,7 +141,9 @@ module _ {l : Layout} {y : List ℕ} {heavy : Heavy} {z : List ℕ} {shape : Sha
             };
         gains = λ numbers row vs next x r e m.
             ⊎-elim
-            (λ u. above-more there (apartIn l heavy z vs j (heavy .n)) _ _ (q .raises .grows (state (each (shape .size)) next (shape .n))) (p .gains numbers row vs next x u e m))
+            (λ u.
+            above-more there (apartIn l heavy z vs j (heavy .n)) _ _ (q .raises .grows (state (each (shape .size)) next (shape .n)))
+            (p .gains numbers row vs next x u e m))
             (λ u. q .gains numbers row vs next x u e m)
             (parts numbers row vs next x r);
       }

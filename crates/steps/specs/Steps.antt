@@ -79,8 +79,8 @@ pub record Viewed (l : Layout) (y : List ℕ) (heavy : Heavy) (j s left a : ℕ)
   pub more : MoreOnes y (view .at) (l .nc - a) a (view .first) (view .last)
 
 -- all that a sweep reads: the loss states, so much left in one of them, what is needed, and the marks of the states after the column
-pub record Ground (l : Layout) (y totals counts : List ℕ) (heavy : Heavy) (z : List ℕ) (shape : Shape) (j : ℕ) (left : List ℕ)
-    (modulus need : ℕ) (marks : List ℕ) (at : ℕ) (some fresh : List ℕ) : Type 0 where
+pub record Ground (l : Layout) (y totals counts : List ℕ) (heavy : Heavy) (z : List ℕ) (shape : Shape) (j : ℕ)
+    (left : List ℕ) (modulus need : ℕ) (marks : List ℕ) (at : ℕ) (some fresh : List ℕ) : Type 0 where
   pub seeable : Seeable l y totals counts heavy j
   pub others : l .l1 * l .l2 ≤ length z
   pub counted : Counted heavy shape left marks at some
@@ -105,16 +105,16 @@ pub record Shares (shape : Shape) (n b q : ℕ) (span : Span) (apart : ℕ) : Ty
   pub apart-low : apart + b + 1 ≤ n
 
 -- the choices so far are those of a row with the chunks vs that is at the state next after the column
-pub record Chosen (l : Layout) (heavy : Heavy) (z : List ℕ) (shape : Shape) (j s q : ℕ) (span : Span) (apart : ℕ) (next : ℕ → ℕ)
-    (vs : List ℕ) : Type 0 where
+pub record Chosen (l : Layout) (heavy : Heavy) (z : List ℕ) (shape : Shape) (j s q : ℕ) (span : Span) (apart : ℕ)
+    (next : ℕ → ℕ) (vs : List ℕ) : Type 0 where
   pub number : q + state (each (shape .size)) next s ≡ state (each (shape .size)) next (shape .n)
   pub low : span .low + 2 * brings l heavy j vs s ≤ 2 * brings l heavy j vs (heavy .n)
   pub high : 2 * brings l heavy j vs (heavy .n) ≤ span .high + 2 * brings l heavy j vs s
   pub differs : apartIn l heavy z vs j (heavy .n) ≤ apart + apartIn l heavy z vs j s
 
 -- the same where heavy block b has just got its share, of a bits
-pub record Sharing (l : Layout) (heavy : Heavy) (z : List ℕ) (shape : Shape) (j : ℕ) (left : ℕ → ℕ) (b a q : ℕ) (span : Span) (apart : ℕ)
-    (next : ℕ → ℕ) (vs : List ℕ) : Type 0 where
+pub record Sharing (l : Layout) (heavy : Heavy) (z : List ℕ) (shape : Shape) (j : ℕ) (left : ℕ → ℕ) (b a q : ℕ)
+    (span : Span) (apart : ℕ) (next : ℕ → ℕ) (vs : List ℕ) : Type 0 where
   pub own : left b ≡ next b + a
   pub number : q + state (each (shape .size)) next b ≡ state (each (shape .size)) next (shape .n)
   pub low : span .low + 2 * brings l heavy j vs (suc b) ≤ 2 * brings l heavy j vs (heavy .n)
@@ -123,9 +123,10 @@ pub record Sharing (l : Layout) (heavy : Heavy) (z : List ℕ) (shape : Shape) (
 
 -- the marks are raised for each row that goes on with the choices so far: the mark of the state that it is at after the column is at least
 -- the one there and the chunks of the column that are others than in z
-pub record Raised (l : Layout) (y : List ℕ) (heavy : Heavy) (z : List ℕ) (shape : Shape) (j : ℕ) (left : ℕ → ℕ) (modulus need there : ℕ)
-    (marks : List ℕ) (at : ℕ) (Goes : (next : ℕ → ℕ) (vs : List ℕ) → Type 0) (entry exit : List ℕ) : Type 0 where
+pub record Raised (l : Layout) (y : List ℕ) (heavy : Heavy) (z : List ℕ) (shape : Shape) (j : ℕ) (left : ℕ → ℕ)
+    (modulus need there : ℕ) (marks : List ℕ) (at : ℕ) (Goes : (next : ℕ → ℕ) (vs : List ℕ) → Type 0) (entry exit : List ℕ) : Type 0 where
   pub raises : Raises entry exit
   pub gains : (numbers row vs : List ℕ) (next : ℕ → ℕ) → Crosses l y numbers heavy row j left next vs → Goes next vs
-      → brings l heavy j vs (heavy .n) % modulus ≡ need → 0 < getD marks (at + state (each (shape .size)) next (shape .n)) 0
+      → brings l heavy j vs (heavy .n) % modulus ≡ need
+      → 0 < getD marks (at + state (each (shape .size)) next (shape .n)) 0
       → Above there (apartIn l heavy z vs j (heavy .n)) (getD exit (state (each (shape .size)) next (shape .n)) 0)

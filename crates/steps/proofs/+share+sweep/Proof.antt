@@ -25,7 +25,8 @@ use Rattle.weigh.specs.Weigh.{Wider}
 use Rattle.column.specs.Column.{chunkAt}
 use Rattle.column.proofs.Rows.{crosses-readable}
 use Rattle.steps.specs.Steps.{Ground, Stands, Shares, Chosen, Sharing, Viewed, Raised}
-use Rattle.steps.proofs.Sweeping.{ChunkIs, chunk-is, none-between, raised-then, raised-none, raised-end, ground-stays}
+use Rattle.steps.proofs.Sweeping.{ChunkIs, chunk-is, none-between, ground-stays}
+use Rattle.steps.proofs.Sweeping.{raised-then, raised-none, raised-end}
 use Rattle.steps.proofs.Sweeping.{stands-share, shares-stands, sharing-range, chosen-share}
 use Rattle.steps.proofs.Sweeping.{as-read, ones-first, ones-last, sharing-next}
 use Rattle.steps.proofs.share.Reads as share
@@ -108,18 +109,21 @@ sweep-claims t = (
   share.Post,
 )
 
--- where `share` starts, seen from where half of its slices are known, from where all that is lent is, from where marked states were asked
--- for, and from where the chunk can be matched
+-- where `share` starts, seen from where half of its slices are known, from where all of them are, from where marked
+-- states were asked for, and from where the chunk can be matched
 abbrev Share-start : ℕ → Type 0
 Share-start t = share-lts.Start (share-claims t) (share-at t) share.Post share-Inv-loop share-μ-loop
 
-abbrev share-half : (t : ℕ) → share-lts.After-shared-slice-known4 (share-claims t) (share-at t) share.Post share-Inv-loop share-μ-loop → Share-start t
+abbrev share-half : (t : ℕ) → share-lts.After-shared-slice-known4 (share-claims t) (share-at t) share.Post share-Inv-loop share-μ-loop
+    → Share-start t
 share-half t c = c .before .before .before .before
 
-abbrev share-known : (t : ℕ) → share-lts.After-slice-known (share-claims t) (share-at t) share.Post share-Inv-loop share-μ-loop → Share-start t
+abbrev share-known : (t : ℕ) → share-lts.After-slice-known (share-claims t) (share-at t) share.Post share-Inv-loop share-μ-loop
+    → Share-start t
 share-known t c = share-half t (c .before .before .before)
 
-abbrev share-asked : (t : ℕ) → share-lts.After-none-marked (share-claims t) (share-at t) share.Post share-Inv-loop share-μ-loop → Share-start t
+abbrev share-asked : (t : ℕ) → share-lts.After-none-marked (share-claims t) (share-at t) share.Post share-Inv-loop share-μ-loop
+    → Share-start t
 share-asked t c = share-known t (c .before .before)
 
 abbrev Seen-at : ℕ → Type 0
@@ -128,8 +132,8 @@ Seen-at t = share-lts.Else2 (share-claims t) (share-at t) share.Post share-Inv-l
 abbrev share-begin : (t : ℕ) → Seen-at t → Share-start t
 share-begin t c = share-asked t (c .before .before .before .before)
 
--- where the block is known and where the chunk can be matched, seen from where it was compared; that seen from a turn of the loop; and the
--- turn seen from its wider span
+-- where the block is known and where the chunk can be matched, seen from where it was compared; that seen from a turn
+-- of the loop; and the turn seen from its wider span
 abbrev Block-at : ℕ → Type 0
 Block-at t = share-lts.After-wide (share-claims t) (share-at t) share.Post share-Inv-loop share-μ-loop
 
@@ -148,15 +152,20 @@ seen t c = block t c .before .before
 abbrev other : (t : ℕ) → Turn-at t → Other-at t
 other t c = c .before .before .before
 
-abbrev turn : (t : ℕ) → share-lts.After-widen (share-claims t) (share-at t) share.Post share-Inv-loop share-μ-loop → Turn-at t
+abbrev turn : (t : ℕ) → share-lts.After-widen (share-claims t) (share-at t) share.Post share-Inv-loop share-μ-loop
+    → Turn-at t
 turn t c = c .before .before .before
 
 -- what one loss of block b counts in the number of a state
-stride-is : (t : ℕ) (s : Share-start t) → getD (s .args .t7 .stride) (s .args .b) 0 ≡ stride (each (s .args .t7 .size)) (s .args .b)
-stride-is t s = s .pre .1 .0 .counted .shaped .counts (s .args .b) (omega (arith, s .pre .1 .0 .counted .blocks, s .pre .1 .1 .1 .0))
+stride-is : (t : ℕ) (s : Share-start t)
+    → getD (s .args .t7 .stride) (s .args .b) 0 ≡ stride (each (s .args .t7 .size)) (s .args .b)
+stride-is t s =
+    let g = s .pre .1 .0 .counted in
+    g .shaped .counts (s .args .b) (omega (arith, g .blocks, s .pre .1 .1 .1 .0))
 
 -- where the chunk stands
-stands : (t : ℕ) (c : Block-at t) → let a = share-begin t (c .before .before) .args in ChunkIs (a .l) (a .t5) (a .j) (a .b) (c .wide .result)
+stands : (t : ℕ) (c : Block-at t) → let a = share-begin t (c .before .before) .args in
+    ChunkIs (a .l) (a .t5) (a .j) (a .b) (c .wide .result)
 stands t c =
     let s = share-begin t (c .before .before) in
     chunk-is (s .pre .1 .0 .seeable) (s .args .b) (c .wide .result) (s .pre .1 .1 .1 .0) (c .wide .ensures)
@@ -200,8 +209,8 @@ share-returns t c =
     raised-none _
     (λ numbers row vs next x r m.
     let high = sharing-range x (a .a) r (d .1 .0) (g .blocks) (g .within) in
-    none-between (a .marks .now) (a .at) (a .t7 .states) (a .some .now) (g .counted) (a .q) (a .q + stride (each (a .t7 .size)) (a .b)) (d .0 .room) none _
-    (omega (arith, r .number)) high m)
+    none-between (a .marks .now) (a .at) (a .t7 .states) (a .some .now) (g .counted) (a .q)
+    (a .q + stride (each (a .t7 .size)) (a .b)) (d .0 .room) none _ (omega (arith, r .number)) high m)
 
 share-array-read-look-at : (t : ℕ)
     → share-lts.Need-array-read-look-at (share-claims t) (share-at t) share.Post share-Inv-loop share-μ-loop
@@ -248,7 +257,8 @@ share-add-other t c =
 share-shared-slice-read-other : (t : ℕ)
     → share-lts.Need-shared-slice-read-other (share-claims t) (share-at t) share.Post share-Inv-loop share-μ-loop
 share-shared-slice-read-other t c =
-    omega (arith, stands t (c .before .before) .inside, share-begin t (c .before .before .before .before) .pre .1 .0 .others)
+    let k = c .before .before in
+    omega (arith, stands t k .inside, share-begin t (k .before .before) .pre .1 .0 .others)
 
 share-other-requires : (t : ℕ)
     → share-lts.Need-other-requires (share-claims t) (share-at t) share.Post share-Inv-loop share-μ-loop
@@ -317,8 +327,8 @@ share-sweep-requires t c κs =
       omega (arith, s .pre .0),
       (
         ground-stays (p .loop .fresh) (p .loop .inv .raises .long) (s .pre .1 .0),
-        shares-stands (w .widen .result) (s .args .apart + o .other .result) (s .pre .1 .1 .0) (n .low-small) (n .high-small)
-            (omega (arith, o .other .ensures .1)),
+        shares-stands (w .widen .result) (s .args .apart + o .other .result) (s .pre .1 .1 .0) (n .low-small)
+            (n .high-small) (omega (arith, o .other .ensures .1)),
       ),
     )
 
@@ -349,24 +359,23 @@ share-loop-again t c =
     let chunk = stands t k .is in
     let lost = n .before .wide2 .ensures in
     let had = e .before .before .look-at .result .seen in
-    let wider : Wider (a .l .nc) (getD (a .t5 .block) (a .b) 0 * a .l .nc) (a .a) had (p .loop .g) (a .span) (n .widen .result) =
-    subst (λ (k : ℕ). Wider (a .l .nc) (k * a .l .nc) (a .a) had (p .loop .g) (a .span) (n .widen .result)) (k .wide .ensures)
-    (subst (λ (v : ℕ). Wider (a .l .nc) (k .wide .result * a .l .nc) v had (p .loop .g) (a .span) (n .widen .result)) lost
-    (n .widen .ensures))
+    let g = p .loop .g in
+    let wide = n .widen .result in
+    let wider : Wider (a .l .nc) (getD (a .t5 .block) (a .b) 0 * a .l .nc) (a .a) had g (a .span) wide =
+    subst (λ (i : ℕ). Wider (a .l .nc) (i * a .l .nc) (a .a) had g (a .span) wide) (k .wide .ensures)
+    (subst (λ (v : ℕ). Wider (a .l .nc) (k .wide .result * a .l .nc) v had g (a .span) wide) lost (n .widen .ensures))
     in
+    let own : List ℕ → ℕ = λ vs. getD vs (chunkAt (a .l) (a .t5) (a .j) (a .b)) 0 in
     raised-then (p .loop .inv) (c .before .before .sweep .ensures)
     (λ numbers row vs next x r.
     ⊎-elim
-    (λ k. inl (r .0, k))
-    (λ k.
-    let just : ones (digits (a .l .nc) (getD vs (chunkAt (a .l) (a .t5) (a .j) (a .b)) 0))
-    ≡ had .ones + p .loop .g =
-    omega (arith, r .1, k)
-    in
-    let like = o .other .ensures .0 (getD vs (chunkAt (a .l) (a .t5) (a .j) (a .b)) 0) (as-read x h (a .a) v (r .0)) in
-    inr (sharing-next x h (a .a) v (r .0) (p .loop .g) (a .apart + o .other .result) (n .widen .result) just wider
+    (λ u. inl (r .0, u))
+    (λ u.
+    let just : ones (digits (a .l .nc) (own vs)) ≡ had .ones + g = omega (arith, r .1, u) in
+    let like = o .other .ensures .0 (own vs) (as-read x h (a .a) v (r .0)) in
+    inr (sharing-next x h (a .a) v (r .0) g (a .apart + o .other .result) wide just wider
     (omega (arith, rw chunk at like))))
-    (lt-or-ge (ones (digits (a .l .nc) (getD vs (chunkAt (a .l) (a .t5) (a .j) (a .b)) 0))) (had .ones + p .loop .g)))
+    (lt-or-ge (ones (digits (a .l .nc) (own vs))) (had .ones + g)))
 
 share-same-length : (t : ℕ)
     → share-lts.Need-same-length (share-claims t) (share-at t) share.Post share-Inv-loop share-μ-loop
@@ -388,14 +397,17 @@ share-returns-3 t c =
           (r, omega (arith, ones-last x (s .pre .1 .1 .1 .0) (s .args .a) v r, c .loop-test .left)) is m;
     }
 
--- where `sweep` starts, seen from where half of its slices are known, from where all that is lent is, and from where a block is left
+-- where `sweep` starts, seen from where half of its slices are known, from where all of them are, and from where a
+-- block is left
 abbrev Sweep-start : ℕ → Type 0
 Sweep-start t = sweep-lts.Start (sweep-claims t) (sweep-at t) sweep.Post sweep-Inv-loop sweep-μ-loop
 
-abbrev sweep-half : (t : ℕ) → sweep-lts.After-shared-slice-known4 (sweep-claims t) (sweep-at t) sweep.Post sweep-Inv-loop sweep-μ-loop → Sweep-start t
+abbrev sweep-half : (t : ℕ) → sweep-lts.After-shared-slice-known4 (sweep-claims t) (sweep-at t) sweep.Post sweep-Inv-loop sweep-μ-loop
+    → Sweep-start t
 sweep-half t c = c .before .before .before .before
 
-abbrev sweep-known : (t : ℕ) → sweep-lts.After-slice-known (sweep-claims t) (sweep-at t) sweep.Post sweep-Inv-loop sweep-μ-loop → Sweep-start t
+abbrev sweep-known : (t : ℕ) → sweep-lts.After-slice-known (sweep-claims t) (sweep-at t) sweep.Post sweep-Inv-loop sweep-μ-loop
+    → Sweep-start t
 sweep-known t c = sweep-half t (c .before .before .before)
 
 abbrev Left-at : ℕ → Type 0
@@ -415,7 +427,8 @@ below-n t c = omega (arith, sweep-begin t c .pre .1 .1 .inside, c .if1 .left)
 up : (t : ℕ) (c : Left-at t) → let a = sweep-begin t c .args in a .s ≡ suc (a .s - 1)
 up t c = omega (arith, c .if1 .left)
 
-upper : (t : ℕ) (c : Left-at t) → let a = sweep-begin t c .args in Stands (a .t7) (a .heavy .n) (suc (a .s - 1)) (a .q) (a .span) (a .apart)
+upper : (t : ℕ) (c : Left-at t) → let a = sweep-begin t c .args in
+    Stands (a .t7) (a .heavy .n) (suc (a .s - 1)) (a .q) (a .span) (a .apart)
 upper t c =
     let s = sweep-begin t c in
     let a = s .args in
@@ -447,7 +460,8 @@ in-room t c =
     let g = s .pre .1 .0 .counted in
     let left = getD (a .t9) (a .s - 1) 0 in
     let few : p .loop .a ≤ left = omega (arith, c .loop-test .taken, w .wide .ensures) in
-    let h = stands-share left (p .loop .a) (upper t e) (g .within (a .s - 1) (omega (arith, g .blocks, below-n t e))) few in
+    let most = g .within (a .s - 1) (omega (arith, g .blocks, below-n t e)) in
+    let h = stands-share left (p .loop .a) (upper t e) most few in
     (omega (arith, h .room, number-is t w (p .loop .a)), g .states)
 
 sweep-add-raise-one : (t : ℕ)
@@ -548,13 +562,14 @@ sweep-share-requires t c κs =
     let a = s .args in
     let g = s .pre .1 .0 in
     let left = getD (a .t9) (a .s - 1) 0 in
-    let few : p .loop .a ≤ left = omega (arith, i .loop-test .taken, w .wide .ensures) in (
+    let few : p .loop .a ≤ left = omega (arith, i .loop-test .taken, w .wide .ensures) in
+    let most = g .counted .within (a .s - 1) (omega (arith, g .counted .blocks, below-n t e)) in (
       omega (arith, s .pre .0, e .if1 .left),
       (
         ground-stays (p .loop .fresh) (p .loop .inv .raises .long) g,
         (
           subst (λ (v : ℕ). Shares (a .t7) (a .heavy .n) (a .s - 1) v (a .span) (a .apart)) (number-is t w (p .loop .a))
-              (stands-share left (p .loop .a) (upper t e) (g .counted .within (a .s - 1) (omega (arith, g .counted .blocks, below-n t e))) few),
+              (stands-share left (p .loop .a) (upper t e) most few),
           (below-n t e, few),
         ),
       ),

@@ -56,8 +56,9 @@ add-some c =
     let s = t .before .before .before .before in
     let a = s .args in
     let i = t .before .loop in
+    let is = i .inv .1 (i .q) (omega arith) in
     let most = marked-most (a .marks .now) (a .at) (suc (i .q)) in
-    record { fits = omega (arith, i .inv .1 (i .q) (omega arith), most, t .loop-test .taken, s .pre .1 .1, c .one-if .ensures) }
+    record { fits = omega (arith, is, most, t .loop-test .taken, s .pre .1 .1, c .one-if .ensures) }
 
 add-some-2 : tie.Need-add-some-2 Inv-loop μ-loop
 add-some-2 c = search needs

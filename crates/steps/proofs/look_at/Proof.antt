@@ -40,7 +40,8 @@ from-is c =
     let s = begin (c .before .before) in
     let a = s .args in
     let k = stands (c .before .before) in
-    (ap₂ (λ (u v : ℕ). u * a .l .nc + v) (k .is) (c .wide3 .ensures), omega (arith, k .in-row, c .wide3 .ensures, s .fits .left))
+    let lost = c .wide3 .ensures in
+    (ap₂ (λ (u v : ℕ). u * a .l .nc + v) (k .is) lost, omega (arith, k .in-row, lost, s .fits .left))
 
 wide-requires : tie.Need-wide-requires
 wide-requires c κs = search needs
@@ -49,10 +50,11 @@ unseen-requires : tie.Need-unseen-requires
 unseen-requires c κs = search needs
 
 returns : tie.Need-returns
-returns c = (
-  λ e. absurd (false≢true (sym (c .unseen .ensures) ∙ e)),
-  λ r. absurd (omega (arith, r .few, c .before .if1 .taken, c .before .before .wide .ensures, start (c .before .before) .pre .1 .1)),
-)
+returns c =
+    let w = c .before .before in (
+      λ e. absurd (false≢true (sym (c .unseen .ensures) ∙ e)),
+      λ r. absurd (omega (arith, r .few, c .before .if1 .taken, w .wide .ensures, start w .pre .1 .1)),
+    )
 
 element-copy-out-wide : tie.Need-element-copy-out-wide
 element-copy-out-wide c = search needs
