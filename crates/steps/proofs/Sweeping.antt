@@ -23,7 +23,7 @@ use Rattle.lines.specs.Lines.{unlike}
 use Rattle.states.specs.States.{state, stride, each}
 use Rattle.states.specs.declared.Shape.{Shape}
 use Rattle.states.proofs.States.{state-low}
-use Rattle.weigh.specs.Weigh.{SeenIn, MoreOnes, Wider, brought}
+use Rattle.weigh.specs.Weigh.{brought, chunkTop, SeenIn, MoreOnes, Wider}
 use Rattle.weigh.specs.declared.Chunks.{Chunks}
 use Rattle.weigh.specs.declared.Span.{Span}
 use Rattle.weigh.proofs.Spans.{one-wider}
@@ -187,8 +187,8 @@ module _ {shape : Shape} {n b q : ℕ} {span : Span} {apart : ℕ} where
         apart-low = omega (arith, s .apart-low);
       }
 
-  pub shares-stands : (wider : Span) (more : ℕ) → Shares shape n b q span apart → wider .low ≤ span .low + 40000
-      → wider .high ≤ span .high + 40000 → more ≤ apart + 1 → Stands shape n b q wider more
+  pub shares-stands : (wider : Span) (more : ℕ) → Shares shape n b q span apart → wider .low ≤ span .low + chunkTop
+      → wider .high ≤ span .high + chunkTop → more ≤ apart + 1 → Stands shape n b q wider more
   shares-stands wider more s low high one =
       record {
         inside = omega (arith, s .inside);

@@ -14,7 +14,7 @@ use Rattle.message.specs.declared.Layout.{Layout}
 use Rattle.windows.specs.Windows.{Tables}
 use Rattle.states.specs.States.{state, stride, each, Shaped}
 use Rattle.states.specs.declared.Shape.{Shape}
-use Rattle.weigh.specs.Weigh.{SeenIn, MoreOnes}
+use Rattle.weigh.specs.Weigh.{chunkTop, SeenIn, MoreOnes}
 use Rattle.weigh.specs.declared.Span.{Span}
 use Rattle.column.specs.Column.{chunkAt, readFrom, Crosses, apartIn, Readable}
 use Rattle.column.specs.declared.Heavy.{Heavy}
@@ -92,16 +92,16 @@ pub record Ground (l : Layout) (y totals counts : List ℕ) (heavy : Heavy) (z :
 pub record Stands (shape : Shape) (n s q : ℕ) (span : Span) (apart : ℕ) : Type 0 where
   pub inside : s ≤ n
   pub room : q + stride (each (shape .size)) s ≤ shape .states
-  pub low : span .low + s * 40000 ≤ n * 40000
-  pub high : span .high + s * 40000 ≤ n * 40000
+  pub low : span .low + s * chunkTop ≤ n * chunkTop
+  pub high : span .high + s * chunkTop ≤ n * chunkTop
   pub apart-low : apart + s ≤ n
 
 -- the same where heavy block b has just got its share
 pub record Shares (shape : Shape) (n b q : ℕ) (span : Span) (apart : ℕ) : Type 0 where
   pub inside : b < n
   pub room : q + stride (each (shape .size)) b ≤ shape .states
-  pub low : span .low + b * 40000 + 40000 ≤ n * 40000
-  pub high : span .high + b * 40000 + 40000 ≤ n * 40000
+  pub low : span .low + b * chunkTop + chunkTop ≤ n * chunkTop
+  pub high : span .high + b * chunkTop + chunkTop ≤ n * chunkTop
   pub apart-low : apart + b + 1 ≤ n
 
 -- the choices so far are those of a row with the chunks vs that is at the state next after the column

@@ -13,6 +13,7 @@ ghost use lib.ListN.{length, getD};
 ghost use Rattle.bits.specs.Bits.{longest};
 ghost use Rattle.states.specs.States.{state, each};
 ghost use Rattle.windows.specs.Windows.{Tables};
+ghost use Rattle.weigh.specs.Weigh.{chunkTop};
 ghost use Rattle.column.specs.Column.{Fit, Light, chunkAt, Crosses, apartIn, Readable};
 ghost use Rattle.steps.specs.Steps.{oneIf, Counts, Counted, Above, Raises, Seeable, Viewed};
 ghost use Rattle.steps.specs.Steps.{Ground, Stands, Shares, Chosen, Sharing, Raised};
@@ -62,7 +63,7 @@ fn raise_one(
     apart: u8,
     fresh: &mut [u8],
 )
-    requires { ⌜ ((need < modulus) × (modulus ≤ longest + 1)) × ((span .low ≤ 240000) × (q < length (now fresh))) ⌝ }
+    requires { ⌜ ((need < modulus) × (modulus ≤ longest + 1)) × ((span .low ≤ 6 * chunkTop) × (q < length (now fresh))) ⌝ }
     ensures { λ _. ⌜ Raises (now (fresh .entry)) (now (fresh .exit)) × ((n : ℕ) → span .low ≤ 2 * n → 2 * n ≤ span .high
         → n % modulus ≡ need → 0 < mark → Above there apart (getD (now (fresh .exit)) q 0)) ⌝ }
 {
@@ -175,8 +176,7 @@ fn sweep(
     fresh: &mut [u8],
 )
     requires { ⌜ Ground l (now y) (now totals) (now counts) heavy (now z) shape j left modulus need (now marks) at
-        (now some) (now fresh)
-        × Stands shape (heavy .n) s q span apart ⌝ }
+        (now some) (now fresh) × Stands shape (heavy .n) s q span apart ⌝ }
     ensures { λ _. ⌜ Raised l (now (y .entry)) heavy (now (z .entry)) shape j (each left) modulus need there
         (now (marks .entry)) at (Chosen l heavy (now (z .entry)) shape j s q span apart)
         (now (fresh .entry)) (now (fresh .exit)) ⌝ }
@@ -242,8 +242,7 @@ fn share(
     fresh: &mut [u8],
 )
     requires { ⌜ Ground l (now y) (now totals) (now counts) heavy (now z) shape j left modulus need (now marks) at
-        (now some) (now fresh)
-        × (Shares shape (heavy .n) b q span apart × ((b < heavy .n) × (a ≤ getD left b 0))) ⌝ }
+        (now some) (now fresh) × (Shares shape (heavy .n) b q span apart × (a ≤ getD left b 0)) ⌝ }
     ensures { λ _. ⌜ Raised l (now (y .entry)) heavy (now (z .entry)) shape j (each left) modulus need there
         (now (marks .entry)) at (Sharing l heavy (now (z .entry)) shape j (each left) b a q span apart)
         (now (fresh .entry)) (now (fresh .exit)) ⌝ }

@@ -28,6 +28,10 @@ unfolding total digits
 brought nc chunks vs zero = 0
 brought nc chunks vs (suc s) = brought nc chunks vs s + total (getD (chunks .block) s 0 * nc + 1) (digits nc (vs s))
 
+-- more than twice what a chunk can bring: it has at most 8 ones, at positions up to 2,048
+abbrev pub chunkTop : ℕ
+chunkTop = 40000
+
 -- chunks that can be weighed: the tables are those of the received row, and the rest is as small as a layout has it
 pub record Weighable (nc modulus : ℕ) (y totals counts : List ℕ) (chunks : Chunks) (need : ℕ) : Type 0 where
   pub short : nc ≤ 8
@@ -70,5 +74,5 @@ pub record Wider (nc before lost : ℕ) (seen : Seen) (g : ℕ) (span wider : Sp
   pub low : wider .low ≡ span .low + 2 * (before * (seen .ones + g) + seen .total) + g * (2 * seen .ones + g + 1)
   pub high : wider .high ≡ span .high + 2 * (before * (seen .ones + g) + seen .total) + 2 * ((lost - g) * seen .ones)
       + g * (2 * nc + 1 - g)
-  pub low-small : wider .low ≤ span .low + 40000
-  pub high-small : wider .high ≤ span .high + 40000
+  pub low-small : wider .low ≤ span .low + chunkTop
+  pub high-small : wider .high ≤ span .high + chunkTop

@@ -161,14 +161,14 @@ stride-is : (t : ℕ) (s : Share-start t)
     → getD (s .args .t7 .stride) (s .args .b) 0 ≡ stride (each (s .args .t7 .size)) (s .args .b)
 stride-is t s =
     let g = s .pre .1 .0 .counted in
-    g .shaped .counts (s .args .b) (omega (arith, g .blocks, s .pre .1 .1 .1 .0))
+    g .shaped .counts (s .args .b) (omega (arith, g .blocks, s .pre .1 .1 .0 .inside))
 
 -- where the chunk stands
 stands : (t : ℕ) (c : Block-at t) → let a = share-begin t (c .before .before) .args in
     ChunkIs (a .l) (a .t5) (a .j) (a .b) (c .wide .result)
 stands t c =
     let s = share-begin t (c .before .before) in
-    chunk-is (s .pre .1 .0 .seeable) (s .args .b) (c .wide .result) (s .pre .1 .1 .1 .0) (c .wide .ensures)
+    chunk-is (s .pre .1 .0 .seeable) (s .args .b) (c .wide .result) (s .pre .1 .1 .0 .inside) (c .wide .ensures)
 
 -- what was seen
 viewed : (t : ℕ) (c : Seen-at t) → let a = share-begin t c .args in
@@ -208,7 +208,7 @@ share-returns t c =
     let none = rw (stride-is t s) at (c .before .none-marked .ensures (c .if1 .taken)) in
     raised-none _
     (λ numbers row vs next x r m.
-    let high = sharing-range x (a .a) r (d .1 .0) (g .blocks) (g .within) in
+    let high = sharing-range x (a .a) r (d .0 .inside) (g .blocks) (g .within) in
     none-between (a .marks .now) (a .at) (a .t7 .states) (a .some .now) (g .counted) (a .q)
     (a .q + stride (each (a .t7 .size)) (a .b)) (d .0 .room) none _ (omega (arith, r .number)) high m)
 
@@ -220,7 +220,7 @@ share-look-at-requires : (t : ℕ)
     → share-lts.Need-look-at-requires (share-claims t) (share-at t) share.Post share-Inv-loop share-μ-loop
 share-look-at-requires t c κs =
     let p = share-asked t (c .before) .pre .1 in
-    (p .0 .seeable, (p .1 .1 .0, p .1 .1 .1))
+    (p .0 .seeable, (p .1 .0 .inside, p .1 .1))
 
 share-returns-2 : (t : ℕ)
     → share-lts.Need-returns-2 (share-claims t) (share-at t) share.Post share-Inv-loop share-μ-loop
@@ -231,14 +231,14 @@ share-returns-2 t c =
     raised-none _
     (λ numbers row vs next x r m.
     let k : next (a .b) ≡ each (a .t9) (a .b) - a .a = omega (arith, r .own) in
-    let f = crosses-readable x (a .b) (s .pre .1 .1 .1 .0) in
+    let f = crosses-readable x (a .b) (s .pre .1 .1 .0 .inside) in
     false≢true (sym (not-true _ (c .if2 .taken)) ∙ w .look-at .ensures .1 (rw k at f)))
 
 share-element-copy-out-wide : (t : ℕ)
     → share-lts.Need-element-copy-out-wide (share-claims t) (share-at t) share.Post share-Inv-loop share-μ-loop
 share-element-copy-out-wide t c =
     let p = share-begin t c .pre .1 in
-    omega (arith, p .0 .seeable .few, p .1 .1 .0)
+    omega (arith, p .0 .seeable .few, p .1 .0 .inside)
 
 share-wide-requires : (t : ℕ)
     → share-lts.Need-wide-requires (share-claims t) (share-at t) share.Post share-Inv-loop share-μ-loop
@@ -281,7 +281,7 @@ share-loop-holds t c =
     let s = share-begin t e in
     raised-none _
     (λ numbers row vs next x r m.
-    omega (arith, r .1, ones-first x (s .pre .1 .1 .1 .0) (s .args .a) (viewed t e) (r .0)))
+    omega (arith, r .1, ones-first x (s .pre .1 .1 .0 .inside) (s .args .a) (viewed t e) (r .0)))
 
 share-mul-widen : (t : ℕ)
     → share-lts.Need-mul-widen (share-claims t) (share-at t) share.Post share-Inv-loop share-μ-loop
@@ -354,7 +354,7 @@ share-loop-again t c =
     let e = seen t o in
     let s = share-begin t e in
     let a = s .args in
-    let h = s .pre .1 .1 .1 .0 in
+    let h = s .pre .1 .1 .0 .inside in
     let v = viewed t e in
     let chunk = stands t k .is in
     let lost = n .before .wide2 .ensures in
@@ -394,7 +394,7 @@ share-returns-3 t c =
       raises = i .raises;
       gains = λ numbers row vs next x r is m.
           i .gains numbers row vs next x
-          (r, omega (arith, ones-last x (s .pre .1 .1 .1 .0) (s .args .a) v r, c .loop-test .left)) is m;
+          (r, omega (arith, ones-last x (s .pre .1 .1 .0 .inside) (s .args .a) v r, c .loop-test .left)) is m;
     }
 
 -- where `sweep` starts, seen from where half of its slices are known, from where all of them are, and from where a
@@ -570,7 +570,7 @@ sweep-share-requires t c κs =
         (
           subst (λ (v : ℕ). Shares (a .t7) (a .heavy .n) (a .s - 1) v (a .span) (a .apart)) (number-is t w (p .loop .a))
               (stands-share left (p .loop .a) (upper t e) most few),
-          (below-n t e, few),
+          few,
         ),
       ),
     )

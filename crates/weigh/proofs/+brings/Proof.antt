@@ -16,7 +16,7 @@ use mir.Val.{Fits}
 use Rattle.bits.specs.Bits.{digits}
 use Rattle.bits.proofs.Laws.{bits-digits, length-digits}
 use Rattle.vt.specs.Ones.{ones}
-use Rattle.weigh.specs.Weigh.{Can, brought, There, Within}
+use Rattle.weigh.specs.Weigh.{Can, brought, chunkTop, There, Within}
 use Rattle.weigh.proofs.Spans.{received, wider-holds}
 use Rattle.weigh.proofs.brings.Reads as brings
 use Rattle.weigh.proofs.brings.Kinds as brings-kinds
@@ -213,7 +213,7 @@ brings-add-if2 t c =
 
 -- the wider span is small
 wider-small : (t : ℕ) (c : Turn t) → let s = start t (found t (c .before .before .before .before)) in
-    (c .widen .result .low ≤ (s .args .s + 1) * 40000) × (c .widen .result .high ≤ (s .args .s + 1) * 40000)
+    (c .widen .result .low ≤ (s .args .s + 1) * chunkTop) × (c .widen .result .high ≤ (s .args .s + 1) * chunkTop)
 wider-small t c =
     let p = start t (found t (c .before .before .before .before)) .pre .1 .1 in
     let w = c .widen .ensures in
