@@ -12,7 +12,7 @@ use Rattle.vt.specs.Sum.{total}
 use Rattle.message.specs.Layout.{legal}
 use Rattle.message.specs.declared.Layout.{Layout}
 use Rattle.windows.specs.Windows.{Tables}
-use Rattle.states.specs.States.{state, stride, each, Shaped}
+use Rattle.states.specs.States.{state, stride, each, mostStates, Shaped}
 use Rattle.states.specs.declared.Shape.{Shape}
 use Rattle.weigh.specs.Weigh.{chunkTop, SeenIn, MoreOnes}
 use Rattle.weigh.specs.declared.Span.{Span}
@@ -46,7 +46,7 @@ Counts marks at states some = (q : ℕ) → q ≤ states → getD some q 0 ≡ m
 pub record Counted (heavy : Heavy) (shape : Shape) (left marks : List ℕ) (at : ℕ) (some : List ℕ) : Type 0 where
   pub blocks : shape .n ≡ heavy .n
   pub shaped : Shaped (shape .n) (shape .size) (shape .stride) (shape .states)
-  pub states : shape .states ≤ 729
+  pub states : shape .states ≤ mostStates
   pub within : (s : ℕ) → s < shape .n → getD left s 0 ≤ each (shape .size) s
   pub marked : at + shape .states ≤ length marks
   pub long-some : shape .states < length some

@@ -11,7 +11,7 @@ ghost use mathlib.Core.List.{List};
 ghost use Prim.Native.Nat.{ℕ, _+_, _-_, _*_, _%_, _<_, _≤_};
 ghost use lib.ListN.{length, getD};
 ghost use Rattle.bits.specs.Bits.{longest};
-ghost use Rattle.states.specs.States.{state, each};
+ghost use Rattle.states.specs.States.{state, each, mostStates};
 ghost use Rattle.windows.specs.Windows.{Tables};
 ghost use Rattle.weigh.specs.Weigh.{chunkTop};
 ghost use Rattle.column.specs.Column.{Fit, Light, chunkAt, Crosses, apartIn, Readable};
@@ -30,7 +30,7 @@ fn one_if(mark: u8) -> u16
 
 // Counts of the marked states below each, of the marks from a place on.
 pub fn count_marked(marks: &[u8], at: usize, states: usize, some: &mut [u16])
-    requires { ⌜ (at + states ≤ length (now marks)) × ((states < length (now some)) × (states ≤ 729)) ⌝ }
+    requires { ⌜ (at + states ≤ length (now marks)) × ((states < length (now some)) × (states ≤ mostStates)) ⌝ }
     ensures { λ _. ⌜ (length (now (some .exit)) ≡ length (now (some .entry)))
         × Counts (now (marks .entry)) at states (now (some .exit)) ⌝ }
 {

@@ -19,7 +19,7 @@ use Rattle.bits.specs.Bits.{digits}
 use Rattle.bits.proofs.Laws.{lt-or-ge}
 use Rattle.vt.specs.Ones.{ones}
 use Rattle.message.proofs.Legal.{legal-bounds}
-use Rattle.states.specs.States.{stride, each}
+use Rattle.states.specs.States.{stride, each, mostStates}
 use Rattle.states.proofs.States.{stride-pos}
 use Rattle.weigh.specs.Weigh.{Wider}
 use Rattle.column.specs.Column.{chunkAt}
@@ -450,7 +450,7 @@ number-is t c a = rw (own-one t (c .before), c .wide .ensures) refl
 
 in-room : (t : ℕ) (c : sweep-lts.In-loop (sweep-claims t) (sweep-at t) sweep.Post sweep-Inv-loop sweep-μ-loop)
     → let p = c .before in let w = p .before .before in let a = sweep-begin t (w .before) .args in
-    (a .q + (w .wide .result - p .loop .a) * getD (a .t7 .stride) (a .s - 1) 0 ≤ a .t7 .states) × (a .t7 .states ≤ 729)
+    (a .q + (w .wide .result - p .loop .a) * getD (a .t7 .stride) (a .s - 1) 0 ≤ a .t7 .states) × (a .t7 .states ≤ mostStates)
 in-room t c =
     let p = c .before in
     let w = p .before .before in
