@@ -17,7 +17,7 @@ use Rattle.consistent.specs.Greedy.{losses}
 use Rattle.consistent.proofs.Greedy.{whole}
 use Rattle.weigh.specs.declared.Chunks.{Chunks}
 use Rattle.weigh.specs.Weigh.{Can, brought}
-use Rattle.column.specs.Column.{Fit, chunkAt, filled, Light, Crosses, readable, Placed, AsRead}
+use Rattle.column.specs.Column.{Fit, valueAt, filled, Light, Crosses, readable, Placed, AsRead}
 use Rattle.column.specs.declared.Heavy.{Heavy}
 use Rattle.column.proofs.Zeros.{whole-sum, sum-low}
 
@@ -48,6 +48,12 @@ rest-is whole part m b r k h e g =
     let n : b + k * m ≡ r + q * m = omega (arith, div-add-mod' (part + b) m, g, e) in
     sym (add-mul-mod-self-right b k m) ∙ ap (λ (v : ℕ). v % m) n ∙ add-mul-mod-self-right r q m ∙ mod-eq-of-lt h
 
+-- the sum of the chunks in hand is below the modulus
+pub known-low : (l : Layout) (heavy : Heavy) (row known : List ℕ) (j : ℕ) → Light l heavy row known → j < l .l2
+    → getD known j 0 < l .l1 * l .nc + 1
+known-low l heavy row known j light inside =
+    rw (light j inside) (sum-low (l .nc) j (l .l2) (l .l1) (filled l heavy (λ s. 0) j (heavy .n) row))
+
 module _ {l : Layout} {y numbers : List ℕ} {heavy : Heavy} {row : List ℕ} {j : ℕ} {left next : ℕ → ℕ} {vs : List ℕ}
     (c : Crosses l y numbers heavy row j left next vs) where
   -- its chunks can be read
@@ -55,11 +61,21 @@ module _ {l : Layout} {y numbers : List ℕ} {heavy : Heavy} {row : List ℕ} {j
   crosses-readable s h =
       record { falls = c .falls s h; few = c .few s h; starts = c .starts s h; there = c .there s h }
 
-  module _ {chunks : Chunks} (p : Placed l (length y) heavy j left next chunks) where
-    -- the numbers of its chunks in the heavy blocks
-    abbrev own : ℕ → ℕ
-    own s = getD vs (chunkAt l heavy j s) 0
+  -- the numbers of its chunks in the heavy blocks
+  abbrev own : ℕ → ℕ
+  own = valueAt l heavy vs j
 
+  -- they bring what is missing of the sum of the chunks in hand
+  pub crosses-brings : Fit l y numbers heavy → j < l .l2 → (known : List ℕ) → Light l heavy row known
+      → (n : ℕ) (block : List ℕ) → n ≡ heavy .n → block ≡ heavy .block
+      → (getD known j 0 + brought (l .nc) block own n) % (l .l1 * l .nc + 1) ≡ getD numbers (l .l1 + j) 0
+  crosses-brings f inside known light n block count same =
+      let m : ℕ = l .l1 * l .nc + 1 in
+      rw (count, same)
+      (ap (λ (v : ℕ). (v + brought (l .nc) (heavy .block) own (heavy .n)) % m) (light j inside)
+      ∙ (whole-sum l heavy j y numbers f inside vs row (c .others) ∙ c .has-sum))
+
+  module _ {chunks : Chunks} (p : Placed l (length y) heavy j left next chunks) where
     -- they can be these numbers
     pub crosses-can : Can (l .nc) y chunks own
     crosses-can =
@@ -77,19 +93,3 @@ module _ {l : Layout} {y numbers : List ℕ} {heavy : Heavy} {row : List ℕ} {j
     pub crosses-as-read : AsRead l y heavy chunks vs j (heavy .n)
     crosses-as-read s h z =
         rw (p .place s h) (no-loss (l .nc) (own s) _ (c .small s h) (c .loses s h ∙ sym (p .lost s h) ∙ z))
-
-    module _ (f : Fit l y numbers heavy) (inside : j < l .l2) (known : List ℕ) (light : Light l heavy row known) where
-      -- the sum of the chunks in hand is below the modulus
-      pub known-low : getD known j 0 < l .l1 * l .nc + 1
-      known-low =
-          rw (light j inside) (sum-low (l .nc) j (l .l2) (l .l1) (filled l heavy (λ s. 0) j (heavy .n) row))
-
-      -- and they bring what is missing of it
-      pub crosses-brings : (getD known j 0 + brought (l .nc) chunks own (chunks .n)) % (l .l1 * l .nc + 1)
-          ≡ getD numbers (l .l1 + j) 0
-      crosses-brings =
-          let b : ℕ → ℕ = brought (l .nc) chunks own in
-          let m : ℕ = l .l1 * l .nc + 1 in
-          ap (λ (n : ℕ). (getD known j 0 + b n) % m) (p .count)
-          ∙ ap (λ (v : ℕ). (v + b (heavy .n)) % m) (light j inside)
-          ∙ (whole-sum l heavy j y numbers f inside vs chunks (p .blocks) row (c .others) ∙ c .has-sum)

@@ -3,7 +3,7 @@
 use Prim.Native.Nat.{ℕ, zero, suc, _+_, _-_, _*_, _%_, _<_, _≤_}
 use mathlib.Core.Path.{_≡_, refl, sym, ap, ap₂, subst, _∙_}
 use mathlib.Core.Bool.{Bool, true, false, cond}
-use mathlib.Core.List.{List, []}
+use mathlib.Core.List.{List}
 use mathlib.Core.Logic.{_⊎_, inl, inr, ⊎-elim}
 use native.Mathlib.Decide.{ℕ-discrete}
 use native.Mathlib.Nat.{mul-le-mul-right}
@@ -24,14 +24,12 @@ use Rattle.states.specs.States.{state, stride, each}
 use Rattle.states.specs.declared.Shape.{Shape}
 use Rattle.states.proofs.States.{state-low}
 use Rattle.weigh.specs.Weigh.{brought, chunkTop, SeenIn, MoreOnes, Wider}
-use Rattle.weigh.specs.declared.Chunks.{Chunks}
 use Rattle.weigh.specs.declared.Span.{Span}
 use Rattle.weigh.proofs.Spans.{one-wider}
 use Rattle.column.specs.Column.{Fit, Light, chunkAt, filled, Crosses, apartIn}
 use Rattle.column.specs.declared.Heavy.{Heavy}
 use Rattle.column.proofs.Rows.{chunk-stands, string-high, no-loss}
-use Rattle.column.proofs.Zeros.{sum-low, whole-sum}
-use Rattle.steps.specs.Steps.{Above, Raises, oneIf, markedBelow, Counts, brings}
+use Rattle.steps.specs.Steps.{Above, Raises, oneIf, markedBelow, Counts, broughtIn}
 use Rattle.steps.specs.Steps.{Seeable, Viewed, Ground, Stands, Shares, Chosen, Sharing, Raised}
 use Rattle.steps.specs.declared.View.{View}
 
@@ -254,7 +252,7 @@ module _ {l : Layout} {y numbers : List ℕ} {heavy : Heavy} {row z : List ℕ} 
     pub sharing-next : (g more : ℕ) (wider : Span) → ones (digits (l .nc) v) ≡ view .seen .ones + g
         → Wider (l .nc) (getD (heavy .block) b 0 * l .nc) a (view .seen) g span wider
         → apart + unlike vs z (chunkAt l heavy j b) ≤ more → Chosen l heavy z shape j b q wider more next vs
-    unfolding brings apartIn
+    unfolding brought apartIn
     sharing-next g more wider just w other =
         let one = one-wider (l .nc) (getD (heavy .block) b 0 * l .nc) a v (drop (view .at) y) loses (view .seen) g span wider (see .few)
         (see .seen) just w in
@@ -271,7 +269,7 @@ pub raised-end : {l : Layout} {y : List ℕ} {heavy : Heavy} {z : List ℕ} {sha
     → ((n : ℕ) → span .low ≤ 2 * n → 2 * n ≤ span .high → n % modulus ≡ need → 0 < getD marks (at + q) 0
     → Above there apart (getD exit q 0))
     → Raised l y heavy z shape j left modulus need there marks at (Chosen l heavy z shape j s q span apart) entry exit
-unfolding state brings apartIn
+unfolding state brought apartIn
 raised-end {l} {y} {heavy} {z} {shape} {j} {there = there} {marks} {at} {q = q} {span} {apart} {exit = exit} e up found =
     record {
       raises = up;
@@ -279,36 +277,12 @@ raised-end {l} {y} {heavy} {z} {shape} {j} {there = there} {marks} {at} {q = q} 
           let d = subst (λ (k : ℕ). Chosen l heavy z shape j k q span apart next vs) e c in
           let number : q ≡ state (each (shape .size)) next (shape .n) = omega (arith, d .number) in
           let marked = subst (λ (k : ℕ). 0 < getD marks (at + k) 0) (sym number) m in
-          let above = found (brings l heavy j vs (heavy .n)) (omega (arith, d .low)) (omega (arith, d .high)) is marked in
+          let above = found (broughtIn l heavy vs j (heavy .n)) (omega (arith, d .low)) (omega (arith, d .high)) is marked in
           subst (λ (k : ℕ). Above there (apartIn l heavy z vs j (heavy .n)) (getD exit k 0)) number
           (above-less there (apartIn l heavy z vs j (heavy .n)) apart (getD exit q 0) (omega (arith, d .differs)) above);
     }
 
 -- ---- before the last block
--- what the heavy blocks bring as weighed chunks of theirs do
-brings-brought : (l : Layout) (heavy : Heavy) (j : ℕ) (vs : List ℕ) (chunks : Chunks) → chunks .block ≡ heavy .block → (s : ℕ)
-    → brings l heavy j vs s ≡ brought (l .nc) chunks (λ t. getD vs (chunkAt l heavy j t) 0) s
-unfolding brings brought
-brings-brought l heavy j vs chunks e zero = refl
-brings-brought l heavy j vs chunks e (suc s) =
-    ap₂ _+_ (brings-brought l heavy j vs chunks e s)
-    (ap (λ (b : List ℕ). total (getD b s 0 * l .nc + 1) (digits (l .nc) (getD vs (chunkAt l heavy j s) 0))) (sym e))
-
-module _ {l : Layout} {y numbers : List ℕ} {heavy : Heavy} {row : List ℕ} {j : ℕ} {left next : ℕ → ℕ} {vs : List ℕ}
-    (x : Crosses l y numbers heavy row j left next vs) (f : Fit l y numbers heavy) (inside : j < l .l2) (known : List ℕ)
-    (light : Light l heavy row known) where
-  -- the sum of the chunks in hand is below the modulus, and the heavy blocks bring what is missing of it
-  pub light-low : getD known j 0 < l .l1 * l .nc + 1
-  light-low = rw (light j inside) (sum-low (l .nc) j (l .l2) (l .l1) (filled l heavy (λ s. 0) j (heavy .n) row))
-
-  pub light-brings : (getD known j 0 + brings l heavy j vs (heavy .n)) % (l .l1 * l .nc + 1) ≡ getD numbers (l .l1 + j) 0
-  light-brings =
-      let m : ℕ = l .l1 * l .nc + 1 in
-      let chunks : Chunks = record { n = heavy .n; block = heavy .block; place = []; lost = [] } in
-      ap (λ (b : ℕ). (getD known j 0 + b) % m) (brings-brought l heavy j vs chunks refl (heavy .n))
-      ∙ ap (λ (v : ℕ). (v + brought (l .nc) chunks (λ t. getD vs (chunkAt l heavy j t) 0) (heavy .n)) % m) (light j inside)
-      ∙ (whole-sum l heavy j y numbers f inside vs chunks refl row (x .others) ∙ x .has-sum)
-
 -- with no share chosen, each row goes on
 pub chosen-none : (l : Layout) (heavy : Heavy) (z : List ℕ) (shape : Shape) (j : ℕ) (span : Span) (next : ℕ → ℕ) (vs : List ℕ)
     → shape .n ≡ heavy .n → span .low ≡ 0 → Chosen l heavy z shape j (heavy .n) 0 span 0 next vs

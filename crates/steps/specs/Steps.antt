@@ -14,9 +14,9 @@ use Rattle.message.specs.declared.Layout.{Layout}
 use Rattle.windows.specs.Windows.{Tables}
 use Rattle.states.specs.States.{state, stride, each, mostStates, Shaped}
 use Rattle.states.specs.declared.Shape.{Shape}
-use Rattle.weigh.specs.Weigh.{chunkTop, SeenIn, MoreOnes}
+use Rattle.weigh.specs.Weigh.{brought, chunkTop, SeenIn, MoreOnes}
 use Rattle.weigh.specs.declared.Span.{Span}
-use Rattle.column.specs.Column.{chunkAt, readFrom, Crosses, apartIn, Readable}
+use Rattle.column.specs.Column.{chunkAt, valueAt, Crosses, apartIn, Readable}
 use Rattle.column.specs.declared.Heavy.{Heavy}
 use Rattle.steps.specs.declared.View.{View}
 
@@ -52,12 +52,9 @@ pub record Counted (heavy : Heavy) (shape : Shape) (left marks : List ℕ) (at :
   pub long-some : shape .states < length some
   pub counted : Counts marks at (shape .states) some
 
--- what the first s heavy blocks bring to the sum of chunk-string j, the numbers of the chunks being vs
-unfoldable pub brings : Layout → Heavy → (j : ℕ) (vs : List ℕ) (s : ℕ) → ℕ
-unfolding total digits
-brings l heavy j vs zero = 0
-brings l heavy j vs (suc s) =
-    brings l heavy j vs s + total (getD (heavy .block) s 0 * l .nc + 1) (digits (l .nc) (getD vs (chunkAt l heavy j s) 0))
+-- what the first s heavy blocks bring to the sum of chunk-string j in a row with the chunks vs
+abbrev pub broughtIn : Layout → Heavy → (vs : List ℕ) (j s : ℕ) → ℕ
+broughtIn l heavy vs j s = brought (l .nc) (heavy .block) (valueAt l heavy vs j) s
 
 -- what is looked at: a received row with its tables, and heavy blocks of a layout
 pub record Seeable (l : Layout) (y totals counts : List ℕ) (heavy : Heavy) (j : ℕ) : Type 0 where
@@ -108,8 +105,8 @@ pub record Shares (shape : Shape) (n b q : ℕ) (span : Span) (apart : ℕ) : Ty
 pub record Chosen (l : Layout) (heavy : Heavy) (z : List ℕ) (shape : Shape) (j s q : ℕ) (span : Span) (apart : ℕ)
     (next : ℕ → ℕ) (vs : List ℕ) : Type 0 where
   pub number : q + state (each (shape .size)) next s ≡ state (each (shape .size)) next (shape .n)
-  pub low : span .low + 2 * brings l heavy j vs s ≤ 2 * brings l heavy j vs (heavy .n)
-  pub high : 2 * brings l heavy j vs (heavy .n) ≤ span .high + 2 * brings l heavy j vs s
+  pub low : span .low + 2 * broughtIn l heavy vs j s ≤ 2 * broughtIn l heavy vs j (heavy .n)
+  pub high : 2 * broughtIn l heavy vs j (heavy .n) ≤ span .high + 2 * broughtIn l heavy vs j s
   pub differs : apartIn l heavy z vs j (heavy .n) ≤ apart + apartIn l heavy z vs j s
 
 -- the same where heavy block b has just got its share, of a bits
@@ -117,8 +114,8 @@ pub record Sharing (l : Layout) (heavy : Heavy) (z : List ℕ) (shape : Shape) (
     (span : Span) (apart : ℕ) (next : ℕ → ℕ) (vs : List ℕ) : Type 0 where
   pub own : left b ≡ next b + a
   pub number : q + state (each (shape .size)) next b ≡ state (each (shape .size)) next (shape .n)
-  pub low : span .low + 2 * brings l heavy j vs (suc b) ≤ 2 * brings l heavy j vs (heavy .n)
-  pub high : 2 * brings l heavy j vs (heavy .n) ≤ span .high + 2 * brings l heavy j vs (suc b)
+  pub low : span .low + 2 * broughtIn l heavy vs j (suc b) ≤ 2 * broughtIn l heavy vs j (heavy .n)
+  pub high : 2 * broughtIn l heavy vs j (heavy .n) ≤ span .high + 2 * broughtIn l heavy vs j (suc b)
   pub differs : apartIn l heavy z vs j (heavy .n) ≤ apart + apartIn l heavy z vs j (suc b)
 
 -- the marks are raised for each row that goes on with the choices so far: the mark of the state that it is at after the column is at least
@@ -127,6 +124,6 @@ pub record Raised (l : Layout) (y : List ℕ) (heavy : Heavy) (z : List ℕ) (sh
     (modulus need there : ℕ) (marks : List ℕ) (at : ℕ) (Goes : (next : ℕ → ℕ) (vs : List ℕ) → Type 0) (entry exit : List ℕ) : Type 0 where
   pub raises : Raises entry exit
   pub gains : (numbers row vs : List ℕ) (next : ℕ → ℕ) → Crosses l y numbers heavy row j left next vs → Goes next vs
-      → brings l heavy j vs (heavy .n) % modulus ≡ need
+      → broughtIn l heavy vs j (heavy .n) % modulus ≡ need
       → 0 < getD marks (at + state (each (shape .size)) next (shape .n)) 0
       → Above there (apartIn l heavy z vs j (heavy .n)) (getD exit (state (each (shape .size)) next (shape .n)) 0)

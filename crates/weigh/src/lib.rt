@@ -147,7 +147,7 @@ fn brings(
     requires { ⌜ Weighable nc modulus (now y) (now totals) (now counts) chunks need
         × ((s < chunks .n) × ((span .low ≤ s * chunkTop) × (span .high ≤ s * chunkTop))) ⌝ }
     ensures { λ r. ⌜ ((vs : ℕ → ℕ) → Can nc (now (y .entry)) chunks vs → Within nc chunks vs s span
-        → brought nc chunks vs (chunks .n) % modulus ≡ need → r ≡ true) ⌝ }
+        → brought nc (chunks .block) vs (chunks .n) % modulus ≡ need → r ≡ true) ⌝ }
 {
     let place = chunks.place[s];
     let lost = chunks.lost[s] as usize;
@@ -189,7 +189,7 @@ pub fn can_bring(
     requires { ⌜ ((nc ≤ 8) × ((1 ≤ modulus) × (modulus ≤ longest + 1))) × (AllBits (now y) × ((length (now y) ≤ longest)
         × (Tables (now y) 0 (now totals) (now counts) × ((chunks .n ≤ 6) × (need < modulus))))) ⌝ }
     ensures { λ r. ⌜ ((vs : ℕ → ℕ) → Can nc (now (y .entry)) chunks vs
-        → brought nc chunks vs (chunks .n) % modulus ≡ need → r ≡ true) ⌝ }
+        → brought nc (chunks .block) vs (chunks .n) % modulus ≡ need → r ≡ true) ⌝ }
 {
     if chunks.n == 0 {
         return need == 0;

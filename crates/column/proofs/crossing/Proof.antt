@@ -10,7 +10,7 @@ use lib.ListN.{length, getD}
 use Rattle.message.proofs.Legal.{legal-bounds, sizes}
 use Rattle.states.specs.States.{each}
 use Rattle.weigh.specs.Weigh.{brought}
-use Rattle.column.specs.Column.{chunkAt, Placed}
+use Rattle.column.specs.Column.{valueAt, Placed}
 use Rattle.column.proofs.Rows.{string-high, known-low}
 use Rattle.column.proofs.Rows.{crosses-readable, crosses-can, crosses-as-read, crosses-brings}
 use Rattle.column.proofs.crossing.Statement.{statement}
@@ -109,11 +109,13 @@ returns-2 c =
     let a = s .args in
     let chunks = e .before .before .find-chunks .result .chunks in (
       λ row vs light x.
-          let v : ℕ → ℕ = λ t. getD vs (chunkAt (a .l) (a .heavy) (a .j) t) 0 in
-          let known = known-low x (placed e) (s .pre .0) (s .pre .1 .1 .0) (a .known .now) light in
-          let brings = crosses-brings x (placed e) (s .pre .0) (s .pre .1 .1 .0) (a .known .now) light in
-          let need = m .missing .ensures .1 (brought (a .l .nc) chunks v (chunks .n)) known brings in
-          let o = c .before .can-bring .ensures v (crosses-can x (placed e)) need in
+          let v : ℕ → ℕ = valueAt (a .l) (a .heavy) vs (a .j) in
+          let p = placed e in
+          let j = s .pre .1 .1 .0 in
+          let known = known-low (a .l) (a .heavy) row (a .known .now) (a .j) light j in
+          let brings = crosses-brings x (s .pre .0) j (a .known .now) light (chunks .n) (chunks .block) (p .count) (p .blocks) in
+          let need = m .missing .ensures .1 (brought (a .l .nc) (chunks .block) v (chunks .n)) known brings in
+          let o = c .before .can-bring .ensures v (crosses-can x p) need in
           absurd (false≢true (sym (not-true _ (c .if2 .taken)) ∙ o)),
       omega arith,
     )

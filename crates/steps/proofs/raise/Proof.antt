@@ -7,9 +7,9 @@ use native.Mathlib.Omega.{arith}
 use lib.ListN.{length, getD}
 use Rattle.message.proofs.Legal.{legal-bounds, sizes}
 use Rattle.states.specs.States.{stride, each}
-use Rattle.column.proofs.Rows.{string-high}
-use Rattle.steps.specs.Steps.{brings}
-use Rattle.steps.proofs.Sweeping.{light-low, light-brings, chosen-none}
+use Rattle.column.proofs.Rows.{string-high, known-low, crosses-brings}
+use Rattle.steps.specs.Steps.{broughtIn}
+use Rattle.steps.proofs.Sweeping.{chosen-none}
 use Rattle.steps.proofs.raise.Statement.{statement}
 use Rattle.steps.proofs.raise.Tie as tie
 
@@ -123,9 +123,10 @@ returns c =
     let p = s .pre in (
       w .sweep .ensures .raises,
       λ row vs next light x m.
-          let f = p .0 .0 in
-          let is = n .missing .ensures .1 (brings (a .l) (a .heavy) (a .j) vs (a .heavy .n))
-          (light-low x f (p .0 .1 .1 .0) (a .known .now) light) (light-brings x f (p .0 .1 .1 .0) (a .known .now) light) in
+          let j = p .0 .1 .1 .0 in
+          let known = known-low (a .l) (a .heavy) row (a .known .now) (a .j) light j in
+          let brings = crosses-brings x (p .0 .0) j (a .known .now) light (a .heavy .n) (a .heavy .block) refl refl in
+          let is = n .missing .ensures .1 (broughtIn (a .l) (a .heavy) vs (a .j) (a .heavy .n)) known brings in
           w .sweep .ensures .gains (a .numbers .now) row vs next x
           (chosen-none (a .l) (a .heavy) (a .z .now) (a .shape) (a .j) _ next vs (p .1 .0 .blocks) refl) is m,
     )
