@@ -34,6 +34,22 @@ chunk-stands l e i j h g =
 pub string-high : (l : Layout) → legal l ≡ true → l .l1 * l .nc ≤ longest
 string-high l e = omega (arith, sizes l (legal-bounds l e) .string, mul-comm (l .l1) (l .nc))
 
+-- the sum of a chunk-string and its place among the numbers are small, and so is its modulus
+pub record StringLow (l : Layout) (numbers : List ℕ) (j : ℕ) : Type 0 where
+  pub modulus : l .l1 * l .nc ≤ longest
+  pub sum : getD numbers (l .l1 + j) 0 ≤ l .l1 * l .nc
+  pub index : l .l1 + j ≤ 510
+
+pub string-low : {l : Layout} {y numbers : List ℕ} {heavy : Heavy} → Fit l y numbers heavy → (j : ℕ) → j < l .l2
+    → StringLow l numbers j
+string-low {l} f j inside =
+    let z = sizes l (legal-bounds l (f .allowed)) in
+    record {
+      modulus = string-high l (f .allowed);
+      sum = f .low j inside;
+      index = omega (arith, z .l1-high, z .l2-high);
+    }
+
 -- a chunk that loses no bit is what is read
 pub no-loss : (nc v : ℕ) (y : List ℕ) → v < 2 ^ nc → losses (digits nc v) y ≡ 0 → v ≡ number nc y
 no-loss nc v y h z =

@@ -7,11 +7,11 @@ use native.Mathlib.Omega.{arith}
 use borrow.Author.Needs.{needs}
 use borrow.Author.Tests.{not-true, not-false}
 use lib.ListN.{length, getD}
-use Rattle.message.proofs.Legal.{legal-bounds, sizes}
+use Rattle.message.proofs.Legal.{legal-bounds}
 use Rattle.states.specs.States.{each}
 use Rattle.weigh.specs.Weigh.{brought}
 use Rattle.column.specs.Column.{valueAt, Placed}
-use Rattle.column.proofs.Rows.{string-high, known-low}
+use Rattle.column.proofs.Rows.{StringLow, string-low, known-low}
 use Rattle.column.proofs.Rows.{crosses-readable, crosses-can, crosses-as-read, crosses-brings}
 use Rattle.column.proofs.crossing.Statement.{statement}
 use Rattle.column.proofs.crossing.Tie as tie
@@ -26,23 +26,11 @@ placed : (c : tie.Else1) → let a = entry (c .before .before) .args in
     (c .before .before .find-chunks .result .chunks)
 placed c = c .before .before .find-chunks .ensures .1 (not-false _ (c .if1 .left))
 
--- the modulus is small, and so are the sum and its place
-record Low (s : tie.Start) : Type 0 where
-  modulus : s .args .l .l1 * s .args .l .nc ≤ 2040
-  sum : getD (s .args .numbers .now) (s .args .l .l1 + s .args .j) 0 ≤ s .args .l .l1 * s .args .l .nc
-  index : s .args .l .l1 + s .args .j ≤ 510
-
--- so it is once the chunks are found
-low : (c : tie.Else1) → Low (entry (c .before .before))
+-- the sum of its chunk-string is small
+low : (c : tie.Else1) → let a = entry (c .before .before) .args in StringLow (a .l) (a .numbers .now) (a .j)
 low c =
     let s = entry (c .before .before) in
-    let f = s .pre .0 in
-    let z = sizes (s .args .l) (legal-bounds (s .args .l) (f .allowed)) in
-    record {
-      modulus = string-high (s .args .l) (f .allowed);
-      sum = f .low (s .args .j) (s .pre .1 .1 .0);
-      index = omega (arith, z .l1-high, z .l2-high, s .pre .1 .1 .0);
-    }
+    string-low (s .pre .0) (s .args .j) (s .pre .1 .1 .0)
 
 find-chunks-requires : tie.Need-find-chunks-requires
 find-chunks-requires c κs = search needs

@@ -5,9 +5,8 @@ use Prim.Native.Nat.{ℕ, _+_, _*_, _≤_}
 use mathlib.Core.Path.{_≡_, refl, sym, ap, subst, _∙_}
 use native.Mathlib.Omega.{arith}
 use lib.ListN.{length, getD}
-use Rattle.message.proofs.Legal.{legal-bounds, sizes}
 use Rattle.states.specs.States.{stride, each}
-use Rattle.column.proofs.Rows.{string-high, known-low, crosses-brings}
+use Rattle.column.proofs.Rows.{StringLow, string-low, known-low, crosses-brings}
 use Rattle.steps.specs.Steps.{broughtIn}
 use Rattle.steps.proofs.Sweeping.{chosen-none}
 use Rattle.steps.proofs.raise.Statement.{statement}
@@ -20,21 +19,9 @@ half c = c .before .before .before .before .before
 abbrev start : tie.After-struct-known → tie.Start
 start c = half (c .before .before .before .before .before)
 
--- the modulus is small, and so are the sum and its place
-record Low (s : tie.Start) : Type 0 where
-  modulus : s .args .l .l1 * s .args .l .nc ≤ 2040
-  sum : getD (s .args .numbers .now) (s .args .l .l1 + s .args .j) 0 ≤ s .args .l .l1 * s .args .l .nc
-  index : s .args .l .l1 + s .args .j ≤ 510
-
-low : (s : tie.Start) → Low s
-low s =
-    let f = s .pre .0 .0 in
-    let z = sizes (s .args .l) (legal-bounds (s .args .l) (f .allowed)) in
-    record {
-      modulus = string-high (s .args .l) (f .allowed);
-      sum = f .low (s .args .j) (s .pre .0 .1 .1 .0);
-      index = omega (arith, z .l1-high, z .l2-high, s .pre .0 .1 .1 .0);
-    }
+-- the sum of its chunk-string is small
+low : (s : tie.Start) → StringLow (s .args .l) (s .args .numbers .now) (s .args .j)
+low s = string-low (s .pre .0 .0) (s .args .j) (s .pre .0 .1 .1 .0)
 
 mul-modulus : tie.Need-mul-modulus
 mul-modulus c = record { fits = omega (arith, low (start c) .modulus) }
