@@ -25,7 +25,6 @@ use Rattle.lines.proofs.Parts.{total-zero, total-but}
 use Rattle.cells.specs.Cells.{Open, OpenAt, Placed, chunkOf}
 use Rattle.cells.specs.declared.Cells.{Cells}
 use Rattle.weigh.specs.Weigh.{Can, brought}
-use Rattle.weigh.specs.declared.Chunks.{Chunks}
 use Rattle.blocks.specs.Blocks.{isIn, bare, Longer, Lose, ownOf, blockTotal, CutOut}
 use Rattle.blocks.specs.declared.Cut.{Cut}
 

@@ -2,7 +2,7 @@
 -- chunk-string's sum still needs, and those that lost no bit are as they are read. Rests on Zeros. Assumes nothing.
 use Prim.Native.Nat.{ℕ, _+_, _-_, _*_, _/_, _%_, _^_, _<_, _≤_}
 use mathlib.Core.Path.{_≡_, sym, ap, _∙_}
-use mathlib.Core.Bool.{true}
+use mathlib.Core.Bool.{Bool, true, false, cond}
 use mathlib.Core.List.{List, _++_}
 use native.Mathlib.Nat.{mod-eq-of-lt, div-add-mod', add-mul-mod-self-right, mul-le-mul, mul-comm}
 use native.Mathlib.Omega.{arith}
@@ -20,6 +20,11 @@ use Rattle.weigh.specs.Weigh.{Can, brought}
 use Rattle.column.specs.Column.{Fit, valueAt, filled, Light, Crosses, readable, Placed, AsRead}
 use Rattle.column.specs.declared.Heavy.{Heavy}
 use Rattle.column.proofs.Zeros.{whole-sum, sum-low}
+
+-- what counts where something is so and not where it is not counts one at most
+pub one-most : (b : Bool) → cond b 0 1 ≤ 1
+one-most true = omega arith
+one-most false = omega arith
 
 -- where a chunk of a layout stands
 pub chunk-stands : (l : Layout) → legal l ≡ true → (i j : ℕ) → i < l .l1 → j < l .l2

@@ -7,9 +7,8 @@ use mathlib.Core.Logic.{⊎-elim}
 use native.Mathlib.Decide.{ℕ-discrete}
 use native.Mathlib.Nat.{mod-add-mod, mod-lt, add-comm}
 use native.Mathlib.Omega.{arith}
-use lib.ListN.{getD, set, length}
+use lib.ListN.{getD, set}
 use lib.Seq.{getD-set-other}
-use Rattle.bits.specs.Bits.{digits}
 use Rattle.bits.proofs.Laws.{lt-or-ge}
 use Rattle.vt.specs.Sum.{total, sum}
 use Rattle.message.specs.declared.Layout.{Layout}

@@ -2,7 +2,6 @@
 -- span. Assumes nothing.
 use Prim.Native.Nat.{ℕ, zero, suc, _+_, _-_, _*_, _%_, _<_, _≤_}
 use mathlib.Core.Path.{_≡_, refl, sym, ap, ap₂, subst, _∙_}
-use mathlib.Core.Bool.{Bool, true, false, cond}
 use mathlib.Core.List.{List}
 use mathlib.Core.Logic.{_⊎_, inl, inr, ⊎-elim}
 use native.Mathlib.Decide.{ℕ-discrete}
@@ -11,34 +10,30 @@ use native.Mathlib.Numerals.{add-one}
 use native.Mathlib.Omega.{arith}
 use borrow.Author.Tests.{ne-eqb}
 use lib.Dec.{eqb}
-use lib.ListN.{length, getD, set, take, drop, length-set}
+use lib.ListN.{length, getD, set, drop, length-set}
 use lib.Seq.{getD-set-same, getD-set-other}
 use Rattle.bits.specs.Bits.{longest, digits, number}
 use Rattle.bits.proofs.Laws.{bits-digits, length-digits, lt-or-ge}
 use Rattle.vt.specs.Ones.{ones}
-use Rattle.vt.specs.Sum.{total}
 use Rattle.message.specs.declared.Layout.{Layout}
 use Rattle.consistent.specs.Greedy.{losses}
 use Rattle.lines.specs.Lines.{unlike}
 use Rattle.states.specs.States.{state, stride, each}
 use Rattle.states.specs.declared.Shape.{Shape}
 use Rattle.states.proofs.States.{state-low}
-use Rattle.weigh.specs.Weigh.{brought, chunkTop, SeenIn, MoreOnes, Wider}
+use Rattle.weigh.specs.Weigh.{brought, chunkTop, Wider}
 use Rattle.weigh.specs.declared.Span.{Span}
 use Rattle.weigh.proofs.Spans.{one-wider}
-use Rattle.column.specs.Column.{Fit, Light, chunkAt, filled, Crosses, apartIn}
+use Rattle.column.specs.Column.{chunkAt, Crosses, apartIn}
 use Rattle.column.specs.declared.Heavy.{Heavy}
-use Rattle.column.proofs.Rows.{chunk-stands, string-high, no-loss}
+use Rattle.column.proofs.Rows.{one-most, chunk-stands, string-high, no-loss}
 use Rattle.steps.specs.Steps.{Above, Raises, oneIf, markedBelow, Counts, broughtIn}
 use Rattle.steps.specs.Steps.{Seeable, Viewed, Ground, Stands, Shares, Chosen, Sharing, Raised}
 use Rattle.steps.specs.declared.View.{View}
 
 -- ---- marked states are counted
-one-most : (b : Bool) → cond b 0 1 ≤ 1
-one-most true = omega arith
-one-most false = omega arith
-
 module _ (marks : List ℕ) (at : ℕ) where
+  -- no more states are marked than there are
   pub marked-most : (q : ℕ) → markedBelow marks at q ≤ q
   unfolding markedBelow
   marked-most zero = omega arith

@@ -7,8 +7,7 @@ use mathlib.Core.Logic.{_⊎_}
 use mathlib.Core.List.{List}
 use lib.Dec.{eqb}
 use lib.ListN.{length, getD, take, drop}
-use Rattle.bits.specs.Bits.{AllBits, longest, digits}
-use Rattle.vt.specs.Sum.{total}
+use Rattle.bits.specs.Bits.{AllBits, longest}
 use Rattle.message.specs.Layout.{legal}
 use Rattle.message.specs.declared.Layout.{Layout}
 use Rattle.windows.specs.Windows.{Tables}
@@ -16,7 +15,7 @@ use Rattle.states.specs.States.{state, stride, each, mostStates, Shaped}
 use Rattle.states.specs.declared.Shape.{Shape}
 use Rattle.weigh.specs.Weigh.{brought, chunkTop, SeenIn, MoreOnes}
 use Rattle.weigh.specs.declared.Span.{Span}
-use Rattle.column.specs.Column.{chunkAt, valueAt, Crosses, apartIn, Readable}
+use Rattle.column.specs.Column.{chunkAt, valueAt, Crosses, apartIn}
 use Rattle.column.specs.declared.Heavy.{Heavy}
 use Rattle.steps.specs.declared.View.{View}
 

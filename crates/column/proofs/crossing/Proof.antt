@@ -1,12 +1,12 @@
 -- `column::crossing` meets its contract: a row that crosses the column passes each test, and where its chunks lost no
 -- bit they are as they are read. Assumes nothing.
-use Prim.Native.Nat.{ℕ, _+_, _*_, _≤_}
+use Prim.Native.Nat.{ℕ, _≤_}
 use mathlib.Core.Path.{sym, _∙_}
 use mathlib.Core.Bool.{false≢true}
 use native.Mathlib.Omega.{arith}
 use borrow.Author.Needs.{needs}
 use borrow.Author.Tests.{not-true, not-false}
-use lib.ListN.{length, getD}
+use lib.ListN.{length}
 use Rattle.message.proofs.Legal.{legal-bounds}
 use Rattle.states.specs.States.{each}
 use Rattle.weigh.specs.Weigh.{brought}

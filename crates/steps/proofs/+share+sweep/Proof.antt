@@ -3,7 +3,7 @@
 -- Assumes nothing.
 use borrow.Author.Needs.{needs}
 use Prim.Native.Nat.{ℕ, suc, _+_, _-_, _*_, _<_, _≤_}
-use mathlib.Core.Path.{_≡_, refl, sym, ap, subst, _∙_}
+use mathlib.Core.Path.{_≡_, refl, sym, subst, _∙_}
 use mathlib.Core.Bool.{false≢true}
 use mathlib.Core.List.{List}
 use mathlib.Core.Logic.{_⊎_, inl, inr, ⊎-elim}
@@ -12,7 +12,7 @@ use native.Mathlib.Omega.{arith}
 use borrow.Author.Tests.{not-true, not-false}
 use borrow.Fn.Kinds.{In}
 use borrow.Fn.PlainCycle.{Measures, is, falls, and}
-use lib.ListN.{length, getD}
+use lib.ListN.{getD}
 use mir.Syntax.{w8}
 use mir.Val.{Fits}
 use Rattle.bits.specs.Bits.{digits}
@@ -24,7 +24,7 @@ use Rattle.states.proofs.States.{stride-pos}
 use Rattle.weigh.specs.Weigh.{Wider}
 use Rattle.column.specs.Column.{chunkAt}
 use Rattle.column.proofs.Rows.{crosses-readable}
-use Rattle.steps.specs.Steps.{Ground, Stands, Shares, Chosen, Sharing, Viewed, Raised}
+use Rattle.steps.specs.Steps.{Stands, Shares, Chosen, Sharing, Viewed, Raised}
 use Rattle.steps.proofs.Sweeping.{ChunkIs, chunk-is, none-between, ground-stays}
 use Rattle.steps.proofs.Sweeping.{raised-then, raised-none, raised-end}
 use Rattle.steps.proofs.Sweeping.{stands-share, shares-stands, sharing-range, chosen-share}

@@ -1,13 +1,11 @@
 -- `steps::look_at` meets its contract. Assumes nothing.
 use borrow.Author.Needs.{needs}
-use Prim.Native.Nat.{ℕ, _+_, _-_, _*_, _<_, _≤_}
+use Prim.Native.Nat.{ℕ, _+_, _-_, _*_, _≤_}
 use mathlib.Core.Path.{_≡_, refl, sym, ap, ap₂, subst, _∙_}
 use mathlib.Core.Bool.{false≢true}
 use native.Mathlib.Omega.{arith}
 use borrow.Author.Tests.{not-true, not-false}
 use lib.ListN.{length, getD, take, drop}
-use mir.Syntax.{w8}
-use mir.Val.{Fits}
 use Rattle.message.proofs.Legal.{legal-bounds}
 use Rattle.weigh.specs.Weigh.{SeenIn, MoreOnes}
 use Rattle.column.specs.Column.{chunkAt}

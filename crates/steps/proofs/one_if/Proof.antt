@@ -1,5 +1,4 @@
 -- `steps::one_if` meets its contract. Assumes nothing.
-use native.Mathlib.Omega.{arith}
 use borrow.Author.Tests.{eq-eqb, ne-eqb}
 use Rattle.steps.proofs.one_if.Statement.{statement}
 use Rattle.steps.proofs.one_if.Tie as tie

@@ -1,10 +1,8 @@
 -- `steps::raise` meets its contract: what the heavy blocks must bring is what the sum of the chunks in hand lacks. Rests on Sweeping.antt.
 -- Assumes nothing.
-use borrow.Author.Needs.{needs}
-use Prim.Native.Nat.{ℕ, _+_, _*_, _≤_}
-use mathlib.Core.Path.{_≡_, refl, sym, ap, subst, _∙_}
+use Prim.Native.Nat.{_≤_}
+use mathlib.Core.Path.{refl, ap}
 use native.Mathlib.Omega.{arith}
-use lib.ListN.{length, getD}
 use Rattle.states.specs.States.{stride, each}
 use Rattle.column.proofs.Rows.{StringLow, string-low, known-low, crosses-brings}
 use Rattle.steps.specs.Steps.{broughtIn}

@@ -1,10 +1,8 @@
 -- `steps::raise_one` meets its contract. Rests on Sweeping.antt. Assumes nothing.
 use borrow.Author.Needs.{needs}
-use mathlib.Core.Path.{refl, sym, _∙_}
+use mathlib.Core.Path.{sym, _∙_}
 use mathlib.Core.Bool.{false≢true}
 use native.Mathlib.Omega.{arith}
-use borrow.Author.Tests.{not-true, not-false}
-use lib.ListN.{length, getD, set, length-set}
 use lib.Seq.{getD-set-same}
 use Rattle.steps.proofs.Sweeping.{above-more, raises-same, raises-set}
 use Rattle.steps.proofs.raise_one.Statement.{statement}
