@@ -239,7 +239,8 @@ module _ (l : Layout) (cells : Cells) (i : ℕ) where
 
         -- what the chunks bring with it
         brought-next : (vs : List ℕ) → brought (l .nc) (new .chunks .block) (ownOf l i new vs) (new .chunks .n)
-            ≡ brought (l .nc) (old .chunks .block) (ownOf l i old vs) n + total (j * l .nc + 1) (digits (l .nc) (getD vs (at j) 0))
+            ≡ brought (l .nc) (old .chunks .block) (ownOf l i old vs) n
+            + total (j * l .nc + 1) (digits (l .nc) (getD vs (at j) 0))
         unfolding brought
         brought-next vs =
             ap (brought (l .nc) (new .chunks .block) (ownOf l i new vs)) (g .count ∙ add-one n)
@@ -250,7 +251,9 @@ module _ (l : Layout) (cells : Cells) (i : ℕ) where
 
         -- the block's total is that with a zero there and what it brings
         whole-next : (vs : List ℕ)
-            → blockTotal l i (bare l cells i (k + 1) vs) + brought (l .nc) (new .chunks .block) (ownOf l i new vs) (new .chunks .n) ≡ blockTotal l i vs
+            → blockTotal l i (bare l cells i (k + 1) vs)
+            + brought (l .nc) (new .chunks .block) (ownOf l i new vs) (new .chunks .n)
+            ≡ blockTotal l i vs
         whole-next vs =
             let w = bare l cells i k vs in
             let one : i * l .l2 + j * 1 ≡ at j = omega (arith, mul-one j) in

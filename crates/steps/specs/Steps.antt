@@ -120,7 +120,8 @@ pub record Sharing (l : Layout) (heavy : Heavy) (z : List ℕ) (shape : Shape) (
 -- the marks are raised for each row that goes on with the choices so far: the mark of the state that it is at after the column is at least
 -- the one there and the chunks of the column that are others than in z
 pub record Raised (l : Layout) (y : List ℕ) (heavy : Heavy) (z : List ℕ) (shape : Shape) (j : ℕ) (left : ℕ → ℕ)
-    (modulus need there : ℕ) (marks : List ℕ) (at : ℕ) (Goes : (next : ℕ → ℕ) (vs : List ℕ) → Type 0) (entry exit : List ℕ) : Type 0 where
+    (modulus need there : ℕ) (marks : List ℕ) (at : ℕ) (Goes : (next : ℕ → ℕ) (vs : List ℕ) → Type 0)
+    (entry exit : List ℕ) : Type 0 where
   pub raises : Raises entry exit
   pub gains : (numbers row vs : List ℕ) (next : ℕ → ℕ) → Crosses l y numbers heavy row j left next vs → Goes next vs
       → broughtIn l heavy vs j (heavy .n) % modulus ≡ need
