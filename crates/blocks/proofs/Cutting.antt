@@ -25,13 +25,12 @@ use Rattle.lines.proofs.Parts.{total-zero, total-but}
 use Rattle.cells.specs.Cells.{Open, OpenAt, Placed, chunkOf}
 use Rattle.cells.specs.declared.Cells.{Cells}
 use Rattle.weigh.specs.Weigh.{Can, brought}
-use Rattle.weigh.specs.declared.Chunks.{Chunks}
 use Rattle.blocks.specs.Blocks.{isIn, bare, Longer, Lose, ownOf, blockTotal, CutOut}
 use Rattle.blocks.specs.declared.Cut.{Cut}
 
 -- what chunks bring depends on their blocks and their numbers alone
-brought-same : (nc : ℕ) (a b : Chunks) (us vs : ℕ → ℕ) (n : ℕ)
-    → ((s : ℕ) → s < n → (getD (a .block) s 0 ≡ getD (b .block) s 0) × (us s ≡ vs s))
+brought-same : (nc : ℕ) (a b : List ℕ) (us vs : ℕ → ℕ) (n : ℕ)
+    → ((s : ℕ) → s < n → (getD a s 0 ≡ getD b s 0) × (us s ≡ vs s))
     → brought nc a us n ≡ brought nc b vs n
 unfolding brought
 brought-same nc a b us vs zero same = refl
@@ -233,19 +232,22 @@ module _ (l : Layout) (cells : Cells) (i : ℕ) where
               }
 
         -- what the chunks bring with it
-        brought-next : (vs : List ℕ) → brought (l .nc) (new .chunks) (ownOf l i new vs) (new .chunks .n)
-            ≡ brought (l .nc) (old .chunks) (ownOf l i old vs) n + total (j * l .nc + 1) (digits (l .nc) (getD vs (at j) 0))
+        brought-next : (vs : List ℕ) → brought (l .nc) (new .chunks .block) (ownOf l i new vs) (new .chunks .n)
+            ≡ brought (l .nc) (old .chunks .block) (ownOf l i old vs) n
+            + total (j * l .nc + 1) (digits (l .nc) (getD vs (at j) 0))
         unfolding brought
         brought-next vs =
-            ap (brought (l .nc) (new .chunks) (ownOf l i new vs)) (g .count ∙ add-one n)
+            ap (brought (l .nc) (new .chunks .block) (ownOf l i new vs)) (g .count ∙ add-one n)
             ∙ ap₂ _+_
-            (brought-same (l .nc) (new .chunks) (old .chunks) (ownOf l i new vs) (ownOf l i old vs) n
+            (brought-same (l .nc) (new .chunks .block) (old .chunks .block) (ownOf l i new vs) (ownOf l i old vs) n
             (λ s h. (block-was s h, own-was vs s h)))
             (ap₂ (λ (b v : ℕ). total (b * l .nc + 1) (digits (l .nc) v)) block-is (own-is vs))
 
         -- the block's total is that with a zero there and what it brings
         whole-next : (vs : List ℕ)
-            → blockTotal l i (bare l cells i (k + 1) vs) + brought (l .nc) (new .chunks) (ownOf l i new vs) (new .chunks .n) ≡ blockTotal l i vs
+            → blockTotal l i (bare l cells i (k + 1) vs)
+            + brought (l .nc) (new .chunks .block) (ownOf l i new vs) (new .chunks .n)
+            ≡ blockTotal l i vs
         whole-next vs =
             let w = bare l cells i k vs in
             let one : i * l .l2 + j * 1 ≡ at j = omega (arith, mul-one j) in

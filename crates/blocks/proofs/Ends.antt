@@ -42,12 +42,13 @@ module _ {l : Layout} {y numbers : List ℕ} {cells : Cells} {row : List ℕ} {i
 
   -- the sum of the rest and what the cells bring are the block's sum
   pub ended-brings : (cut : Cut) → CutOut l y cells i 12 cut
-      → (sum (line (l .nc) (i * l .l2) 1 (l .l2) (bare l cells i 12 out)) + brought (l .nc) (cut .chunks) (ownOf l i cut vs) (cut .chunks .n))
+      → (sum (line (l .nc) (i * l .l2) 1 (l .l2) (bare l cells i 12 out))
+      + brought (l .nc) (cut .chunks .block) (ownOf l i cut vs) (cut .chunks .n))
       % (l .l2 * l .nc + 1)
       ≡ getD numbers i 0
   ended-brings cut c =
       let m : ℕ = l .l2 * l .nc + 1 in
-      let b : ℕ = brought (l .nc) (cut .chunks) (ownOf l i cut vs) (cut .chunks .n) in
+      let b : ℕ = brought (l .nc) (cut .chunks .block) (ownOf l i cut vs) (cut .chunks .n) in
       ap (λ (n : ℕ). (n + b) % m) (ap sum bare-line ∙ sym (sum-of-total (l .nc) (i * l .l2) 1 (l .l2) (bare l cells i 12 vs)))
       ∙ mod-add-mod (blockTotal l i (bare l cells i 12 vs)) m b
       ∙ ap (λ (n : ℕ). n % m) (c .whole vs)

@@ -60,7 +60,8 @@ pub record CutOut (l : Layout) (y : List ℕ) (cells : Cells) (i k : ℕ) (cut :
   pub behind : (vs : List ℕ) (c : ℕ) → cut .next ≤ c → c < l .l2
       → getD (bare l cells i k vs) (i * l .l2 + c) 0 ≡ getD vs (i * l .l2 + c) 0
   pub can : (vs : List ℕ) → Lose l y cells i vs → Can (l .nc) y (cut .chunks) (ownOf l i cut vs)
-  pub whole : (vs : List ℕ) → blockTotal l i (bare l cells i k vs) + brought (l .nc) (cut .chunks) (ownOf l i cut vs) (cut .chunks .n)
+  pub whole : (vs : List ℕ)
+      → blockTotal l i (bare l cells i k vs) + brought (l .nc) (cut .chunks .block) (ownOf l i cut vs) (cut .chunks .n)
       ≡ blockTotal l i vs
 
 -- chunk c of block i is read whole, end bits being lost before it

@@ -2,7 +2,7 @@
 -- chunk-string's sum still needs, and those that lost no bit are as they are read. Rests on Zeros. Assumes nothing.
 use Prim.Native.Nat.{ℕ, _+_, _-_, _*_, _/_, _%_, _^_, _<_, _≤_}
 use mathlib.Core.Path.{_≡_, sym, ap, _∙_}
-use mathlib.Core.Bool.{true}
+use mathlib.Core.Bool.{Bool, true, false, cond}
 use mathlib.Core.List.{List, _++_}
 use native.Mathlib.Nat.{mod-eq-of-lt, div-add-mod', add-mul-mod-self-right, mul-le-mul, mul-comm}
 use native.Mathlib.Omega.{arith}
@@ -17,10 +17,15 @@ use Rattle.consistent.specs.Greedy.{losses}
 use Rattle.consistent.proofs.Greedy.{whole}
 use Rattle.weigh.specs.declared.Chunks.{Chunks}
 use Rattle.weigh.specs.Weigh.{Can, brought}
-use Rattle.column.specs.Column.{Fit, chunkAt, filled, Light, Crosses, readable, Placed, AsRead}
+use Rattle.column.specs.Column.{Fit, valueAt, filled, Light, Crosses, readable, Placed, AsRead}
 use Rattle.column.specs.declared.Heavy.{Heavy}
 use Rattle.lines.proofs.Turns.{sum-low}
 use Rattle.column.proofs.Zeros.{whole-sum}
+
+-- what counts where something is so and not where it is not counts one at most
+pub one-most : (b : Bool) → cond b 0 1 ≤ 1
+one-most true = omega arith
+one-most false = omega arith
 
 -- where a chunk of a layout stands
 pub chunk-stands : (l : Layout) → legal l ≡ true → (i j : ℕ) → i < l .l1 → j < l .l2
@@ -34,6 +39,22 @@ chunk-stands l e i j h g =
 -- a chunk-string of a layout is no longer than a row
 pub string-high : (l : Layout) → legal l ≡ true → l .l1 * l .nc ≤ longest
 string-high l e = omega (arith, sizes l (legal-bounds l e) .string, mul-comm (l .l1) (l .nc))
+
+-- the sum of a chunk-string and its place among the numbers are small, and so is its modulus
+pub record StringLow (l : Layout) (numbers : List ℕ) (j : ℕ) : Type 0 where
+  pub modulus : l .l1 * l .nc ≤ longest
+  pub sum : getD numbers (l .l1 + j) 0 ≤ l .l1 * l .nc
+  pub index : l .l1 + j ≤ 510
+
+pub string-low : {l : Layout} {y numbers : List ℕ} {heavy : Heavy} → Fit l y numbers heavy → (j : ℕ) → j < l .l2
+    → StringLow l numbers j
+string-low {l} f j inside =
+    let z = sizes l (legal-bounds l (f .allowed)) in
+    record {
+      modulus = string-high l (f .allowed);
+      sum = f .low j inside;
+      index = omega (arith, z .l1-high, z .l2-high);
+    }
 
 -- a chunk that loses no bit is what is read
 pub no-loss : (nc v : ℕ) (y : List ℕ) → v < 2 ^ nc → losses (digits nc v) y ≡ 0 → v ≡ number nc y
@@ -49,6 +70,12 @@ rest-is whole part m b r k h e g =
     let n : b + k * m ≡ r + q * m = omega (arith, div-add-mod' (part + b) m, g, e) in
     sym (add-mul-mod-self-right b k m) ∙ ap (λ (v : ℕ). v % m) n ∙ add-mul-mod-self-right r q m ∙ mod-eq-of-lt h
 
+-- the sum of the chunks in hand is below the modulus
+pub known-low : (l : Layout) (heavy : Heavy) (row known : List ℕ) (j : ℕ) → Light l heavy row known → j < l .l2
+    → getD known j 0 < l .l1 * l .nc + 1
+known-low l heavy row known j light inside =
+    rw (light j inside) (sum-low (l .nc) j (l .l2) (l .l1) (filled l heavy (λ s. 0) j (heavy .n) row))
+
 module _ {l : Layout} {y numbers : List ℕ} {heavy : Heavy} {row : List ℕ} {j : ℕ} {left next : ℕ → ℕ} {vs : List ℕ}
     (c : Crosses l y numbers heavy row j left next vs) where
   -- its chunks can be read
@@ -56,11 +83,21 @@ module _ {l : Layout} {y numbers : List ℕ} {heavy : Heavy} {row : List ℕ} {j
   crosses-readable s h =
       record { falls = c .falls s h; few = c .few s h; starts = c .starts s h; there = c .there s h }
 
-  module _ {chunks : Chunks} (p : Placed l (length y) heavy j left next chunks) where
-    -- the numbers of its chunks in the heavy blocks
-    abbrev own : ℕ → ℕ
-    own s = getD vs (chunkAt l heavy j s) 0
+  -- the numbers of its chunks in the heavy blocks
+  abbrev own : ℕ → ℕ
+  own = valueAt l heavy vs j
 
+  -- they bring what is missing of the sum of the chunks in hand
+  pub crosses-brings : Fit l y numbers heavy → j < l .l2 → (known : List ℕ) → Light l heavy row known
+      → (n : ℕ) (block : List ℕ) → n ≡ heavy .n → block ≡ heavy .block
+      → (getD known j 0 + brought (l .nc) block own n) % (l .l1 * l .nc + 1) ≡ getD numbers (l .l1 + j) 0
+  crosses-brings f inside known light n block count same =
+      let m : ℕ = l .l1 * l .nc + 1 in
+      rw (count, same)
+      (ap (λ (v : ℕ). (v + brought (l .nc) (heavy .block) own (heavy .n)) % m) (light j inside)
+      ∙ (whole-sum l heavy j y numbers f inside vs row (c .others) ∙ c .has-sum))
+
+  module _ {chunks : Chunks} (p : Placed l (length y) heavy j left next chunks) where
     -- they can be these numbers
     pub crosses-can : Can (l .nc) y chunks own
     crosses-can =
@@ -78,19 +115,3 @@ module _ {l : Layout} {y numbers : List ℕ} {heavy : Heavy} {row : List ℕ} {j
     pub crosses-as-read : AsRead l y heavy chunks vs j (heavy .n)
     crosses-as-read s h z =
         rw (p .place s h) (no-loss (l .nc) (own s) _ (c .small s h) (c .loses s h ∙ sym (p .lost s h) ∙ z))
-
-    module _ (f : Fit l y numbers heavy) (inside : j < l .l2) (known : List ℕ) (light : Light l heavy row known) where
-      -- the sum of the chunks in hand is below the modulus
-      pub known-low : getD known j 0 < l .l1 * l .nc + 1
-      known-low =
-          rw (light j inside) (sum-low (l .nc) j (l .l2) (l .l1) (filled l heavy (λ s. 0) j (heavy .n) row))
-
-      -- and they bring what is missing of it
-      pub crosses-brings : (getD known j 0 + brought (l .nc) chunks own (chunks .n)) % (l .l1 * l .nc + 1)
-          ≡ getD numbers (l .l1 + j) 0
-      crosses-brings =
-          let b : ℕ → ℕ = brought (l .nc) chunks own in
-          let m : ℕ = l .l1 * l .nc + 1 in
-          ap (λ (n : ℕ). (getD known j 0 + b n) % m) (p .count)
-          ∙ ap (λ (v : ℕ). (v + b (heavy .n)) % m) (light j inside)
-          ∙ (whole-sum l heavy j y numbers f inside vs chunks (p .blocks) row (c .others) ∙ c .has-sum)

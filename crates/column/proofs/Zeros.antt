@@ -7,9 +7,8 @@ use mathlib.Core.Logic.{⊎-elim}
 use native.Mathlib.Decide.{ℕ-discrete}
 use native.Mathlib.Nat.{mod-add-mod, add-comm}
 use native.Mathlib.Omega.{arith}
-use lib.ListN.{getD, set, length}
+use lib.ListN.{getD, set}
 use lib.Seq.{getD-set-other}
-use Rattle.bits.specs.Bits.{digits}
 use Rattle.bits.proofs.Laws.{lt-or-ge, set-zero}
 use Rattle.vt.specs.Sum.{total, sum}
 use Rattle.message.specs.declared.Layout.{Layout}
@@ -18,10 +17,8 @@ use Rattle.lines.specs.Lines.{line}
 use Rattle.lines.proofs.Lines.{line-same}
 use Rattle.lines.proofs.Parts.{total-zero, total-but}
 use Rattle.lines.proofs.Turns.{sum-of-total}
-pub use Rattle.lines.proofs.Turns.{sum-low}
-use Rattle.weigh.specs.declared.Chunks.{Chunks}
 use Rattle.weigh.specs.Weigh.{brought}
-use Rattle.column.specs.Column.{Fit, chunkAt, filled}
+use Rattle.column.specs.Column.{Fit, chunkAt, valueAt, filled}
 use Rattle.column.specs.declared.Heavy.{Heavy}
 
 -- ---- the chunks of the heavy blocks as zeros
@@ -81,57 +78,55 @@ module _ (l : Layout) (heavy : Heavy) (j : ℕ) where
         let n = f .ascending s k g h in
         other-block (getD (heavy .block) k 0) (getD (heavy .block) s 0) (λ q. omega arith) (omega (arith, e))
 
-    module _ (chunks : Chunks) (blocks : chunks .block ≡ heavy .block) where
-      -- the numbers of the heavy blocks' chunks
-      abbrev own : ℕ → ℕ
-      own s = getD vs (chunkAt l heavy j s) 0
+    -- the numbers of the heavy blocks' chunks
+    abbrev own : ℕ → ℕ
+    own = valueAt l heavy vs j
 
-      -- the total of the chunk-string
-      abbrev whole : List ℕ → ℕ
-      whole us = total 1 (line (l .nc) j (l .l2) (l .l1) us)
+    -- the total of the chunk-string
+    abbrev whole : List ℕ → ℕ
+    whole us = total 1 (line (l .nc) j (l .l2) (l .l1) us)
 
-      -- what the first k bring and the rest are the whole
-      pub makes-up : (k : ℕ) → k ≤ heavy .n → whole (zeros k vs) + brought (l .nc) chunks own k ≡ whole vs
-      unfolding filled brought
-      makes-up zero h = omega arith
-      makes-up (suc k) h =
-          let i : ℕ = getD (heavy .block) k 0 in
-          let c : ℕ = chunkAt l heavy j k in
-          let at : j + i * l .l2 ≡ c = add-comm j (i * l .l2) in
-          let b = f .inside k (omega arith) in
-          let step = total-but (l .nc) j (l .l2) (l .l1) i b (set (zeros k vs) c 0) (zeros k vs) (away k) in
-          let was : getD (zeros k vs) c 0 ≡ own k = zeros-other k c vs (else-earlier k (omega arith)) in
-          let here : getD (chunks .block) k 0 ≡ i = ap (λ (b : List ℕ). getD b k 0) blocks in
-          let s = rw (at, set-zero (zeros k vs) c, was, total-zero (l .nc) (i * l .nc + 1)) at step in
-          rw here (omega (arith, s, makes-up k (omega arith)))
-        where
-          away : (k : ℕ) → (i : ℕ) → i < l .l1 → (i ≡ getD (heavy .block) k 0 → ⊥)
-              → getD (set (zeros k vs) (chunkAt l heavy j k) 0) (j + i * l .l2) 0 ≡ getD (zeros k vs) (j + i * l .l2) 0
-          away k i g n =
-              getD-set-other (zeros k vs) (chunkAt l heavy j k) (j + i * l .l2) 0 0
-              (other-block i (getD (heavy .block) k 0) n)
+    -- what the first k bring and the rest are the whole
+    pub makes-up : (k : ℕ) → k ≤ heavy .n → whole (zeros k vs) + brought (l .nc) (heavy .block) own k ≡ whole vs
+    unfolding filled brought
+    makes-up zero h = omega arith
+    makes-up (suc k) h =
+        let i : ℕ = getD (heavy .block) k 0 in
+        let c : ℕ = chunkAt l heavy j k in
+        let at : j + i * l .l2 ≡ c = add-comm j (i * l .l2) in
+        let b = f .inside k (omega arith) in
+        let step = total-but (l .nc) j (l .l2) (l .l1) i b (set (zeros k vs) c 0) (zeros k vs) (away k) in
+        let was : getD (zeros k vs) c 0 ≡ own k = zeros-other k c vs (else-earlier k (omega arith)) in
+        let s = rw (at, set-zero (zeros k vs) c, was, total-zero (l .nc) (i * l .nc + 1)) at step in
+        omega (arith, s, makes-up k (omega arith))
+      where
+        away : (k : ℕ) → (i : ℕ) → i < l .l1 → (i ≡ getD (heavy .block) k 0 → ⊥)
+            → getD (set (zeros k vs) (chunkAt l heavy j k) 0) (j + i * l .l2) 0 ≡ getD (zeros k vs) (j + i * l .l2) 0
+        away k i g n =
+            getD-set-other (zeros k vs) (chunkAt l heavy j k) (j + i * l .l2) 0 0
+            (other-block i (getD (heavy .block) k 0) n)
 
-      -- the sum of the chunk-string, where a row in hand has the chunks of the other blocks
-      pub whole-sum : (row : List ℕ)
-          → ((i : ℕ) → i < l .l1 → ((s : ℕ) → s < heavy .n → getD (heavy .block) s 0 ≡ i → ⊥)
-          → getD vs (i * l .l2 + j) 0 ≡ getD row (i * l .l2 + j) 0)
-          → (sum (line (l .nc) j (l .l2) (l .l1) (filled l heavy (λ s. 0) j (heavy .n) row))
-          + brought (l .nc) chunks own (heavy .n))
-          % (l .l1 * l .nc + 1)
-          ≡ sum (line (l .nc) j (l .l2) (l .l1) vs)
-      whole-sum row others =
-          let m : ℕ = l .l1 * l .nc + 1 in
-          let b : ℕ = brought (l .nc) chunks own (heavy .n) in
-          let e = line-same (l .nc) j (l .l2) (l .l1) (zeros (heavy .n) row) (zeros (heavy .n) vs) alike in
-          ap (λ (v : ℕ). (v + b) % m) (ap sum e ∙ sym (sum-of-total (l .nc) j (l .l2) (l .l1) (zeros (heavy .n) vs)))
-          ∙ mod-add-mod (whole (zeros (heavy .n) vs)) m b
-          ∙ ap (λ (v : ℕ). v % m) (makes-up (heavy .n) (omega arith))
-          ∙ sum-of-total (l .nc) j (l .l2) (l .l1) vs
-        where
-          alike : (i : ℕ) → i < l .l1
-              → getD (zeros (heavy .n) row) (j + i * l .l2) 0 ≡ getD (zeros (heavy .n) vs) (j + i * l .l2) 0
-          alike i h =
-              zeros-same (heavy .n) (j + i * l .l2) row vs
-              (λ n.
-              rw (add-comm j (i * l .l2))
-              (sym (others i h (λ s g e. n s g (add-comm j (i * l .l2) ∙ ap (λ (b : ℕ). b * l .l2 + j) (sym e))))))
+    -- the sum of the chunk-string, where a row in hand has the chunks of the other blocks
+    pub whole-sum : (row : List ℕ)
+        → ((i : ℕ) → i < l .l1 → ((s : ℕ) → s < heavy .n → getD (heavy .block) s 0 ≡ i → ⊥)
+        → getD vs (i * l .l2 + j) 0 ≡ getD row (i * l .l2 + j) 0)
+        → (sum (line (l .nc) j (l .l2) (l .l1) (filled l heavy (λ s. 0) j (heavy .n) row))
+        + brought (l .nc) (heavy .block) own (heavy .n))
+        % (l .l1 * l .nc + 1)
+        ≡ sum (line (l .nc) j (l .l2) (l .l1) vs)
+    whole-sum row others =
+        let m : ℕ = l .l1 * l .nc + 1 in
+        let b : ℕ = brought (l .nc) (heavy .block) own (heavy .n) in
+        let e = line-same (l .nc) j (l .l2) (l .l1) (zeros (heavy .n) row) (zeros (heavy .n) vs) alike in
+        ap (λ (v : ℕ). (v + b) % m) (ap sum e ∙ sym (sum-of-total (l .nc) j (l .l2) (l .l1) (zeros (heavy .n) vs)))
+        ∙ mod-add-mod (whole (zeros (heavy .n) vs)) m b
+        ∙ ap (λ (v : ℕ). v % m) (makes-up (heavy .n) (omega arith))
+        ∙ sum-of-total (l .nc) j (l .l2) (l .l1) vs
+      where
+        alike : (i : ℕ) → i < l .l1
+            → getD (zeros (heavy .n) row) (j + i * l .l2) 0 ≡ getD (zeros (heavy .n) vs) (j + i * l .l2) 0
+        alike i h =
+            zeros-same (heavy .n) (j + i * l .l2) row vs
+            (λ n.
+            rw (add-comm j (i * l .l2))
+            (sym (others i h (λ s g e. n s g (add-comm j (i * l .l2) ∙ ap (λ (b : ℕ). b * l .l2 + j) (sym e))))))

@@ -30,6 +30,10 @@ pub record Fit (l : Layout) (y numbers : List ℕ) (heavy : Heavy) : Type 0 wher
 abbrev pub chunkAt : Layout → Heavy → (j s : ℕ) → ℕ
 chunkAt l heavy j s = getD (heavy .block) s 0 * l .l2 + j
 
+-- its number in a row with the chunks vs
+abbrev pub valueAt : Layout → Heavy → (vs : List ℕ) (j s : ℕ) → ℕ
+valueAt l heavy vs j s = getD vs (chunkAt l heavy j s) 0
+
 -- the bits that it would be matched against start here, plus the losses up to the end of its block
 abbrev pub readFrom : Layout → Heavy → (left : ℕ → ℕ) (j s : ℕ) → ℕ
 readFrom l heavy left j s = chunkAt l heavy j s * l .nc + left s
@@ -54,10 +58,9 @@ pub record Crosses (l : Layout) (y numbers : List ℕ) (heavy : Heavy) (row : Li
   pub starts : (s : ℕ) → s < heavy .n → getD (heavy .end) s 0 ≤ readFrom l heavy left j s
   pub there : (s : ℕ) → s < heavy .n
       → readFrom l heavy left j s + l .nc + next s ≤ length y + getD (heavy .end) s 0 + left s
-  pub small : (s : ℕ) → s < heavy .n → getD vs (chunkAt l heavy j s) 0 < 2 ^ (l .nc)
+  pub small : (s : ℕ) → s < heavy .n → valueAt l heavy vs j s < 2 ^ (l .nc)
   pub loses : (s : ℕ) → s < heavy .n
-      → losses (digits (l .nc) (getD vs (chunkAt l heavy j s) 0))
-      (drop (readFrom l heavy left j s - getD (heavy .end) s 0) y)
+      → losses (digits (l .nc) (valueAt l heavy vs j s)) (drop (readFrom l heavy left j s - getD (heavy .end) s 0) y)
       ≡ left s - next s
   pub others : (i : ℕ) → i < l .l1 → ((s : ℕ) → s < heavy .n → getD (heavy .block) s 0 ≡ i → ⊥)
       → getD vs (i * l .l2 + j) 0 ≡ getD row (i * l .l2 + j) 0
@@ -98,4 +101,4 @@ pub record Placed (l : Layout) (size : ℕ) (heavy : Heavy) (j : ℕ) (left next
 abbrev pub AsRead : Layout → (y : List ℕ) → Heavy → Chunks → (vs : List ℕ) (j n : ℕ) → Type 0
 AsRead l y heavy chunks vs j n =
     (s : ℕ) → s < n → getD (chunks .lost) s 0 ≡ 0
-    → getD vs (chunkAt l heavy j s) 0 ≡ number (l .nc) (drop (getD (chunks .place) s 0) y)
+    → valueAt l heavy vs j s ≡ number (l .nc) (drop (getD (chunks .place) s 0) y)

@@ -4,7 +4,7 @@ use Prim.Native.Nat.{ℕ, zero, suc, _+_, _-_, _*_, _%_, _<_, _≤_}
 use mathlib.Core.Path.{_≡_, refl, sym, ap, _∙_}
 use mathlib.Core.Bool.{Bool, true, false, false≢true}
 use mathlib.Core.Logic.{_⊎_, inl, inr, ⊎-elim}
-use mathlib.Core.List.{List, []}
+use mathlib.Core.List.{List}
 use native.Mathlib.Decide.{ℕ-discrete}
 use native.Mathlib.Omega.{arith}
 use lib.ListN.{length, getD, take, drop}
@@ -14,12 +14,10 @@ use Rattle.vt.specs.Sum.{total}
 use Rattle.message.specs.declared.Layout.{Layout}
 use Rattle.consistent.specs.Greedy.{losses}
 use Rattle.consistent.proofs.Greedy.{whole}
-use Rattle.weigh.specs.declared.Chunks.{Chunks}
 use Rattle.weigh.specs.Weigh.{brought}
-use Rattle.column.specs.Column.{Fit, Light, Crosses, chunkAt, readFrom}
+use Rattle.column.specs.Column.{Fit, Light, Crosses, valueAt, readFrom}
 use Rattle.column.specs.declared.Heavy.{Heavy}
-use Rattle.column.proofs.Rows.{crosses-readable}
-use Rattle.column.proofs.Zeros.{whole-sum}
+use Rattle.column.proofs.Rows.{crosses-readable, crosses-brings}
 use Rattle.costs.specs.Costs.{modulus, firsts, legibleIn, brings, bringsIn}
 
 -- ---- losses left in some blocks, and later
@@ -61,12 +59,9 @@ module _ {l : Layout} {y numbers : List ℕ} {heavy : Heavy} {row : List ℕ} {j
     pub kept-legible : (s : ℕ) → s < heavy .n → legibleIn l (length y) heavy j left s
     kept-legible s h = rw (kept s h) at (crosses-readable c s h)
 
-    -- the chunks of the heavy blocks, for what they bring
-    abbrev chunks : Chunks
-    chunks = record { n = heavy .n; block = heavy .block; place = []; lost = [] }
-
+    -- the numbers of the heavy blocks' chunks
     abbrev own : ℕ → ℕ
-    own s = getD vs (chunkAt l heavy j s) 0
+    own = valueAt l heavy vs j
 
     -- each is what is read
     kept-read : (s : ℕ) → s < heavy .n
@@ -78,7 +73,7 @@ module _ {l : Layout} {y numbers : List ℕ} {heavy : Heavy} {row : List ℕ} {j
         ap (total (getD (heavy .block) s 0 * l .nc + 1))
         (whole (digits (l .nc) (own s)) rest z ∙ ap (λ (n : ℕ). take n rest) (length-digits (l .nc) (own s)))
 
-    kept-brought : (k : ℕ) → k ≤ heavy .n → brought (l .nc) chunks own k ≡ firsts (bringsIn l y heavy j left) k
+    kept-brought : (k : ℕ) → k ≤ heavy .n → brought (l .nc) (heavy .block) own k ≡ firsts (bringsIn l y heavy j left) k
     unfolding brought firsts
     kept-brought zero h = refl
     kept-brought (suc k) h = omega (arith, kept-brought k (omega arith), kept-read k (omega arith))
@@ -87,11 +82,8 @@ module _ {l : Layout} {y numbers : List ℕ} {heavy : Heavy} {row : List ℕ} {j
     pub kept-sum : Fit l y numbers heavy → j < l .l2 → (known : List ℕ) → Light l heavy row known
         → (getD known j 0 + firsts (bringsIn l y heavy j left) (heavy .n)) % modulus l ≡ getD numbers (l .l1 + j) 0
     kept-sum f inside known light =
-        let m : ℕ = l .l1 * l .nc + 1 in
-        let b = kept-brought (heavy .n) (omega arith) in
-        ap (λ (v : ℕ). (getD known j 0 + v) % m) (sym b)
-        ∙ ap (λ (v : ℕ). (v + brought (l .nc) chunks own (heavy .n)) % m) (light j inside)
-        ∙ (whole-sum l heavy j y numbers f inside vs chunks refl row (c .others) ∙ c .has-sum)
+        ap (λ (v : ℕ). (getD known j 0 + v) % modulus l) (sym (kept-brought (heavy .n) (omega arith)))
+        ∙ crosses-brings c f inside known light (heavy .n) (heavy .block) refl refl
 
   -- where it cannot be without a loss, there are fewer left
   pub costs-one : (r : Bool) → (((s : ℕ) → s < heavy .n → next s ≡ left s) → r ≡ true) → r ≡ false

@@ -19,6 +19,10 @@ state size left (suc n) = state size left n + left n * stride size n
 abbrev pub each : List ℕ → ℕ → ℕ
 each xs s = getD xs s 0
 
+-- the most loss states whose marks are kept
+abbrev pub mostStates : ℕ
+mostStates = 729
+
 -- a shape of the loss states of n blocks: what a loss counts in each block, and the number of states
 pub record Shaped (n : ℕ) (size strides : List ℕ) (states : ℕ) : Type 0 where
   pub counts : (s : ℕ) → s < n → getD strides s 0 ≡ stride (each size) s

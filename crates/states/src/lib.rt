@@ -7,6 +7,9 @@ ghost use Rattle.states.specs.States.{state, each, Shaped};
 // The most blocks with two losses or more.
 pub const MOST_HEAVY: usize = 6;
 
+// The most loss states whose marks are kept.
+pub const MOST_STATES: usize = 729;
+
 // The loss states: how many losses each block has at most, what one counts in the number of a state, and how many states there are.
 pub struct Shape {
     pub n: usize,

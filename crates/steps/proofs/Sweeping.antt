@@ -2,66 +2,103 @@
 -- span. Assumes nothing.
 use Prim.Native.Nat.{ℕ, zero, suc, _+_, _-_, _*_, _%_, _<_, _≤_}
 use mathlib.Core.Path.{_≡_, refl, sym, ap, ap₂, subst, _∙_}
-use mathlib.Core.List.{List, []}
+use mathlib.Core.List.{List}
 use mathlib.Core.Logic.{_⊎_, inl, inr, ⊎-elim}
 use native.Mathlib.Decide.{ℕ-discrete}
 use native.Mathlib.Nat.{mul-le-mul-right}
+use native.Mathlib.Numerals.{add-one}
 use native.Mathlib.Omega.{arith}
-use lib.ListN.{length, getD, set, take, drop, length-set}
+use borrow.Author.Tests.{ne-eqb}
+use lib.Dec.{eqb}
+use lib.ListN.{length, getD, set, drop, length-set}
 use lib.Seq.{getD-set-same, getD-set-other}
-use Rattle.bits.specs.Bits.{AllBits, digits, number}
+use Rattle.bits.specs.Bits.{longest, digits, number}
 use Rattle.bits.proofs.Laws.{bits-digits, length-digits, lt-or-ge}
 use Rattle.vt.specs.Ones.{ones}
-use Rattle.vt.specs.Sum.{total}
 use Rattle.message.specs.declared.Layout.{Layout}
 use Rattle.consistent.specs.Greedy.{losses}
 use Rattle.lines.specs.Lines.{unlike}
 use Rattle.states.specs.States.{state, stride, each}
 use Rattle.states.specs.declared.Shape.{Shape}
 use Rattle.states.proofs.States.{state-low}
-use Rattle.weigh.specs.Weigh.{SeenIn, MoreOnes, Wider, brought}
-use Rattle.weigh.specs.declared.Chunks.{Chunks}
+use Rattle.weigh.specs.Weigh.{brought, chunkTop, Wider}
 use Rattle.weigh.specs.declared.Span.{Span}
 use Rattle.weigh.proofs.Spans.{one-wider}
-use Rattle.column.specs.Column.{Fit, Light, chunkAt, filled, Crosses, apartIn}
+use Rattle.column.specs.Column.{chunkAt, Crosses, apartIn}
 use Rattle.column.specs.declared.Heavy.{Heavy}
-use Rattle.column.proofs.Rows.{no-loss}
-use Rattle.column.proofs.Zeros.{sum-low, whole-sum}
-use Rattle.steps.specs.Steps.{Above, Raises, Counts, brings, Viewed, Ground, Stands, Shares, Chosen, Sharing, Raised}
+use Rattle.column.proofs.Rows.{one-most, chunk-stands, string-high, no-loss}
+use Rattle.steps.specs.Steps.{Above, Raises, oneIf, markedBelow, Counts, broughtIn}
+use Rattle.steps.specs.Steps.{Seeable, Viewed, Ground, Stands, Shares, Chosen, Sharing, Raised}
 use Rattle.steps.specs.declared.View.{View}
 
--- where as many states are marked below two states, none between them is
-pub none-between : {marks : List ℕ} {at states : ℕ} {some : List ℕ} → Counts marks at states some → (low high : ℕ) → high ≤ states
-    → getD some high 0 ≤ getD some low 0 → (q : ℕ) → low ≤ q → q < high → 0 < getD marks (at + q) 0 → ⊥
-none-between c low high top same q a b m =
-    omega (arith, c .rises low q a (omega arith), c .counts q (omega arith) m, c .rises (q + 1) high (omega arith) top)
+-- ---- marked states are counted
+module _ (marks : List ℕ) (at : ℕ) where
+  -- no more states are marked than there are
+  pub marked-most : (q : ℕ) → markedBelow marks at q ≤ q
+  unfolding markedBelow
+  marked-most zero = omega arith
+  marked-most (suc q) = omega (arith, marked-most q, one-most (eqb (getD marks (at + q) 0) 0))
 
--- the counts with those of one state more
-pub counts-next : (marks : List ℕ) (at q d : ℕ) (some : List ℕ) → q + 1 < length some → (0 < getD marks (at + q) 0 → 0 < d)
-    → Counts marks at q some → Counts marks at (q + 1) (set some (q + 1) (getD some q 0 + d))
-counts-next marks at q d some long own c =
-    record {
-      rises = λ i k h g. ⊎-elim (λ (e : k < q + 1). rw (was k e, was i (omega arith)) (c .rises i k h (omega arith)))
-          (λ (e : q + 1 ≤ k). ⊎-elim
-          (λ (f : i < q + 1). let eq : k ≡ q + 1 = omega arith in rw (eq, is, was i f) (omega (arith, c .rises i q (omega arith) (omega arith))))
-          (λ (f : q + 1 ≤ i). let eq : i ≡ k = omega arith in rw eq (omega arith))
-          (lt-or-ge i (q + 1)))
-          (lt-or-ge k (q + 1));
-      counts = λ i h m. ⊎-elim
-          (λ (e : i < q). rw (was i (omega arith), was (i + 1) (omega arith)) (c .counts i e m))
-          (λ (e : q ≤ i). let eq : i ≡ q = omega arith in rw (eq, was q (omega arith), is) (omega (arith, own (rw eq at m))))
-          (lt-or-ge i q);
-    }
-  where
-    new : List ℕ
-    new = set some (q + 1) (getD some q 0 + d)
+  -- below a higher state no fewer are marked
+  marked-rises : (low high : ℕ) → low ≤ high → markedBelow marks at low ≤ markedBelow marks at high
+  unfolding markedBelow
+  marked-rises low zero h = let e : low ≡ 0 = omega arith in rw e (omega arith)
+  marked-rises low (suc high) h =
+      ⊎-elim (λ (k : low < suc high). omega (arith, marked-rises low high (omega arith)))
+      (λ (k : suc high ≤ low). let e : low ≡ suc high = omega arith in rw e (omega arith))
+      (lt-or-ge low (suc high))
 
-    was : (i : ℕ) → i < q + 1 → getD new i 0 ≡ getD some i 0
-    was i h = getD-set-other some (q + 1) i (getD some q 0 + d) 0 (λ e. omega (arith, e))
+  -- a marked state counts
+  marked-counts : (q : ℕ) → 0 < getD marks (at + q) 0 → markedBelow marks at q < markedBelow marks at (suc q)
+  unfolding markedBelow
+  marked-counts q m = rw (ne-eqb (getD marks (at + q) 0) 0 (λ e. omega arith)) (omega arith)
 
-    is : getD new (q + 1) 0 ≡ getD some q 0 + d
-    is = getD-set-same some (q + 1) (getD some q 0 + d) 0 long
+  -- where as many states are marked below two states, none between them is
+  pub none-between : (states : ℕ) (some : List ℕ) → Counts marks at states some → (low high : ℕ) → high ≤ states
+      → getD some high 0 ≤ getD some low 0 → (q : ℕ) → low ≤ q → q < high → 0 < getD marks (at + q) 0 → ⊥
+  none-between states some c low high top same q a b m =
+      let up = marked-rises (suc q) high (omega arith) in
+      omega (arith, c low (omega arith), c high top, marked-rises low q a, marked-counts q m, up)
 
+  -- the counts with those of one state more
+  pub counts-next : (q d : ℕ) (some : List ℕ) → q + 1 < length some → d ≡ oneIf (getD marks (at + q) 0)
+      → Counts marks at q some → Counts marks at (q + 1) (set some (q + 1) (getD some q 0 + d))
+  unfolding markedBelow
+  counts-next q d some long own c i h =
+      ⊎-elim
+      (λ (k : i < q + 1).
+      getD-set-other some (q + 1) i (getD some q 0 + d) 0 (λ e. omega (arith, e)) ∙ c i (omega arith))
+      (λ (k : q + 1 ≤ i).
+      let e : i ≡ suc q = omega arith in
+      let is = getD-set-same some (q + 1) (getD some q 0 + d) 0 long in
+      rw (e, ← add-one q) (is ∙ ap₂ _+_ (c q (omega arith)) own))
+      (lt-or-ge i (q + 1))
+
+-- ---- where a chunk stands
+-- chunk i * l2 + j is that of heavy block s in column j: it is one of the layout's, and few positions are before it
+-- in the row, and in its chunk-string
+pub record ChunkIs (l : Layout) (heavy : Heavy) (j s i : ℕ) : Type 0 where
+  pub is : i * l .l2 + j ≡ chunkAt l heavy j s
+  pub inside : i * l .l2 + j < l .l1 * l .l2
+  pub low : i * l .l2 + j < 255
+  pub in-row : (i * l .l2 + j) * l .nc ≤ longest
+  pub in-string : i * l .nc ≤ longest
+
+pub chunk-is : {l : Layout} {y totals counts : List ℕ} {heavy : Heavy} {j : ℕ} → Seeable l y totals counts heavy j
+    → (s i : ℕ) → s < heavy .n → i ≡ getD (heavy .block) s 0 → ChunkIs l heavy j s i
+chunk-is {l} {heavy = heavy} {j} g s i h e =
+    let b = g .blocks s h in
+    let k = chunk-stands l (g .allowed) (getD (heavy .block) s 0) j b (g .column) in
+    let before : getD (heavy .block) s 0 * l .nc ≤ l .l1 * l .nc = mul-le-mul-right (l .nc) (omega arith) in
+    rw e (record {
+      is = refl;
+      inside = k .0;
+      low = k .1 .0;
+      in-row = k .1 .1;
+      in-string = omega (arith, before, string-high l (g .allowed));
+    })
+
+-- ---- marks are raised
 -- a mark that is higher is above as much
 pub above-more : (there apart a b : ℕ) → a ≤ b → Above there apart a → Above there apart b
 above-more there apart a b h u = ⊎-elim (λ k. inl (omega arith)) (λ k. inr (omega arith)) u
@@ -97,7 +134,9 @@ module _ {l : Layout} {y : List ℕ} {heavy : Heavy} {z : List ℕ} {shape : Sha
             };
         gains = λ numbers row vs next x r e m.
             ⊎-elim
-            (λ u. above-more there (apartIn l heavy z vs j (heavy .n)) _ _ (q .raises .grows (state (each (shape .size)) next (shape .n))) (p .gains numbers row vs next x u e m))
+            (λ u.
+            above-more there (apartIn l heavy z vs j (heavy .n)) _ _ (q .raises .grows (state (each (shape .size)) next (shape .n)))
+            (p .gains numbers row vs next x u e m))
             (λ u. q .gains numbers row vs next x u e m)
             (parts numbers row vs next x r);
       }
@@ -119,15 +158,9 @@ ground-stays new same g =
     record {
       seeable = g .seeable;
       others = g .others;
-      blocks = g .blocks;
-      shaped = g .shaped;
-      states = g .states;
-      within = g .within;
+      counted = g .counted;
       below = g .below;
       high = g .high;
-      marked = g .marked;
-      counted = g .counted;
-      long-some = g .long-some;
       long-fresh = omega (arith, g .long-fresh, same);
     }
 
@@ -147,8 +180,8 @@ module _ {shape : Shape} {n b q : ℕ} {span : Span} {apart : ℕ} where
         apart-low = omega (arith, s .apart-low);
       }
 
-  pub shares-stands : (wider : Span) (more : ℕ) → Shares shape n b q span apart → wider .low ≤ span .low + 40000
-      → wider .high ≤ span .high + 40000 → more ≤ apart + 1 → Stands shape n b q wider more
+  pub shares-stands : (wider : Span) (more : ℕ) → Shares shape n b q span apart → wider .low ≤ span .low + chunkTop
+      → wider .high ≤ span .high + chunkTop → more ≤ apart + 1 → Stands shape n b q wider more
   shares-stands wider more s low high one =
       record {
         inside = omega (arith, s .inside);
@@ -214,7 +247,7 @@ module _ {l : Layout} {y numbers : List ℕ} {heavy : Heavy} {row z : List ℕ} 
     pub sharing-next : (g more : ℕ) (wider : Span) → ones (digits (l .nc) v) ≡ view .seen .ones + g
         → Wider (l .nc) (getD (heavy .block) b 0 * l .nc) a (view .seen) g span wider
         → apart + unlike vs z (chunkAt l heavy j b) ≤ more → Chosen l heavy z shape j b q wider more next vs
-    unfolding brings apartIn
+    unfolding brought apartIn
     sharing-next g more wider just w other =
         let one = one-wider (l .nc) (getD (heavy .block) b 0 * l .nc) a v (drop (view .at) y) loses (view .seen) g span wider (see .few)
         (see .seen) just w in
@@ -231,7 +264,7 @@ pub raised-end : {l : Layout} {y : List ℕ} {heavy : Heavy} {z : List ℕ} {sha
     → ((n : ℕ) → span .low ≤ 2 * n → 2 * n ≤ span .high → n % modulus ≡ need → 0 < getD marks (at + q) 0
     → Above there apart (getD exit q 0))
     → Raised l y heavy z shape j left modulus need there marks at (Chosen l heavy z shape j s q span apart) entry exit
-unfolding state brings apartIn
+unfolding state brought apartIn
 raised-end {l} {y} {heavy} {z} {shape} {j} {there = there} {marks} {at} {q = q} {span} {apart} {exit = exit} e up found =
     record {
       raises = up;
@@ -239,36 +272,12 @@ raised-end {l} {y} {heavy} {z} {shape} {j} {there = there} {marks} {at} {q = q} 
           let d = subst (λ (k : ℕ). Chosen l heavy z shape j k q span apart next vs) e c in
           let number : q ≡ state (each (shape .size)) next (shape .n) = omega (arith, d .number) in
           let marked = subst (λ (k : ℕ). 0 < getD marks (at + k) 0) (sym number) m in
-          let above = found (brings l heavy j vs (heavy .n)) (omega (arith, d .low)) (omega (arith, d .high)) is marked in
+          let above = found (broughtIn l heavy vs j (heavy .n)) (omega (arith, d .low)) (omega (arith, d .high)) is marked in
           subst (λ (k : ℕ). Above there (apartIn l heavy z vs j (heavy .n)) (getD exit k 0)) number
           (above-less there (apartIn l heavy z vs j (heavy .n)) apart (getD exit q 0) (omega (arith, d .differs)) above);
     }
 
 -- ---- before the last block
--- what the heavy blocks bring as weighed chunks of theirs do
-brings-brought : (l : Layout) (heavy : Heavy) (j : ℕ) (vs : List ℕ) (chunks : Chunks) → chunks .block ≡ heavy .block → (s : ℕ)
-    → brings l heavy j vs s ≡ brought (l .nc) chunks (λ t. getD vs (chunkAt l heavy j t) 0) s
-unfolding brings brought
-brings-brought l heavy j vs chunks e zero = refl
-brings-brought l heavy j vs chunks e (suc s) =
-    ap₂ _+_ (brings-brought l heavy j vs chunks e s)
-    (ap (λ (b : List ℕ). total (getD b s 0 * l .nc + 1) (digits (l .nc) (getD vs (chunkAt l heavy j s) 0))) (sym e))
-
-module _ {l : Layout} {y numbers : List ℕ} {heavy : Heavy} {row : List ℕ} {j : ℕ} {left next : ℕ → ℕ} {vs : List ℕ}
-    (x : Crosses l y numbers heavy row j left next vs) (f : Fit l y numbers heavy) (inside : j < l .l2) (known : List ℕ)
-    (light : Light l heavy row known) where
-  -- the sum of the chunks in hand is below the modulus, and the heavy blocks bring what is missing of it
-  pub light-low : getD known j 0 < l .l1 * l .nc + 1
-  light-low = rw (light j inside) (sum-low (l .nc) j (l .l2) (l .l1) (filled l heavy (λ s. 0) j (heavy .n) row))
-
-  pub light-brings : (getD known j 0 + brings l heavy j vs (heavy .n)) % (l .l1 * l .nc + 1) ≡ getD numbers (l .l1 + j) 0
-  light-brings =
-      let m : ℕ = l .l1 * l .nc + 1 in
-      let chunks : Chunks = record { n = heavy .n; block = heavy .block; place = []; lost = [] } in
-      ap (λ (b : ℕ). (getD known j 0 + b) % m) (brings-brought l heavy j vs chunks refl (heavy .n))
-      ∙ ap (λ (v : ℕ). (v + brought (l .nc) chunks (λ t. getD vs (chunkAt l heavy j t) 0) (heavy .n)) % m) (light j inside)
-      ∙ (whole-sum l heavy j y numbers f inside vs chunks refl row (x .others) ∙ x .has-sum)
-
 -- with no share chosen, each row goes on
 pub chosen-none : (l : Layout) (heavy : Heavy) (z : List ℕ) (shape : Shape) (j : ℕ) (span : Span) (next : ℕ → ℕ) (vs : List ℕ)
     → shape .n ≡ heavy .n → span .low ≡ 0 → Chosen l heavy z shape j (heavy .n) 0 span 0 next vs

@@ -6,19 +6,20 @@ use states::Shape;
 use weigh::Span;
 ghost use mathlib.Core.Path.{_≡_};
 ghost use mathlib.Core.Bool.{true, false};
-ghost use mathlib.Core.Logic.{_⊎_};
 ghost use mathlib.Core.List.{List};
 ghost use Prim.Native.Nat.{ℕ, _+_, _-_, _*_, _%_, _<_, _≤_};
 ghost use lib.ListN.{length, getD};
 ghost use Rattle.bits.specs.Bits.{longest};
-ghost use Rattle.states.specs.States.{state, each};
+ghost use Rattle.states.specs.States.{state, each, mostStates};
 ghost use Rattle.windows.specs.Windows.{Tables};
+ghost use Rattle.weigh.specs.Weigh.{chunkTop};
 ghost use Rattle.column.specs.Column.{Fit, Light, chunkAt, Crosses, apartIn, Readable};
-ghost use Rattle.steps.specs.Steps.{Counts, Above, Raises, Seeable, Viewed, Counted, Ground, Stands, Shares, Chosen, Sharing, Raised};
+ghost use Rattle.steps.specs.Steps.{oneIf, Counts, Counted, Above, Raises, Seeable, Viewed};
+ghost use Rattle.steps.specs.Steps.{Ground, Stands, Shares, Chosen, Sharing, Raised};
 
 // One for a mark, zero for none.
 fn one_if(mark: u8) -> u16
-    ensures { λ r. ⌜ (r ≤ 1) × (0 < mark → 0 < r) ⌝ }
+    ensures { λ r. ⌜ r ≡ oneIf mark ⌝ }
 {
     if mark == 0 {
         return 0;
@@ -28,8 +29,9 @@ fn one_if(mark: u8) -> u16
 
 // Counts of the marked states below each, of the marks from a place on.
 pub fn count_marked(marks: &[u8], at: usize, states: usize, some: &mut [u16])
-    requires { ⌜ (at + states ≤ length (now marks)) × ((states < length (now some)) × (states ≤ 729)) ⌝ }
-    ensures { λ _. ⌜ (length (now (some .exit)) ≡ length (now (some .entry))) × Counts (now (marks .entry)) at states (now (some .exit)) ⌝ }
+    requires { ⌜ (at + states ≤ length (now marks)) × ((states < length (now some)) × (states ≤ mostStates)) ⌝ }
+    ensures { λ _. ⌜ (length (now (some .exit)) ≡ length (now (some .entry)))
+        × Counts (now (marks .entry)) at states (now (some .exit)) ⌝ }
 {
     some[0] = 0;
     let mut q: usize = 0;
@@ -60,7 +62,7 @@ fn raise_one(
     apart: u8,
     fresh: &mut [u8],
 )
-    requires { ⌜ ((need < modulus) × (modulus ≤ longest + 1)) × ((span .low ≤ 240000) × (q < length (now fresh))) ⌝ }
+    requires { ⌜ ((need < modulus) × (modulus ≤ longest + 1)) × ((span .low ≤ 6 * chunkTop) × (q < length (now fresh))) ⌝ }
     ensures { λ _. ⌜ Raises (now (fresh .entry)) (now (fresh .exit)) × ((n : ℕ) → span .low ≤ 2 * n → 2 * n ≤ span .high
         → n % modulus ≡ need → 0 < mark → Above there apart (getD (now (fresh .exit)) q 0)) ⌝ }
 {
@@ -122,8 +124,8 @@ fn look_at(
 ) -> View
     requires { ⌜ Seeable l (now y) (now totals) (now counts) heavy j × ((s < heavy .n) × (a ≤ left)) ⌝ }
     ensures { λ r. ⌜ (r .ok ≡ true → Viewed l (now (y .entry)) heavy j s left a r)
-        × (Readable (l .nc) (length (now (y .entry))) (chunkAt l heavy j s * l .nc + left) (getD (heavy .end) s 0) left (left - a)
-        → r .ok ≡ true) ⌝ }
+        × (Readable (l .nc) (length (now (y .entry))) (chunkAt l heavy j s * l .nc + left) (getD (heavy .end) s 0) left
+        (left - a) → r .ok ≡ true) ⌝ }
 {
     let nc = l.nc;
     let lost = bits::wide(a);
@@ -172,10 +174,11 @@ fn sweep(
     apart: u8,
     fresh: &mut [u8],
 )
-    requires { ⌜ Ground l (now y) (now totals) (now counts) heavy (now z) shape j left modulus need (now marks) at (now some) (now fresh)
-        × Stands shape (heavy .n) s q span apart ⌝ }
-    ensures { λ _. ⌜ Raised l (now (y .entry)) heavy (now (z .entry)) shape j (each left) modulus need there (now (marks .entry)) at
-        (Chosen l heavy (now (z .entry)) shape j s q span apart) (now (fresh .entry)) (now (fresh .exit)) ⌝ }
+    requires { ⌜ Ground l (now y) (now totals) (now counts) heavy (now z) shape j left modulus need (now marks) at
+        (now some) (now fresh) × Stands shape (heavy .n) s q span apart ⌝ }
+    ensures { λ _. ⌜ Raised l (now (y .entry)) heavy (now (z .entry)) shape j (each left) modulus need there
+        (now (marks .entry)) at (Chosen l heavy (now (z .entry)) shape j s q span apart)
+        (now (fresh .entry)) (now (fresh .exit)) ⌝ }
 {
     if s == 0 {
         raise_one(modulus, need, there, marks[at + q], q, span, apart, fresh);
@@ -237,10 +240,11 @@ fn share(
     apart: u8,
     fresh: &mut [u8],
 )
-    requires { ⌜ Ground l (now y) (now totals) (now counts) heavy (now z) shape j left modulus need (now marks) at (now some) (now fresh)
-        × (Shares shape (heavy .n) b q span apart × ((b < heavy .n) × (a ≤ getD left b 0))) ⌝ }
-    ensures { λ _. ⌜ Raised l (now (y .entry)) heavy (now (z .entry)) shape j (each left) modulus need there (now (marks .entry)) at
-        (Sharing l heavy (now (z .entry)) shape j (each left) b a q span apart) (now (fresh .entry)) (now (fresh .exit)) ⌝ }
+    requires { ⌜ Ground l (now y) (now totals) (now counts) heavy (now z) shape j left modulus need (now marks) at
+        (now some) (now fresh) × (Shares shape (heavy .n) b q span apart × (a ≤ getD left b 0)) ⌝ }
+    ensures { λ _. ⌜ Raised l (now (y .entry)) heavy (now (z .entry)) shape j (each left) modulus need there
+        (now (marks .entry)) at (Sharing l heavy (now (z .entry)) shape j (each left) b a q span apart)
+        (now (fresh .entry)) (now (fresh .exit)) ⌝ }
 {
     if none_marked(some, q, q + shape.stride[b]) {
         return;
@@ -303,10 +307,11 @@ pub fn raise(
     fresh: &mut [u8],
 )
     requires { ⌜ (Fit l (now y) (now numbers) heavy × (Tables (now y) 0 (now totals) (now counts) × ((j < l .l2)
-        × ((l .l2 ≤ length (now known)) × (l .l1 * l .l2 ≤ length (now z)))))) × (Counted heavy shape left (now marks) at (now some)
-        × (shape .states ≤ length (now fresh))) ⌝ }
+        × ((l .l2 ≤ length (now known)) × (l .l1 * l .l2 ≤ length (now z))))))
+        × (Counted heavy shape left (now marks) at (now some) × (shape .states ≤ length (now fresh))) ⌝ }
     ensures { λ _. ⌜ Raises (now (fresh .entry)) (now (fresh .exit)) × ((row vs : List ℕ) (next : ℕ → ℕ)
-        → Light l heavy row (now (known .entry)) → Crosses l (now (y .entry)) (now (numbers .entry)) heavy row j (each left) next vs
+        → Light l heavy row (now (known .entry))
+        → Crosses l (now (y .entry)) (now (numbers .entry)) heavy row j (each left) next vs
         → 0 < getD (now (marks .entry)) (at + state (each (shape .size)) next (shape .n)) 0
         → Above there (apartIn l heavy (now (z .entry)) vs j (heavy .n))
         (getD (now (fresh .exit)) (state (each (shape .size)) next (shape .n)) 0)) ⌝ }

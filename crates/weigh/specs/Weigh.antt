@@ -22,11 +22,15 @@ pub record Can (nc : ℕ) (y : List ℕ) (chunks : Chunks) (vs : ℕ → ℕ) : 
   pub loses : (s : ℕ) → s < chunks .n
       → losses (digits nc (vs s)) (drop (getD (chunks .place) s 0) y) ≡ getD (chunks .lost) s 0
 
--- what the first n of them bring
-unfoldable pub brought : (nc : ℕ) → Chunks → (vs : ℕ → ℕ) → (n : ℕ) → ℕ
+-- what the first n chunks bring, chunk s being the number vs s and standing in the block that is entry s of a list
+unfoldable pub brought : (nc : ℕ) (block : List ℕ) (vs : ℕ → ℕ) (n : ℕ) → ℕ
 unfolding total digits
-brought nc chunks vs zero = 0
-brought nc chunks vs (suc s) = brought nc chunks vs s + total (getD (chunks .block) s 0 * nc + 1) (digits nc (vs s))
+brought nc block vs zero = 0
+brought nc block vs (suc s) = brought nc block vs s + total (getD block s 0 * nc + 1) (digits nc (vs s))
+
+-- more than twice what a chunk can bring: it has at most 8 ones, at positions up to 2,048
+abbrev pub chunkTop : ℕ
+chunkTop = 40000
 
 -- chunks that can be weighed: the tables are those of the received row, and the rest is as small as a layout has it
 pub record Weighable (nc modulus : ℕ) (y totals counts : List ℕ) (chunks : Chunks) (need : ℕ) : Type 0 where
@@ -58,10 +62,10 @@ pub record MoreOnes (y : List ℕ) (place w lost first last : ℕ) : Type 0 wher
   pub few : last ≤ lost
   pub low : first ≤ lost
 
--- what the first s of them bring lies, doubled, in a span
+-- what the first s chunks bring lies, doubled, in a span
 pub record Within (nc : ℕ) (chunks : Chunks) (vs : ℕ → ℕ) (s : ℕ) (span : Span) : Type 0 where
-  pub low : span .low ≤ 2 * brought nc chunks vs s
-  pub high : 2 * brought nc chunks vs s ≤ span .high
+  pub low : span .low ≤ 2 * brought nc (chunks .block) vs s
+  pub high : 2 * brought nc (chunks .block) vs s ≤ span .high
 
 -- a span with one chunk more, which stands behind so many positions and has g ones more than were received of it: twice
 -- the total of their positions with the lost ones in front of the received bits and the lost zeros behind, and the
@@ -70,5 +74,5 @@ pub record Wider (nc before lost : ℕ) (seen : Seen) (g : ℕ) (span wider : Sp
   pub low : wider .low ≡ span .low + 2 * (before * (seen .ones + g) + seen .total) + g * (2 * seen .ones + g + 1)
   pub high : wider .high ≡ span .high + 2 * (before * (seen .ones + g) + seen .total) + 2 * ((lost - g) * seen .ones)
       + g * (2 * nc + 1 - g)
-  pub low-small : wider .low ≤ span .low + 40000
-  pub high-small : wider .high ≤ span .high + 40000
+  pub low-small : wider .low ≤ span .low + chunkTop
+  pub high-small : wider .high ≤ span .high + chunkTop

@@ -5,7 +5,7 @@ ghost use Prim.Native.Nat.{ℕ, _+_, _*_, _-_, _%_, _<_, _≤_};
 ghost use lib.ListN.{length, take, drop};
 ghost use Rattle.bits.specs.Bits.{AllBits, longest};
 ghost use Rattle.windows.specs.Windows.{Tables};
-ghost use Rattle.weigh.specs.Weigh.{Can, brought, SeenIn, MoreOnes, There, Wider, Within, Weighable};
+ghost use Rattle.weigh.specs.Weigh.{Can, brought, chunkTop, SeenIn, MoreOnes, There, Wider, Within, Weighable};
 
 // The most chunks of a line that are weighed.
 pub const MOST: usize = 6;
@@ -106,7 +106,7 @@ pub fn more_ones(
 // ones stand in front of the received bits and the lost zeros behind; greatest, the other way round.
 pub fn widen(nc: usize, before: usize, lost: usize, seen: Seen, g: usize, span: Span) -> Span
     requires { ⌜ ((nc ≤ 8) × (before ≤ 2040)) × (((seen .ones + lost ≤ nc) × ((seen .total ≤ 64) × (g ≤ lost)))
-        × ((span .low ≤ 200000) × (span .high ≤ 200000))) ⌝ }
+        × ((span .low ≤ 5 * chunkTop) × (span .high ≤ 5 * chunkTop))) ⌝ }
     ensures { λ r. ⌜ Wider nc before lost seen g span r ⌝ }
 {
     let whole = 2 * (before * (seen.ones + g) + seen.total);
@@ -118,7 +118,7 @@ pub fn widen(nc: usize, before: usize, lost: usize, seen: Seen, g: usize, span: 
 
 // Whether some number whose double lies in a span is, modulo the modulus, the one needed.
 pub fn reaches(modulus: usize, need: usize, span: Span) -> bool
-    requires { ⌜ (need < modulus) × ((modulus ≤ longest + 1) × (span .low ≤ 240000)) ⌝ }
+    requires { ⌜ (need < modulus) × ((modulus ≤ longest + 1) × (span .low ≤ 6 * chunkTop)) ⌝ }
     ensures { λ r. ⌜ ((n : ℕ) → span .low ≤ 2 * n → 2 * n ≤ span .high → n % modulus ≡ need → r ≡ true) ⌝ }
 {
     let least = span.low / 2;
@@ -145,9 +145,9 @@ fn brings(
     span: Span,
 ) -> bool
     requires { ⌜ Weighable nc modulus (now y) (now totals) (now counts) chunks need
-        × ((s < chunks .n) × ((span .low ≤ s * 40000) × (span .high ≤ s * 40000))) ⌝ }
+        × ((s < chunks .n) × ((span .low ≤ s * chunkTop) × (span .high ≤ s * chunkTop))) ⌝ }
     ensures { λ r. ⌜ ((vs : ℕ → ℕ) → Can nc (now (y .entry)) chunks vs → Within nc chunks vs s span
-        → brought nc chunks vs (chunks .n) % modulus ≡ need → r ≡ true) ⌝ }
+        → brought nc (chunks .block) vs (chunks .n) % modulus ≡ need → r ≡ true) ⌝ }
 {
     let place = chunks.place[s];
     let lost = chunks.lost[s] as usize;
@@ -189,7 +189,7 @@ pub fn can_bring(
     requires { ⌜ ((nc ≤ 8) × ((1 ≤ modulus) × (modulus ≤ longest + 1))) × (AllBits (now y) × ((length (now y) ≤ longest)
         × (Tables (now y) 0 (now totals) (now counts) × ((chunks .n ≤ 6) × (need < modulus))))) ⌝ }
     ensures { λ r. ⌜ ((vs : ℕ → ℕ) → Can nc (now (y .entry)) chunks vs
-        → brought nc chunks vs (chunks .n) % modulus ≡ need → r ≡ true) ⌝ }
+        → brought nc (chunks .block) vs (chunks .n) % modulus ≡ need → r ≡ true) ⌝ }
 {
     if chunks.n == 0 {
         return need == 0;

@@ -142,8 +142,10 @@ returns-3 c =
     in
     let low = rw (← sum-is) at (sum-low (a .l .nc) (a .i * a .l .l2) 1 (a .l .l2) (bare (a .l) (a .cells) (a .i) 12 out)) in
     let brings = ended-brings x out (w .read-on .ensures .others) (w .read-on .ensures .later vs (x .later) .1) k (d .0) in
-    let need = m .missing .ensures .1 (brought (a .l .nc) (k .chunks) (ownOf (a .l) (a .i) k vs) (k .chunks .n)) low (rw (← sum-is) at brings) in
-    c .can-bring .ensures (ownOf (a .l) (a .i) k vs) (d .0 .can vs (x .lose)) need
+    let own = ownOf (a .l) (a .i) k vs in
+    let all = brought (a .l .nc) (k .chunks .block) own (k .chunks .n) in
+    let need = m .missing .ensures .1 all low (rw (← sum-is) at brings) in
+    c .can-bring .ensures own (d .0 .can vs (x .lose)) need
 
 pub can-end-spec : {M : Type 1} → statement M
 can-end-spec =

@@ -1,17 +1,17 @@
 -- `column::crossing` meets its contract: a row that crosses the column passes each test, and where its chunks lost no
 -- bit they are as they are read. Assumes nothing.
-use Prim.Native.Nat.{ℕ, _+_, _*_, _≤_}
+use Prim.Native.Nat.{ℕ, _≤_}
 use mathlib.Core.Path.{sym, _∙_}
 use mathlib.Core.Bool.{false≢true}
 use native.Mathlib.Omega.{arith}
 use borrow.Author.Needs.{needs}
 use borrow.Author.Tests.{not-true, not-false}
-use lib.ListN.{length, getD}
-use Rattle.message.proofs.Legal.{legal-bounds, sizes}
+use lib.ListN.{length}
+use Rattle.message.proofs.Legal.{legal-bounds}
 use Rattle.states.specs.States.{each}
 use Rattle.weigh.specs.Weigh.{brought}
-use Rattle.column.specs.Column.{chunkAt, Placed}
-use Rattle.column.proofs.Rows.{string-high, known-low}
+use Rattle.column.specs.Column.{valueAt, Placed}
+use Rattle.column.proofs.Rows.{StringLow, string-low, known-low}
 use Rattle.column.proofs.Rows.{crosses-readable, crosses-can, crosses-as-read, crosses-brings}
 use Rattle.column.proofs.crossing.Statement.{statement}
 use Rattle.column.proofs.crossing.Tie as tie
@@ -30,23 +30,11 @@ placed : (c : tie.Else1) → let a = entry (c .before .before) .args in
     (c .before .before .find-chunks .result .chunks)
 placed c = c .before .before .find-chunks .ensures .1 (not-false _ (c .if1 .left))
 
--- the modulus is small, and so are the sum and its place
-record Low (s : tie.Start) : Type 0 where
-  modulus : s .args .l .l1 * s .args .l .nc ≤ 2040
-  sum : getD (s .args .numbers .now) (s .args .l .l1 + s .args .j) 0 ≤ s .args .l .l1 * s .args .l .nc
-  index : s .args .l .l1 + s .args .j ≤ 510
-
--- so it is once the chunks are found
-low : (c : tie.Else1) → Low (entry (c .before .before))
+-- the sum of its chunk-string is small
+low : (c : tie.Else1) → let a = entry (c .before .before) .args in StringLow (a .l) (a .numbers .now) (a .j)
 low c =
     let s = entry (c .before .before) in
-    let f = s .pre .0 in
-    let z = sizes (s .args .l) (legal-bounds (s .args .l) (f .allowed)) in
-    record {
-      modulus = string-high (s .args .l) (f .allowed);
-      sum = f .low (s .args .j) (s .pre .1 .1 .0);
-      index = omega (arith, z .l1-high, z .l2-high, s .pre .1 .1 .0);
-    }
+    string-low (s .pre .0) (s .args .j) (s .pre .1 .1 .0)
 
 find-chunks-requires : tie.Need-find-chunks-requires
 find-chunks-requires c κs = search needs
@@ -117,11 +105,13 @@ returns-2 c =
     let a = s .args in
     let chunks = e .before .before .find-chunks .result .chunks in (
       λ row vs light x.
-          let v : ℕ → ℕ = λ t. getD vs (chunkAt (a .l) (a .heavy) (a .j) t) 0 in
-          let known = known-low x (placed e) (s .pre .0) (s .pre .1 .1 .0) (a .known .now) light in
-          let brings = crosses-brings x (placed e) (s .pre .0) (s .pre .1 .1 .0) (a .known .now) light in
-          let need = m .missing .ensures .1 (brought (a .l .nc) chunks v (chunks .n)) known brings in
-          let o = c .before .can-bring .ensures v (crosses-can x (placed e)) need in
+          let v : ℕ → ℕ = valueAt (a .l) (a .heavy) vs (a .j) in
+          let p = placed e in
+          let j = s .pre .1 .1 .0 in
+          let known = known-low (a .l) (a .heavy) row (a .known .now) (a .j) light j in
+          let brings = crosses-brings x (s .pre .0) j (a .known .now) light (chunks .n) (chunks .block) (p .count) (p .blocks) in
+          let need = m .missing .ensures .1 (brought (a .l .nc) (chunks .block) v (chunks .n)) known brings in
+          let o = c .before .can-bring .ensures v (crosses-can x p) need in
           absurd (false≢true (sym (not-true _ (c .if2 .taken)) ∙ o)),
       omega arith,
     )

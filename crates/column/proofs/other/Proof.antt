@@ -1,19 +1,14 @@
 -- `column::other` meets its contract: one is enough wherever it is answered, and a chunk without a loss is what is
 -- read. Assumes nothing.
-use Prim.Native.Nat.{_≤_}
 use mathlib.Core.Path.{_≡_, sym, _∙_}
-use mathlib.Core.Bool.{Bool, true, false, cond}
+use mathlib.Core.Bool.{true}
 use native.Mathlib.Omega.{arith}
 use borrow.Author.Needs.{needs}
 use borrow.Author.Tests.{eq-eqb}
 use lib.Dec.{eqb}
+use Rattle.column.proofs.Rows.{one-most}
 use Rattle.column.proofs.other.Statement.{statement}
 use Rattle.column.proofs.other.Tie as tie
-
--- one at most
-one-most : (b : Bool) → cond b 0 1 ≤ 1
-one-most true = omega arith
-one-most false = omega arith
 
 returns : tie.Need-returns
 returns c = (λ u read. one-most (eqb u (c .before .before .args .v)), omega arith)

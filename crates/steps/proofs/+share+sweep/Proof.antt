@@ -3,7 +3,7 @@
 -- Assumes nothing.
 use borrow.Author.Needs.{needs}
 use Prim.Native.Nat.{ℕ, suc, _+_, _-_, _*_, _<_, _≤_}
-use mathlib.Core.Path.{_≡_, refl, sym, ap, subst, _∙_}
+use mathlib.Core.Path.{_≡_, refl, sym, subst, _∙_}
 use mathlib.Core.Bool.{false≢true}
 use mathlib.Core.List.{List}
 use mathlib.Core.Logic.{_⊎_, inl, inr, ⊎-elim}
@@ -12,20 +12,21 @@ use native.Mathlib.Omega.{arith}
 use borrow.Author.Tests.{not-true, not-false}
 use borrow.Fn.Kinds.{In}
 use borrow.Fn.PlainCycle.{Measures, is, falls, and}
-use lib.ListN.{length, getD}
+use lib.ListN.{getD}
 use mir.Syntax.{w8}
 use mir.Val.{Fits}
 use Rattle.bits.specs.Bits.{digits}
 use Rattle.bits.proofs.Laws.{lt-or-ge}
 use Rattle.vt.specs.Ones.{ones}
-use Rattle.message.proofs.Legal.{legal-bounds, sizes}
-use Rattle.states.specs.States.{stride, each}
+use Rattle.message.proofs.Legal.{legal-bounds}
+use Rattle.states.specs.States.{stride, each, mostStates}
 use Rattle.states.proofs.States.{stride-pos}
 use Rattle.weigh.specs.Weigh.{Wider}
 use Rattle.column.specs.Column.{chunkAt}
-use Rattle.column.proofs.Rows.{chunk-stands, crosses-readable}
-use Rattle.steps.specs.Steps.{Ground, Stands, Shares, Chosen, Sharing, Viewed, Raised}
-use Rattle.steps.proofs.Sweeping.{none-between, raised-then, raised-none, raised-end, ground-stays}
+use Rattle.column.proofs.Rows.{crosses-readable}
+use Rattle.steps.specs.Steps.{Stands, Shares, Chosen, Sharing, Viewed, Raised}
+use Rattle.steps.proofs.Sweeping.{ChunkIs, chunk-is, none-between, ground-stays}
+use Rattle.steps.proofs.Sweeping.{raised-then, raised-none, raised-end}
 use Rattle.steps.proofs.Sweeping.{stands-share, shares-stands, sharing-range, chosen-share}
 use Rattle.steps.proofs.Sweeping.{as-read, ones-first, ones-last, sharing-next}
 use Rattle.steps.proofs.share.Reads as share
@@ -108,37 +109,66 @@ sweep-claims t = (
   share.Post,
 )
 
--- the place where the chunk was looked at, the entry seen from there, and the turn of the loop
-abbrev Seen-at : ℕ → Type 0
-Seen-at t = share-lts.Else2 (share-claims t) (share-at t) share.Post share-Inv-loop share-μ-loop
-
+-- where `share` starts, seen from where half of its slices are known, from where all of them are, from where marked
+-- states were asked for, and from where the chunk can be matched
 abbrev Share-start : ℕ → Type 0
 Share-start t = share-lts.Start (share-claims t) (share-at t) share.Post share-Inv-loop share-μ-loop
 
+abbrev share-half : (t : ℕ) → share-lts.After-shared-slice-known4 (share-claims t) (share-at t) share.Post share-Inv-loop share-μ-loop
+    → Share-start t
+share-half t c = c .before .before .before .before
+
+abbrev share-known : (t : ℕ) → share-lts.After-slice-known (share-claims t) (share-at t) share.Post share-Inv-loop share-μ-loop
+    → Share-start t
+share-known t c = share-half t (c .before .before .before)
+
+abbrev share-asked : (t : ℕ) → share-lts.After-none-marked (share-claims t) (share-at t) share.Post share-Inv-loop share-μ-loop
+    → Share-start t
+share-asked t c = share-known t (c .before .before)
+
+abbrev Seen-at : ℕ → Type 0
+Seen-at t = share-lts.Else2 (share-claims t) (share-at t) share.Post share-Inv-loop share-μ-loop
+
 abbrev share-begin : (t : ℕ) → Seen-at t → Share-start t
-share-begin t c = c .before .before .before .before .before .before .before .before .before .before .before .before .before
+share-begin t c = share-asked t (c .before .before .before .before)
+
+-- where the block is known and where the chunk can be matched, seen from where it was compared; that seen from a turn
+-- of the loop; and the turn seen from its wider span
+abbrev Block-at : ℕ → Type 0
+Block-at t = share-lts.After-wide (share-claims t) (share-at t) share.Post share-Inv-loop share-μ-loop
+
+abbrev Other-at : ℕ → Type 0
+Other-at t = share-lts.After-other (share-claims t) (share-at t) share.Post share-Inv-loop share-μ-loop
+
+abbrev Turn-at : ℕ → Type 0
+Turn-at t = share-lts.In-loop (share-claims t) (share-at t) share.Post share-Inv-loop share-μ-loop
+
+abbrev block : (t : ℕ) → Other-at t → Block-at t
+block t c = c .before .before .before
+
+abbrev seen : (t : ℕ) → Other-at t → Seen-at t
+seen t c = block t c .before .before
+
+abbrev other : (t : ℕ) → Turn-at t → Other-at t
+other t c = c .before .before .before
+
+abbrev turn : (t : ℕ) → share-lts.After-widen (share-claims t) (share-at t) share.Post share-Inv-loop share-μ-loop
+    → Turn-at t
+turn t c = c .before .before .before
 
 -- what one loss of block b counts in the number of a state
-stride-is : (t : ℕ) (s : Share-start t) → getD (s .args .t7 .stride) (s .args .b) 0 ≡ stride (each (s .args .t7 .size)) (s .args .b)
-stride-is t s = s .pre .1 .0 .shaped .counts (s .args .b) (omega (arith, s .pre .1 .0 .blocks, s .pre .1 .1 .1 .0))
+stride-is : (t : ℕ) (s : Share-start t)
+    → getD (s .args .t7 .stride) (s .args .b) 0 ≡ stride (each (s .args .t7 .size)) (s .args .b)
+stride-is t s =
+    let g = s .pre .1 .0 .counted in
+    g .shaped .counts (s .args .b) (omega (arith, g .blocks, s .pre .1 .1 .0 .inside))
 
 -- where the chunk stands
-chunk-is : (t : ℕ) (c : share-lts.After-wide (share-claims t) (share-at t) share.Post share-Inv-loop share-μ-loop)
-    → let a = share-begin t (c .before .before) .args in let i = c .wide .result in
-    (i * a .l .l2 + a .j ≡ chunkAt (a .l) (a .t5) (a .j) (a .b))
-    × ((i * a .l .l2 + a .j < a .l .l1 * a .l .l2) × ((i * a .l .l2 + a .j < 255) × (i * a .l .nc ≤ 2040)))
-chunk-is t c =
+stands : (t : ℕ) (c : Block-at t) → let a = share-begin t (c .before .before) .args in
+    ChunkIs (a .l) (a .t5) (a .j) (a .b) (c .wide .result)
+stands t c =
     let s = share-begin t (c .before .before) in
-    let a = s .args in
-    let g = s .pre .1 .0 .seeable in
-    let e = ap (λ (v : ℕ). v * a .l .l2 + a .j) (c .wide .ensures) in
-    let b = g .blocks (a .b) (s .pre .1 .1 .1 .0) in
-    let k = chunk-stands (a .l) (g .allowed) (getD (a .t5 .block) (a .b) 0) (a .j) b (g .column) in
-    let low : c .wide .result ≤ 255 = omega (arith, c .wide .ensures, b, sizes (a .l) (legal-bounds (a .l) (g .allowed)) .l1-high) in
-    let before : c .wide .result * a .l .nc ≤ 2040 =
-    mul-le-mul {n₁ = c .wide .result} {m₁ = a .l .nc} {n₂ = 255} {m₂ = 8} low (legal-bounds (a .l) (g .allowed) .nc-high)
-    in
-    (e, (rw e (k .0), (rw e (k .1 .0), before)))
+    chunk-is (s .pre .1 .0 .seeable) (s .args .b) (c .wide .result) (s .pre .1 .1 .0 .inside) (c .wide .ensures)
 
 -- what was seen
 viewed : (t : ℕ) (c : Seen-at t) → let a = share-begin t c .args in
@@ -156,14 +186,14 @@ share-element-copy-out-none-marked t c = search needs
 share-add-none-marked : (t : ℕ)
     → share-lts.Need-add-none-marked (share-claims t) (share-at t) share.Post share-Inv-loop share-μ-loop
 share-add-none-marked t c =
-    let s = c .before .before .before .before .before .before .before .before in
-    record { fits = omega (arith, stride-is t s, s .pre .1 .1 .0 .room, s .pre .1 .0 .states) }
+    let s = share-known t (c .before) in
+    record { fits = omega (arith, stride-is t s, s .pre .1 .1 .0 .room, s .pre .1 .0 .counted .states) }
 
 share-none-marked-requires : (t : ℕ)
     → share-lts.Need-none-marked-requires (share-claims t) (share-at t) share.Post share-Inv-loop share-μ-loop
 share-none-marked-requires t c κs =
-    let s = c .before .before .before .before .before .before .before .before in
-    let g = s .pre .1 .0 in
+    let s = share-known t (c .before) in
+    let g = s .pre .1 .0 .counted in
     let room = s .pre .1 .1 .0 .room in
     let some = stride-pos (each (s .args .t7 .size)) (s .args .b) in
     (omega (arith, g .long-some, room, some), omega (arith, g .long-some, room, stride-is t s))
@@ -171,16 +201,16 @@ share-none-marked-requires t c κs =
 share-returns : (t : ℕ)
     → share-lts.Need-returns (share-claims t) (share-at t) share.Post share-Inv-loop share-μ-loop
 share-returns t c =
-    let s = c .before .before .before .before .before .before .before .before .before .before in
+    let s = share-asked t (c .before) in
     let a = s .args in
-    let g = s .pre .1 .0 in
+    let g = s .pre .1 .0 .counted in
     let d = s .pre .1 .1 in
     let none = rw (stride-is t s) at (c .before .none-marked .ensures (c .if1 .taken)) in
     raised-none _
     (λ numbers row vs next x r m.
-    let high = sharing-range x (a .a) r (d .1 .0) (g .blocks) (g .within) in
-    none-between (g .counted) (a .q) (a .q + stride (each (a .t7 .size)) (a .b)) (d .0 .room) none _
-    (omega (arith, r .number)) high m)
+    let high = sharing-range x (a .a) r (d .0 .inside) (g .blocks) (g .within) in
+    none-between (a .marks .now) (a .at) (a .t7 .states) (a .some .now) (g .counted) (a .q)
+    (a .q + stride (each (a .t7 .size)) (a .b)) (d .0 .room) none _ (omega (arith, r .number)) high m)
 
 share-array-read-look-at : (t : ℕ)
     → share-lts.Need-array-read-look-at (share-claims t) (share-at t) share.Post share-Inv-loop share-μ-loop
@@ -189,26 +219,26 @@ share-array-read-look-at t c = search needs
 share-look-at-requires : (t : ℕ)
     → share-lts.Need-look-at-requires (share-claims t) (share-at t) share.Post share-Inv-loop share-μ-loop
 share-look-at-requires t c κs =
-    let p = c .before .before .before .before .before .before .before .before .before .before .pre .1 in
-    (p .0 .seeable, (p .1 .1 .0, p .1 .1 .1))
+    let p = share-asked t (c .before) .pre .1 in
+    (p .0 .seeable, (p .1 .0 .inside, p .1 .1))
 
 share-returns-2 : (t : ℕ)
     → share-lts.Need-returns-2 (share-claims t) (share-at t) share.Post share-Inv-loop share-μ-loop
 share-returns-2 t c =
     let w = c .before .before in
-    let s = w .before .before .before .before .before .before .before .before .before .before .before in
+    let s = share-asked t (w .before .before) in
     let a = s .args in
     raised-none _
     (λ numbers row vs next x r m.
     let k : next (a .b) ≡ each (a .t9) (a .b) - a .a = omega (arith, r .own) in
-    let f = crosses-readable x (a .b) (s .pre .1 .1 .1 .0) in
+    let f = crosses-readable x (a .b) (s .pre .1 .1 .0 .inside) in
     false≢true (sym (not-true _ (c .if2 .taken)) ∙ w .look-at .ensures .1 (rw k at f)))
 
 share-element-copy-out-wide : (t : ℕ)
     → share-lts.Need-element-copy-out-wide (share-claims t) (share-at t) share.Post share-Inv-loop share-μ-loop
 share-element-copy-out-wide t c =
     let p = share-begin t c .pre .1 in
-    omega (arith, p .0 .seeable .few, p .1 .1 .0)
+    omega (arith, p .0 .seeable .few, p .1 .0 .inside)
 
 share-wide-requires : (t : ℕ)
     → share-lts.Need-wide-requires (share-claims t) (share-at t) share.Post share-Inv-loop share-μ-loop
@@ -217,17 +247,18 @@ share-wide-requires t c κs = search needs
 share-mul-other : (t : ℕ)
     → share-lts.Need-mul-other (share-claims t) (share-at t) share.Post share-Inv-loop share-μ-loop
 share-mul-other t c =
-    record { fits = omega (arith, chunk-is t (c .before) .1 .1 .0) }
+    record { fits = omega (arith, stands t (c .before) .low) }
 
 share-add-other : (t : ℕ)
     → share-lts.Need-add-other (share-claims t) (share-at t) share.Post share-Inv-loop share-μ-loop
 share-add-other t c =
-    record { fits = omega (arith, chunk-is t (c .before) .1 .1 .0) }
+    record { fits = omega (arith, stands t (c .before) .low) }
 
 share-shared-slice-read-other : (t : ℕ)
     → share-lts.Need-shared-slice-read-other (share-claims t) (share-at t) share.Post share-Inv-loop share-μ-loop
 share-shared-slice-read-other t c =
-    omega (arith, chunk-is t (c .before .before) .1 .0, share-begin t (c .before .before .before .before) .pre .1 .0 .others)
+    let k = c .before .before in
+    omega (arith, stands t k .inside, share-begin t (k .before .before) .pre .1 .0 .others)
 
 share-other-requires : (t : ℕ)
     → share-lts.Need-other-requires (share-claims t) (share-at t) share.Post share-Inv-loop share-μ-loop
@@ -240,22 +271,22 @@ share-other-requires t c κs =
 share-add-more : (t : ℕ)
     → share-lts.Need-add-more (share-claims t) (share-at t) share.Post share-Inv-loop share-μ-loop
 share-add-more t c =
-    let s = share-begin t (c .before .before .before .before .before) in
+    let s = share-begin t (seen t c) in
     record { fits = omega (arith, c .other .ensures .1, s .pre .1 .1 .0 .apart-low, s .pre .1 .0 .seeable .few) }
 
 share-loop-holds : (t : ℕ)
     → share-lts.Need-loop-holds (share-claims t) (share-at t) share.Post share-Inv-loop share-μ-loop
 share-loop-holds t c =
-    let e = c .before .before .before .before .before .before in
+    let e = seen t (c .before) in
     let s = share-begin t e in
     raised-none _
     (λ numbers row vs next x r m.
-    omega (arith, r .1, ones-first x (s .pre .1 .1 .1 .0) (s .args .a) (viewed t e) (r .0)))
+    omega (arith, r .1, ones-first x (s .pre .1 .1 .0 .inside) (s .args .a) (viewed t e) (r .0)))
 
 share-mul-widen : (t : ℕ)
     → share-lts.Need-mul-widen (share-claims t) (share-at t) share.Post share-Inv-loop share-μ-loop
 share-mul-widen t c =
-    record { fits = omega (arith, chunk-is t (c .before .before .before .before .before .before .before) .1 .1 .1) }
+    record { fits = omega (arith, stands t (block t (other t (c .before))) .in-string) }
 
 share-wide-requires-2 : (t : ℕ)
     → share-lts.Need-wide-requires-2 (share-claims t) (share-at t) share.Post share-Inv-loop share-μ-loop
@@ -264,7 +295,8 @@ share-wide-requires-2 t c κs = search needs
 share-widen-requires : (t : ℕ)
     → share-lts.Need-widen-requires (share-claims t) (share-at t) share.Post share-Inv-loop share-μ-loop
 share-widen-requires t c κs =
-    let e = c .before .before .before .before .before .before .before .before .before .before in
+    let o = other t (c .before .before) in
+    let e = seen t o in
     let s = share-begin t e in
     let g = s .pre .1 .0 .seeable in
     let h = s .pre .1 .1 .0 in
@@ -273,7 +305,7 @@ share-widen-requires t c κs =
     let lost = c .wide2 .ensures in
     let keeps : s .args .l .nc - s .args .a ≤ 8 = omega (arith, legal-bounds (s .args .l) (g .allowed) .nc-high) in
     let low : e .before .before .look-at .result .seen .total ≤ 64 = omega (arith, i .positions-small, mul-le-mul keeps keeps) in (
-      (legal-bounds (s .args .l) (g .allowed) .nc-high, chunk-is t (c .before .before .before .before .before .before .before .before) .1 .1 .1),
+      (legal-bounds (s .args .l) (g .allowed) .nc-high, stands t (block t o) .in-string),
       (
         (
           omega (arith, i .count-small, v .few, lost),
@@ -287,64 +319,63 @@ share-sweep-requires : (t : ℕ)
     → share-lts.Need-sweep-requires (share-claims t) (share-at t) share.Post share-Inv-loop share-μ-loop
 share-sweep-requires t c κs =
     let w = c .before in
-    let e = c .before .before .before .before .before .before .before .before .before .before .before .before in
-    let s = share-begin t e in
-    let p = w .before .before .before .before in
-    let o = c .before .before .before .before .before .before .before in
+    let i = turn t w in
+    let p = i .before in
+    let o = other t i in
+    let s = share-begin t (seen t o) in
     let n = w .widen .ensures in (
       omega (arith, s .pre .0),
       (
         ground-stays (p .loop .fresh) (p .loop .inv .raises .long) (s .pre .1 .0),
-        shares-stands (w .widen .result) (s .args .apart + o .other .result) (s .pre .1 .1 .0) (n .low-small) (n .high-small)
-            (omega (arith, o .other .ensures .1)),
+        shares-stands (w .widen .result) (s .args .apart + o .other .result) (s .pre .1 .1 .0) (n .low-small)
+            (n .high-small) (omega (arith, o .other .ensures .1)),
       ),
     )
 
 share-add-g : (t : ℕ)
     → share-lts.Need-add-g (share-claims t) (share-at t) share.Post share-Inv-loop share-μ-loop
 share-add-g t c =
-    let e = c .before .before .before .before .before .before .before .before .before .before .before .before .before .before .before in
-    record { fits = omega (arith, c .before .before .before .before .before .before .before .loop-test .taken, viewed t e .more .few, share-begin t e .fits .a) }
+    let i = turn t (c .before .before .before .before) in
+    let e = seen t (other t i) in
+    record { fits = omega (arith, i .loop-test .taken, viewed t e .more .few, share-begin t e .fits .a) }
 
 share-loop-less : (t : ℕ)
     → share-lts.Need-loop-less (share-claims t) (share-at t) share.Post share-Inv-loop share-μ-loop
 share-loop-less t c =
-    omega (arith, c .before .before .before .before .before .before .before .loop-test .taken)
+    omega (arith, turn t (c .before .before .before .before) .loop-test .taken)
 
 share-loop-again : (t : ℕ)
     → share-lts.Need-loop-again (share-claims t) (share-at t) share.Post share-Inv-loop share-μ-loop
 share-loop-again t c =
     let n = c .before .before .before .before in
-    let i = c .before .before .before .before .before .before .before in
-    let p = i .before in
-    let o = c .before .before .before .before .before .before .before .before .before .before in
-    let e = c .before .before .before .before .before .before .before .before .before .before .before .before .before .before .before in
+    let p = turn t n .before in
+    let o = other t (turn t n) in
+    let k = block t o in
+    let e = seen t o in
     let s = share-begin t e in
     let a = s .args in
-    let h = s .pre .1 .1 .1 .0 in
+    let h = s .pre .1 .1 .0 .inside in
     let v = viewed t e in
-    let chunk = chunk-is t (c .before .before .before .before .before .before .before .before .before .before .before .before .before) .0 in
-    let block = c .before .before .before .before .before .before .before .before .before .before .before .before .before .wide .ensures in
+    let chunk = stands t k .is in
     let lost = n .before .wide2 .ensures in
-    let seen = e .before .before .look-at .result .seen in
-    let wider : Wider (a .l .nc) (getD (a .t5 .block) (a .b) 0 * a .l .nc) (a .a) seen (p .loop .g) (a .span) (n .widen .result) =
-    subst (λ (k : ℕ). Wider (a .l .nc) (k * a .l .nc) (a .a) seen (p .loop .g) (a .span) (n .widen .result)) block
-    (subst (λ (k : ℕ). Wider (a .l .nc) (c .before .before .before .before .before .before .before .before .before .before .before .before .before .wide .result * a .l .nc) k seen (p .loop .g) (a .span) (n .widen .result)) lost
-    (n .widen .ensures))
+    let had = e .before .before .look-at .result .seen in
+    let g = p .loop .g in
+    let wide = n .widen .result in
+    let wider : Wider (a .l .nc) (getD (a .t5 .block) (a .b) 0 * a .l .nc) (a .a) had g (a .span) wide =
+    subst (λ (i : ℕ). Wider (a .l .nc) (i * a .l .nc) (a .a) had g (a .span) wide) (k .wide .ensures)
+    (subst (λ (v : ℕ). Wider (a .l .nc) (k .wide .result * a .l .nc) v had g (a .span) wide) lost (n .widen .ensures))
     in
+    let own : List ℕ → ℕ = λ vs. getD vs (chunkAt (a .l) (a .t5) (a .j) (a .b)) 0 in
     raised-then (p .loop .inv) (c .before .before .sweep .ensures)
     (λ numbers row vs next x r.
     ⊎-elim
-    (λ k. inl (r .0, k))
-    (λ k.
-    let just : ones (digits (a .l .nc) (getD vs (chunkAt (a .l) (a .t5) (a .j) (a .b)) 0))
-    ≡ e .before .before .look-at .result .seen .ones + p .loop .g =
-    omega (arith, r .1, k)
-    in
-    let other = o .other .ensures .0 (getD vs (chunkAt (a .l) (a .t5) (a .j) (a .b)) 0) (as-read x h (a .a) v (r .0)) in
-    inr (sharing-next x h (a .a) v (r .0) (p .loop .g) (a .apart + o .other .result) (n .widen .result) just wider
-    (omega (arith, rw chunk at other))))
-    (lt-or-ge (ones (digits (a .l .nc) (getD vs (chunkAt (a .l) (a .t5) (a .j) (a .b)) 0))) (e .before .before .look-at .result .seen .ones + p .loop .g)))
+    (λ u. inl (r .0, u))
+    (λ u.
+    let just : ones (digits (a .l .nc) (own vs)) ≡ had .ones + g = omega (arith, r .1, u) in
+    let like = o .other .ensures .0 (own vs) (as-read x h (a .a) v (r .0)) in
+    inr (sharing-next x h (a .a) v (r .0) g (a .apart + o .other .result) wide just wider
+    (omega (arith, rw chunk at like))))
+    (lt-or-ge (ones (digits (a .l .nc) (own vs))) (had .ones + g)))
 
 share-same-length : (t : ℕ)
     → share-lts.Need-same-length (share-claims t) (share-at t) share.Post share-Inv-loop share-μ-loop
@@ -355,7 +386,7 @@ share-returns-3 : (t : ℕ)
     → share-lts.Need-returns-3 (share-claims t) (share-at t) share.Post share-Inv-loop share-μ-loop
 share-returns-3 t c =
     let p = c .before in
-    let e = c .before .before .before .before .before .before .before .before in
+    let e = seen t (p .before .before) in
     let s = share-begin t e in
     let v = viewed t e in
     let i = p .loop .inv in
@@ -363,19 +394,30 @@ share-returns-3 t c =
       raises = i .raises;
       gains = λ numbers row vs next x r is m.
           i .gains numbers row vs next x
-          (r, omega (arith, ones-last x (s .pre .1 .1 .1 .0) (s .args .a) v r, c .loop-test .left)) is m;
+          (r, omega (arith, ones-last x (s .pre .1 .1 .0 .inside) (s .args .a) v r, c .loop-test .left)) is m;
     }
 
--- the place where a block is left, and the entry seen from there
+-- where `sweep` starts, seen from where half of its slices are known, from where all of them are, and from where a
+-- block is left
+abbrev Sweep-start : ℕ → Type 0
+Sweep-start t = sweep-lts.Start (sweep-claims t) (sweep-at t) sweep.Post sweep-Inv-loop sweep-μ-loop
+
+abbrev sweep-half : (t : ℕ) → sweep-lts.After-shared-slice-known4 (sweep-claims t) (sweep-at t) sweep.Post sweep-Inv-loop sweep-μ-loop
+    → Sweep-start t
+sweep-half t c = c .before .before .before .before
+
+abbrev sweep-known : (t : ℕ) → sweep-lts.After-slice-known (sweep-claims t) (sweep-at t) sweep.Post sweep-Inv-loop sweep-μ-loop
+    → Sweep-start t
+sweep-known t c = sweep-half t (c .before .before .before)
+
 abbrev Left-at : ℕ → Type 0
 Left-at t = sweep-lts.Else1 (sweep-claims t) (sweep-at t) sweep.Post sweep-Inv-loop sweep-μ-loop
 
-abbrev sweep-begin : (t : ℕ) → Left-at t → sweep-lts.Start (sweep-claims t) (sweep-at t) sweep.Post sweep-Inv-loop sweep-μ-loop
-sweep-begin t c = c .before .before .before .before .before .before .before .before
+abbrev sweep-begin : (t : ℕ) → Left-at t → Sweep-start t
+sweep-begin t c = sweep-known t (c .before)
 
 -- what is left in a block is a byte
-left-byte : (t : ℕ) (s : sweep-lts.Start (sweep-claims t) (sweep-at t) sweep.Post sweep-Inv-loop sweep-μ-loop) (i : ℕ)
-    → Fits w8 (getD (s .args .t9) i 0)
+left-byte : (t : ℕ) (s : Sweep-start t) (i : ℕ) → Fits w8 (getD (s .args .t9) i 0)
 left-byte t s i = search needs
 
 -- the block is one of the heavy blocks, and one more than its number are left
@@ -385,7 +427,8 @@ below-n t c = omega (arith, sweep-begin t c .pre .1 .1 .inside, c .if1 .left)
 up : (t : ℕ) (c : Left-at t) → let a = sweep-begin t c .args in a .s ≡ suc (a .s - 1)
 up t c = omega (arith, c .if1 .left)
 
-upper : (t : ℕ) (c : Left-at t) → let a = sweep-begin t c .args in Stands (a .t7) (a .heavy .n) (suc (a .s - 1)) (a .q) (a .span) (a .apart)
+upper : (t : ℕ) (c : Left-at t) → let a = sweep-begin t c .args in
+    Stands (a .t7) (a .heavy .n) (suc (a .s - 1)) (a .q) (a .span) (a .apart)
 upper t c =
     let s = sweep-begin t c in
     let a = s .args in
@@ -395,7 +438,7 @@ upper t c =
 own-one : (t : ℕ) (c : Left-at t) → let a = sweep-begin t c .args in
     stride (each (a .t7 .size)) (a .s - 1) ≡ getD (a .t7 .stride) (a .s - 1) 0
 own-one t c =
-    let g = sweep-begin t c .pre .1 .0 in
+    let g = sweep-begin t c .pre .1 .0 .counted in
     sym (g .shaped .counts _ (omega (arith, g .blocks, below-n t c)))
 
 -- the number of the state with a share, and that it stays low
@@ -407,38 +450,39 @@ number-is t c a = rw (own-one t (c .before), c .wide .ensures) refl
 
 in-room : (t : ℕ) (c : sweep-lts.In-loop (sweep-claims t) (sweep-at t) sweep.Post sweep-Inv-loop sweep-μ-loop)
     → let p = c .before in let w = p .before .before in let a = sweep-begin t (w .before) .args in
-    (a .q + (w .wide .result - p .loop .a) * getD (a .t7 .stride) (a .s - 1) 0 ≤ a .t7 .states) × (a .t7 .states ≤ 729)
+    (a .q + (w .wide .result - p .loop .a) * getD (a .t7 .stride) (a .s - 1) 0 ≤ a .t7 .states) × (a .t7 .states ≤ mostStates)
 in-room t c =
     let p = c .before in
     let w = p .before .before in
     let e = w .before in
     let s = sweep-begin t e in
     let a = s .args in
-    let g = s .pre .1 .0 in
+    let g = s .pre .1 .0 .counted in
     let left = getD (a .t9) (a .s - 1) 0 in
     let few : p .loop .a ≤ left = omega (arith, c .loop-test .taken, w .wide .ensures) in
-    let h = stands-share left (p .loop .a) (upper t e) (g .within (a .s - 1) (omega (arith, g .blocks, below-n t e))) few in
+    let most = g .within (a .s - 1) (omega (arith, g .blocks, below-n t e)) in
+    let h = stands-share left (p .loop .a) (upper t e) most few in
     (omega (arith, h .room, number-is t w (p .loop .a)), g .states)
 
 sweep-add-raise-one : (t : ℕ)
     → sweep-lts.Need-add-raise-one (sweep-claims t) (sweep-at t) sweep.Post sweep-Inv-loop sweep-μ-loop
 sweep-add-raise-one t c =
-    let s = c .before .before .before .before .before .before .before .before in
-    let g = s .pre .1 .0 in
+    let s = sweep-known t (c .before) in
+    let g = s .pre .1 .0 .counted in
     let some = stride-pos (each (s .args .t7 .size)) (s .args .s) in
     record { fits = omega (arith, g .marked, s .pre .1 .1 .room, some, s .good .1 .1 .1 .1 .1 .1 .1 .1 .1 .1 .1 .1 .0) }
 
 sweep-shared-slice-read-raise-one : (t : ℕ)
     → sweep-lts.Need-shared-slice-read-raise-one (sweep-claims t) (sweep-at t) sweep.Post sweep-Inv-loop sweep-μ-loop
 sweep-shared-slice-read-raise-one t c =
-    let s = c .before .before .before .before .before .before .before .before .before in
+    let s = sweep-known t (c .before .before) in
     let some = stride-pos (each (s .args .t7 .size)) (s .args .s) in
-    omega (arith, s .pre .1 .0 .marked, s .pre .1 .1 .room, some)
+    omega (arith, s .pre .1 .0 .counted .marked, s .pre .1 .1 .room, some)
 
 sweep-raise-one-requires : (t : ℕ)
     → sweep-lts.Need-raise-one-requires (sweep-claims t) (sweep-at t) sweep.Post sweep-Inv-loop sweep-μ-loop
 sweep-raise-one-requires t c κs =
-    let s = c .before .before .before .before .before .before .before .before .before .before in
+    let s = sweep-known t (c .before .before .before) in
     let g = s .pre .1 .0 in
     let d = s .pre .1 .1 in
     let some = stride-pos (each (s .args .t7 .size)) (s .args .s) in
@@ -463,7 +507,7 @@ sweep-sub-b t c =
 sweep-array-read-wide : (t : ℕ)
     → sweep-lts.Need-array-read-wide (sweep-claims t) (sweep-at t) sweep.Post sweep-Inv-loop sweep-μ-loop
 sweep-array-read-wide t c =
-    let s = c .before .before .before .before .before .before .before .before in
+    let s = sweep-begin t c in
     omega (arith, s .pre .1 .1 .inside, s .pre .1 .0 .seeable .few, c .if1 .left)
 
 sweep-wide-requires : (t : ℕ)
@@ -479,13 +523,13 @@ sweep-mul-one t c =
 sweep-element-copy-out-one : (t : ℕ)
     → sweep-lts.Need-element-copy-out-one (sweep-claims t) (sweep-at t) sweep.Post sweep-Inv-loop sweep-μ-loop
 sweep-element-copy-out-one t c =
-    let s = c .before .before .before .before .before .before .before .before .before in
+    let s = sweep-begin t (c .before) in
     omega (arith, s .pre .1 .1 .inside, s .pre .1 .0 .seeable .few, c .before .if1 .left)
 
 sweep-loop-holds : (t : ℕ)
     → sweep-lts.Need-loop-holds (sweep-claims t) (sweep-at t) sweep.Post sweep-Inv-loop sweep-μ-loop
 sweep-loop-holds t c =
-    let s = c .before .before .before .before .before .before .before .before .before .before in
+    let s = sweep-begin t (c .before .before) in
     let h = below-n t (c .before .before) in
     raised-none _ (λ numbers row vs next x r m. omega (arith, r .1, x .falls (s .args .s - 1) h))
 
@@ -518,14 +562,15 @@ sweep-share-requires t c κs =
     let a = s .args in
     let g = s .pre .1 .0 in
     let left = getD (a .t9) (a .s - 1) 0 in
-    let few : p .loop .a ≤ left = omega (arith, i .loop-test .taken, w .wide .ensures) in (
+    let few : p .loop .a ≤ left = omega (arith, i .loop-test .taken, w .wide .ensures) in
+    let most = g .counted .within (a .s - 1) (omega (arith, g .counted .blocks, below-n t e)) in (
       omega (arith, s .pre .0, e .if1 .left),
       (
         ground-stays (p .loop .fresh) (p .loop .inv .raises .long) g,
         (
           subst (λ (v : ℕ). Shares (a .t7) (a .heavy .n) (a .s - 1) v (a .span) (a .apart)) (number-is t w (p .loop .a))
-              (stands-share left (p .loop .a) (upper t e) (g .within (a .s - 1) (omega (arith, g .blocks, below-n t e))) few),
-          (below-n t e, few),
+              (stands-share left (p .loop .a) (upper t e) most few),
+          few,
         ),
       ),
     )

@@ -1,77 +1,69 @@
 -- `steps::raise` meets its contract: what the heavy blocks must bring is what the sum of the chunks in hand lacks. Rests on Sweeping.antt.
 -- Assumes nothing.
-use borrow.Author.Needs.{needs}
-use Prim.Native.Nat.{ℕ, _+_, _*_, _≤_}
-use mathlib.Core.Path.{_≡_, refl, sym, ap, subst, _∙_}
+use Prim.Native.Nat.{_≤_}
+use mathlib.Core.Path.{refl, ap}
 use native.Mathlib.Omega.{arith}
-use lib.ListN.{length, getD}
-use Rattle.message.proofs.Legal.{legal-bounds, sizes}
 use Rattle.states.specs.States.{stride, each}
-use Rattle.column.proofs.Rows.{string-high}
-use Rattle.steps.specs.Steps.{brings}
-use Rattle.steps.proofs.Sweeping.{light-low, light-brings, chosen-none}
+use Rattle.column.proofs.Rows.{StringLow, string-low, known-low, crosses-brings}
+use Rattle.steps.specs.Steps.{broughtIn}
+use Rattle.steps.proofs.Sweeping.{chosen-none}
 use Rattle.steps.proofs.raise.Statement.{statement}
 use Rattle.steps.proofs.raise.Tie as tie
 
--- the modulus is small, and so are the sum and its place
-record Low (s : tie.Start) : Type 0 where
-  modulus : s .args .l .l1 * s .args .l .nc ≤ 2040
-  sum : getD (s .args .numbers .now) (s .args .l .l1 + s .args .j) 0 ≤ s .args .l .l1 * s .args .l .nc
-  index : s .args .l .l1 + s .args .j ≤ 510
+-- where the function starts, seen from where half of the slices are known, and from where all that is lent is
+abbrev half : tie.After-shared-slice-known5 → tie.Start
+half c = c .before .before .before .before .before
 
-low : (s : tie.Start) → Low s
-low s =
-    let f = s .pre .0 .0 in
-    let z = sizes (s .args .l) (legal-bounds (s .args .l) (f .allowed)) in
-    record {
-      modulus = string-high (s .args .l) (f .allowed);
-      sum = f .low (s .args .j) (s .pre .0 .1 .1 .0);
-      index = omega (arith, z .l1-high, z .l2-high, s .pre .0 .1 .1 .0);
-    }
+abbrev start : tie.After-struct-known → tie.Start
+start c = half (c .before .before .before .before .before)
+
+-- the sum of its chunk-string is small
+low : (s : tie.Start) → StringLow (s .args .l) (s .args .numbers .now) (s .args .j)
+low s = string-low (s .pre .0 .0) (s .args .j) (s .pre .0 .1 .1 .0)
 
 mul-modulus : tie.Need-mul-modulus
-mul-modulus c = record { fits = omega (arith, low (c .before .before .before .before .before .before .before .before .before .before) .modulus) }
+mul-modulus c = record { fits = omega (arith, low (start c) .modulus) }
 
 add-modulus : tie.Need-add-modulus
-add-modulus c = record { fits = omega (arith, low (c .before .before .before .before .before .before .before .before .before .before) .modulus) }
+add-modulus c = record { fits = omega (arith, low (start c) .modulus) }
 
 add-missing : tie.Need-add-missing
-add-missing c = record { fits = omega (arith, low (c .before .before .before .before .before .before .before .before .before .before .before) .index) }
+add-missing c = record { fits = omega (arith, low (start (c .before)) .index) }
 
 mul-missing : tie.Need-mul-missing
-mul-missing c = record { fits = omega (arith, low (c .before .before .before .before .before .before .before .before .before .before .before) .index) }
+mul-missing c = record { fits = omega (arith, low (start (c .before)) .index) }
 
 shared-slice-read-missing : tie.Need-shared-slice-read-missing
 shared-slice-read-missing c =
-    let s = c .before .before .before .before .before .before .before .before .before .before .before .before in
+    let s = start (c .before .before) in
     omega (arith, s .pre .0 .0 .sums, s .pre .0 .1 .1 .0)
 
 cast-missing : tie.Need-cast-missing
 cast-missing c =
-    let b = low (c .before .before .before .before .before .before .before .before .before .before .before .before) in
+    let b = low (start (c .before .before)) in
     record { fits = omega (arith, b .modulus, b .sum) }
 
 mul-missing-2 : tie.Need-mul-missing-2
-mul-missing-2 c = record { fits = omega (arith, low (c .before .before .before .before .before .before .before .before .before .before .before .before) .index) }
+mul-missing-2 c = record { fits = omega (arith, low (start (c .before .before)) .index) }
 
 shared-slice-read-missing-2 : tie.Need-shared-slice-read-missing-2
 shared-slice-read-missing-2 c =
-    let s = c .before .before .before .before .before .before .before .before .before .before .before .before .before in
+    let s = start (c .before .before .before) in
     omega (arith, s .pre .0 .1 .1 .0, s .pre .0 .1 .1 .1 .0)
 
 cast-missing-2 : tie.Need-cast-missing-2
 cast-missing-2 c =
-    let a = c .before .before .before .before .before .before .before .before .before .before .before .before .before .args in
+    let a = start (c .before .before .before) .args in
     record { fits = omega (arith, c .shared-slice-known10 .given (a .j)) }
 
 missing-requires : tie.Need-missing-requires
 missing-requires c κs =
-    let b = low (c .before .before .before .before .before .before .before .before .before .before .before .before .before) in
+    let b = low (start (c .before .before .before)) in
     (omega (arith, b .sum), omega (arith, b .modulus))
 
 sweep-requires : tie.Need-sweep-requires
 sweep-requires c κs =
-    let s = c .before .before .before .before .before .before .before .before .before .before .before .before .before .before .before in
+    let s = start (c .before .before .before .before .before) in
     let p = s .pre in
     let f = p .0 .0 in
     let d = p .1 .0 in
@@ -90,15 +82,9 @@ sweep-requires c κs =
               column = p .0 .1 .1 .0;
             };
         others = p .0 .1 .1 .1 .1;
-        blocks = d .blocks;
-        shaped = d .shaped;
-        states = d .states;
-        within = d .within;
+        counted = d;
         below = c .before .missing .ensures .0;
         high = omega (arith, low s .modulus);
-        marked = d .marked;
-        counted = d .counted;
-        long-some = d .long-some;
         long-fresh = p .1 .1;
       },
       record {
@@ -117,14 +103,15 @@ returns : tie.Need-returns
 returns c =
     let w = c .before .before in
     let n = w .before .before in
-    let s = n .before .before .before .before .before .before .before .before .before .before .before .before .before .before in
+    let s = start (n .before .before .before .before) in
     let a = s .args in
     let p = s .pre in (
       w .sweep .ensures .raises,
       λ row vs next light x m.
-          let f = p .0 .0 in
-          let is = n .missing .ensures .1 (brings (a .l) (a .heavy) (a .j) vs (a .heavy .n))
-          (light-low x f (p .0 .1 .1 .0) (a .known .now) light) (light-brings x f (p .0 .1 .1 .0) (a .known .now) light) in
+          let j = p .0 .1 .1 .0 in
+          let known = known-low (a .l) (a .heavy) row (a .known .now) (a .j) light j in
+          let brings = crosses-brings x (p .0 .0) j (a .known .now) light (a .heavy .n) (a .heavy .block) refl refl in
+          let is = n .missing .ensures .1 (broughtIn (a .l) (a .heavy) vs (a .j) (a .heavy .n)) known brings in
           w .sweep .ensures .gains (a .numbers .now) row vs next x
           (chosen-none (a .l) (a .heavy) (a .z .now) (a .shape) (a .j) _ next vs (p .1 .0 .blocks) refl) is m,
     )

@@ -1,14 +1,16 @@
 -- `steps::raise_one` meets its contract. Rests on Sweeping.antt. Assumes nothing.
 use borrow.Author.Needs.{needs}
-use mathlib.Core.Path.{refl, sym, _∙_}
+use mathlib.Core.Path.{sym, _∙_}
 use mathlib.Core.Bool.{false≢true}
 use native.Mathlib.Omega.{arith}
-use borrow.Author.Tests.{not-true, not-false}
-use lib.ListN.{length, getD, set, length-set}
 use lib.Seq.{getD-set-same}
 use Rattle.steps.proofs.Sweeping.{above-more, raises-same, raises-set}
 use Rattle.steps.proofs.raise_one.Statement.{statement}
 use Rattle.steps.proofs.raise_one.Tie as tie
+
+-- where the function starts, seen from where `above` has answered
+abbrev start : tie.After-above → tie.Start
+start c = c .before .before .before
 
 returns : tie.Need-returns
 returns c = (raises-same _, λ n a b e m. absurd (omega (arith, c .if1 .taken, m)))
@@ -26,11 +28,11 @@ returns-2 c =
 
 reaches-requires : tie.Need-reaches-requires
 reaches-requires c κs =
-    let p = c .before .before .before .before .before .pre in
+    let p = start (c .before .before) .pre in
     (p .0 .0, (p .0 .1, p .1 .0))
 
 slice-write-fresh : tie.Need-slice-write-fresh
-slice-write-fresh c = c .before .before .before .before .before .before .before .pre .1 .1
+slice-write-fresh c = start (c .before .before .before .before) .pre .1 .1
 
 same-length : tie.Need-same-length
 same-length c = search needs
@@ -39,7 +41,7 @@ returns-3 : tie.Need-returns-3
 returns-3 c =
     let e = c .before .before in
     let w = e .before .before in
-    let s = w .before .before .before in
+    let s = start w in
     let a = s .args in
     let h = s .pre .1 .1 in (
       raises-set (a .fresh .now) (a .q) (w .above .result) h (omega (arith, e .if2 .left)),

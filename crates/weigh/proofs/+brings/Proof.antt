@@ -16,7 +16,7 @@ use mir.Val.{Fits}
 use Rattle.bits.specs.Bits.{digits}
 use Rattle.bits.proofs.Laws.{bits-digits, length-digits}
 use Rattle.vt.specs.Ones.{ones}
-use Rattle.weigh.specs.Weigh.{Can, brought, There, Within}
+use Rattle.weigh.specs.Weigh.{Can, brought, chunkTop, There, Within}
 use Rattle.weigh.proofs.Spans.{received, wider-holds}
 use Rattle.weigh.proofs.brings.Reads as brings
 use Rattle.weigh.proofs.brings.Kinds as brings-kinds
@@ -41,7 +41,7 @@ brings-below t = and 3 brings-kinds.ps (falls 3 brings-kinds.ps _<_ μ-brings t)
 abbrev brings-Inv-loop : brings-lts.InvT-loop
 brings-Inv-loop nc modulus y totals counts s need span chunks place lost seen before last g₀ g =
     (g ≤ lost + 1) × ((vs : ℕ → ℕ) → Can nc y chunks vs → Within nc chunks vs s span
-    → brought nc chunks vs (chunks .n) % modulus ≡ need → seen .ones + g ≤ ones (digits nc (vs s)))
+    → brought nc (chunks .block) vs (chunks .n) % modulus ≡ need → seen .ones + g ≤ ones (digits nc (vs s)))
 
 abbrev brings-μ-loop : brings-lts.MeasureT-loop
 brings-μ-loop nc modulus y totals counts s need span chunks place lost seen before last g₀ g = lost + 1 - g
@@ -219,7 +219,7 @@ brings-add-if2 t c =
 
 -- the wider span is small
 wider-small : (t : ℕ) (c : Turn t) → let s = start t (found t (c .before .before .before .before)) in
-    (c .widen .result .low ≤ (s .args .s + 1) * 40000) × (c .widen .result .high ≤ (s .args .s + 1) * 40000)
+    (c .widen .result .low ≤ (s .args .s + 1) * chunkTop) × (c .widen .result .high ≤ (s .args .s + 1) * chunkTop)
 wider-small t c =
     let p = start t (found t (c .before .before .before .before)) .pre .1 .1 in
     let w = c .widen .ensures in
@@ -269,7 +269,7 @@ brings-loop-less t c =
 not-just : (t : ℕ) (c : Turned t) → let q = c .before in let p = q .before .before in let r = p .before .before in
     let a = start t (found t r) .args in
     (vs : ℕ → ℕ) → Can (a .nc) (a .y .now) (a .t6) vs → Within (a .nc) (a .t6) vs (a .s) (a .span)
-    → brought (a .nc) (a .t6) vs (a .t6 .n) % a .modulus ≡ a .need
+    → brought (a .nc) (a .t6 .block) vs (a .t6 .n) % a .modulus ≡ a .need
     → ones (digits (a .nc) (vs (a .s))) ≡ r .before .look .result .ones + p .loop .g → ⊥
 not-just t c vs can inside e just =
     let q = c .before in
@@ -277,7 +277,7 @@ not-just t c vs can inside e just =
     let s = start t (found t (p .before .before)) in
     let a = s .args in
     let l = p .before .before .before .look in
-    let far = brought (a .nc) (a .t6) vs (a .s + 1) in
+    let far = brought (a .nc) (a .t6 .block) vs (a .s + 1) in
     let b = wider-holds can (a .s) (s .pre .1 .1 .0) (l .result) (p .loop .g) (a .span) (q .widen .result) (l .ensures)
     just (q .widen .ensures) inside in
     ⊎-elim
