@@ -1,21 +1,8 @@
 -- Columns that no row under a pattern crosses without a loss: the sums that the chunks of a column can have where each
 -- is read whole, as a set of residues.
-use Prim.Native.Nat.{ℕ, zero, suc, _+_, _-_, _*_, _%_, _<_, _≤_}
-use mathlib.Core.Path.{_≡_}
-use mathlib.Core.Bool.{true}
+use Prim.Native.Nat.{ℕ, _+_, _%_, _<_}
 use mathlib.Core.List.{List}
-use lib.ListN.{length, getD, take, drop}
-use Rattle.bits.specs.Bits.{AllBits, longest}
-use Rattle.vt.specs.Sum.{total}
-use Rattle.message.specs.Layout.{legal}
-use Rattle.message.specs.declared.Layout.{Layout}
-use Rattle.windows.specs.Windows.{Tables}
-use Rattle.column.specs.Column.{Readable}
-use Rattle.column.specs.declared.Heavy.{Heavy}
-
--- the sum of a chunk-string is below this
-abbrev pub modulus : Layout → ℕ
-modulus l = l .l1 * l .nc + 1
+use lib.ListN.{getD}
 
 -- a residue is in a set: its entry is not zero
 abbrev pub In : (set : List ℕ) (r : ℕ) → Type 0
@@ -28,37 +15,3 @@ Grows entry exit = (r : ℕ) → In entry r → In exit r
 -- the residues of a set, each moved on by so much modulo m, are in another
 abbrev pub Moved : (m by : ℕ) (from to : List ℕ) → Type 0
 Moved m by from to = (r : ℕ) → r < m → In from r → In to ((r + by) % m)
-
--- f summed over the first n places
-unfoldable pub firsts : (f : ℕ → ℕ) (n : ℕ) → ℕ
-firsts f zero = 0
-firsts f (suc n) = firsts f n + f n
-
--- a received row with its tables, from which the chunk of a block in column j is read
-pub record Source (l : Layout) (y totals counts : List ℕ) (block j : ℕ) : Type 0 where
-  pub allowed : legal l ≡ true
-  pub bits : AllBits y
-  pub short : length y ≤ longest
-  pub tables : Tables y 0 totals counts
-  pub inside : block < l .l1
-  pub column : j < l .l2
-
--- with e losses left in its block the chunk's bits start here, plus the losses up to the end of the block
-abbrev pub startAt : Layout → (block j e : ℕ) → ℕ
-startAt l block j e = (block * l .l2 + j) * l .nc + e
-
--- with e losses left it can be read whole: the next nc bits of a received row of so many bits are there
-abbrev pub Legible : Layout → (size block end j e : ℕ) → Type 0
-Legible l size block end j e = Readable (l .nc) size (startAt l block j e) end e e
-
--- what it brings to the total of its chunk-string where it is read so
-unfoldable pub brings : Layout → (y : List ℕ) (block end j e : ℕ) → ℕ
-unfolding total
-brings l y block end j e = total (block * l .nc + 1) (take (l .nc) (drop (startAt l block j e - end) y))
-
--- so it is with heavy block s, where block t has left t losses left
-abbrev pub legibleIn : Layout → (size : ℕ) → Heavy → (j : ℕ) (left : ℕ → ℕ) (s : ℕ) → Type 0
-legibleIn l size heavy j left s = Legible l size (getD (heavy .block) s 0) (getD (heavy .end) s 0) j (left s)
-
-abbrev pub bringsIn : Layout → (y : List ℕ) → Heavy → (j : ℕ) (left : ℕ → ℕ) (s : ℕ) → ℕ
-bringsIn l y heavy j left s = brings l y (getD (heavy .block) s 0) (getD (heavy .end) s 0) j (left s)

@@ -6,33 +6,21 @@ ghost use mathlib.Core.Path.{_≡_};
 ghost use mathlib.Core.Bool.{true};
 ghost use mathlib.Core.List.{List};
 ghost use Prim.Native.Nat.{ℕ, _+_, _*_, _%_, _<_, _≤_};
-ghost use lib.ListN.{length, getD, take, drop};
-ghost use Rattle.bits.specs.Bits.{AllBits, longest};
-ghost use Rattle.vt.specs.Sum.{total};
+ghost use lib.ListN.{length, getD};
 ghost use Rattle.windows.specs.Windows.{Tables};
 ghost use Rattle.states.specs.States.{each};
 ghost use Rattle.column.specs.Column.{Fit, Light};
 ghost use Rattle.live.specs.Live.{Path};
-ghost use Rattle.costs.specs.Costs.{modulus, In, Grows, Moved, firsts};
-ghost use Rattle.costs.specs.Costs.{Source, Legible, brings, legibleIn, bringsIn};
+ghost use Rattle.whole.specs.Whole.{modulus, firsts, Source, Legible, brings, legibleIn, bringsIn};
+ghost use Rattle.costs.specs.Costs.{In, Grows, Moved};
 
 // The most residues that the sum of a chunk-string can have. A set has an entry for each, zero for those not in it. What
 // is proved of sets is what they hold at least: a residue too many lets a column pass, and no row is lost by that.
 const MOST: usize = 2041;
 
-// What the next w bits from place p on bring to the total of a string in which so many positions stand before them.
-fn weight(y: &[u8], totals: &[u32], counts: &[u16], p: usize, w: usize, before: usize) -> usize
-    requires { ⌜ (AllBits (now y) × (length (now y) ≤ longest)) × (Tables (now y) 0 (now totals) (now counts)
-        × ((p + w ≤ length (now y)) × (before ≤ longest))) ⌝ }
-    ensures { λ r. ⌜ r ≡ total (before + 1) (take w (drop p (now (y .entry)))) ⌝ }
-{
-    let seen = weigh::look(y, totals, counts, p, w);
-    seen.total + before * seen.ones
-}
-
 // What the chunk of a block in column j brings to the sum of its chunk-string, where it is read whole with e losses
 // left in its block; the modulus where it cannot be read so.
-fn reading(
+fn residue(
     l: Layout,
     y: &[u8],
     totals: &[u32],
@@ -46,19 +34,12 @@ fn reading(
     ensures { λ r. ⌜ (Legible l (length (now (y .entry))) block end j e
         → r ≡ brings l (now (y .entry)) block end j e % modulus l) ⌝ }
 {
-    let nc = l.nc;
-    let m = l.l1 * nc + 1;
-    let i = bits::wide(block);
-    let from = (i * l.l2 + j) * nc + e;
-    let before = bits::wide(end);
-    if from < before {
+    let m = l.l1 * l.nc + 1;
+    let read = whole::reading(l, y, totals, counts, block, end, j, e);
+    if read == whole::UNREAD {
         return m;
     }
-    let p = from - before;
-    if y.len() < p + nc {
-        return m;
-    }
-    weight(y, totals, counts, p, nc, i * nc) % m
+    read % m
 }
 
 // Puts n residues of a set, from place a on, into another, from place b on.
@@ -113,7 +94,7 @@ fn add_block(
     let mut last = m;
     let mut e: usize = 0;
     while e <= most {
-        let by = reading(l, y, totals, counts, block, end, j, e);
+        let by = residue(l, y, totals, counts, block, end, j, e);
         if by != last {
             move_in(m, by, from, to);
             last = by;

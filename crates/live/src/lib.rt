@@ -8,14 +8,16 @@ ghost use mathlib.Core.Path.{_≡_};
 ghost use mathlib.Core.Bool.{true, false};
 ghost use mathlib.Core.Logic.{_⊎_};
 ghost use mathlib.Core.List.{List};
-ghost use Prim.Native.Nat.{ℕ, _+_, _-_, _*_, _<_, _≤_};
+ghost use Prim.Native.Nat.{ℕ, _+_, _-_, _*_, _%_, _<_, _≤_};
 ghost use lib.ListN.{length, getD};
+ghost use Rattle.bits.specs.Bits.{longest};
 ghost use Rattle.windows.specs.Windows.{Tables};
 ghost use Rattle.states.specs.States.{each, Shaped};
 ghost use Rattle.column.specs.Column.{Fit, Light, Crosses, apartIn};
 ghost use Rattle.live.specs.Live.{many, Path, apartBefore, apartFrom, Covers, Through};
-ghost use Rattle.live.specs.Passes.{Ready, Within, numberOf, PutAt, entryOf, Digits, Kept, Remade, Joined};
+ghost use Rattle.live.specs.Passes.{Ready, Read, Tested, Within, numberOf, PutAt, entryOf, Digits, Kept, Remade, Joined};
 ghost use Rattle.steps.specs.Steps.{Counts};
+ghost use Rattle.whole.specs.Whole.{modulus, readSum};
 ghost use Rattle.far.specs.Far.{lefts, blockAt};
 ghost use Rattle.live.specs.Near.{CountedIn, Counted, Sized, mostIn, most, mostAfter, Floors};
 ghost use Rattle.live.specs.Passes.{mostStates, Gains, Spread, SpreadBy, Regained, Goes, OneLess, FirstMark, Pass};
@@ -735,47 +737,20 @@ fn level_of(
     level
 }
 
-// Whether the next state is marked and a row can cross column j to it.
-fn goes(
-    l: Layout,
-    y: &[u8],
-    totals: &[u32],
-    counts: &[u16],
-    numbers: &[u16],
-    heavy: Heavy,
-    known: &[u16],
-    z: &[u8],
-    j: usize,
-    left: [u8; states::MOST_HEAVY],
-    next: [u8; states::MOST_HEAVY],
-    mark: u8,
-) -> bool
-    requires { ⌜ Ready l (now y) (now totals) (now counts) (now numbers) heavy (now known) (now z) × (j < l .l2) ⌝ }
-    ensures { λ r. ⌜ ((row vs : List ℕ) → Light l heavy row (now (known .entry))
-        → Crosses l (now (y .entry)) (now (numbers .entry)) heavy row j (each left) (each next) vs → 0 < mark
-        → r ≡ true) ⌝ }
+// Whether a state is marked after column j and the column has its sum where no chunk of a heavy block loses a bit there; part is what all
+// chunks of the column bring then.
+fn stays(l: Layout, numbers: &[u16], j: usize, part: usize, mark: u8) -> bool
+    requires { ⌜ (l .l1 * l .nc ≤ longest) × ((j < l .l2) × ((l .l1 ≤ 255) × (l .l1 + l .l2 ≤ length (now numbers)))) ⌝ }
+    ensures { λ r. ⌜ (part % modulus l ≡ getD (now (numbers .entry)) (l .l1 + j) 0 → 0 < mark → r ≡ true) ⌝ }
 {
     if mark == 0 {
         return false;
     }
-    0
-        < column::crossing(
-            l,
-            y,
-            totals,
-            counts,
-            numbers,
-            heavy,
-            known,
-            z,
-            j,
-            left,
-            next,
-        )
+    part % (l.l1 * l.nc + 1) == numbers[l.l1 + j] as usize
 }
 
 // Whether a row can cross column j from state q with one loss in heavy block s, to a marked state; the marks of the
-// next column stand at base.
+// next column stand at base. Part is what all chunks of the column bring where they are read whole.
 fn loses_one(
     l: Layout,
     y: &[u8],
@@ -783,46 +758,47 @@ fn loses_one(
     counts: &[u16],
     numbers: &[u16],
     heavy: Heavy,
-    known: &[u16],
-    z: &[u8],
     shape: Shape,
+    readings: &[u16],
     j: usize,
     left: [u8; states::MOST_HEAVY],
+    part: usize,
     q: usize,
     s: usize,
     marks: &[u8],
     base: usize,
 ) -> bool
-    requires { ⌜ Ready l (now y) (now totals) (now counts) (now numbers) heavy (now known) (now z) × ((j < l .l2)
-        × (Kept heavy shape
-        × ((q < shape .states) × ((s < heavy .n) × (base + shape .states ≤ length (now marks)))))) ⌝ }
-    ensures { λ r. ⌜ ((row vs : List ℕ) (next : ℕ → ℕ) → Light l heavy row (now (known .entry))
+    requires { ⌜ Read l (now y) (now totals) (now counts) (now numbers) heavy shape (now readings) j left part
+        × ((q < shape .states) × ((s < heavy .n) × (base + shape .states ≤ length (now marks)))) ⌝ }
+    ensures { λ r. ⌜ ((row vs known : List ℕ) (next : ℕ → ℕ) → Light l heavy row known
+        → part ≡ getD known j 0 + readSum (now (readings .entry)) left (heavy .n)
         → Crosses l (now (y .entry)) (now (numbers .entry)) heavy row j (each left) next vs
         → OneLess (heavy .n) (each left) next s → getD (shape .stride) s 0 ≤ q
         → 0 < getD (now (marks .entry)) (base + (q - getD (shape .stride) s 0)) 0 → r ≡ true) ⌝ }
 {
     let down = shape.stride[s];
-    if left[s] == 0 {
+    let own = left[s];
+    if own == 0 {
         return false;
     }
     if q < down {
         return false;
     }
-    let mut next = left;
-    next[s] -= 1;
-    goes(
+    if marks[base + (q - down)] == 0 {
+        return false;
+    }
+    let reading = readings[s * whole::LEFTS + bits::wide(own)] as usize;
+    whole::can_lose_one(
         l,
         y,
         totals,
         counts,
-        numbers,
-        heavy,
-        known,
-        z,
+        heavy.block[s],
+        heavy.end[s],
         j,
-        left,
-        next,
-        marks[base + (q - down)],
+        own,
+        part - reading,
+        numbers[l.l1 + j] as usize,
     )
 }
 
@@ -834,19 +810,19 @@ fn loses(
     counts: &[u16],
     numbers: &[u16],
     heavy: Heavy,
-    known: &[u16],
-    z: &[u8],
     shape: Shape,
+    readings: &[u16],
     j: usize,
     left: [u8; states::MOST_HEAVY],
+    part: usize,
     q: usize,
     marks: &[u8],
     base: usize,
 ) -> bool
-    requires { ⌜ Ready l (now y) (now totals) (now counts) (now numbers) heavy (now known) (now z) × ((j < l .l2)
-        × (Kept heavy shape
-        × ((q < shape .states) × (base + shape .states ≤ length (now marks))))) ⌝ }
-    ensures { λ r. ⌜ ((row vs : List ℕ) (next : ℕ → ℕ) (s : ℕ) → s < heavy .n → Light l heavy row (now (known .entry))
+    requires { ⌜ Read l (now y) (now totals) (now counts) (now numbers) heavy shape (now readings) j left part
+        × ((q < shape .states) × (base + shape .states ≤ length (now marks))) ⌝ }
+    ensures { λ r. ⌜ ((row vs known : List ℕ) (next : ℕ → ℕ) (s : ℕ) → s < heavy .n → Light l heavy row known
+        → part ≡ getD known j 0 + readSum (now (readings .entry)) left (heavy .n)
         → Crosses l (now (y .entry)) (now (numbers .entry)) heavy row j (each left) next vs
         → OneLess (heavy .n) (each left) next s → getD (shape .stride) s 0 ≤ q
         → 0 < getD (now (marks .entry)) (base + (q - getD (shape .stride) s 0)) 0 → r ≡ true) ⌝ }
@@ -861,11 +837,11 @@ fn loses(
             counts,
             numbers,
             heavy,
-            known,
-            z,
             shape,
+            readings,
             j,
             left,
+            part,
             q,
             s,
             marks,
@@ -887,35 +863,22 @@ fn tested_mark(
     numbers: &[u16],
     heavy: Heavy,
     known: &[u16],
-    z: &[u8],
     shape: Shape,
     digits: &[u8],
+    readings: &[u16],
     j: usize,
     q: usize,
     marks: &[u8],
     base: usize,
 ) -> u8
-    requires { ⌜ Ready l (now y) (now totals) (now counts) (now numbers) heavy (now known) (now z) × ((j < l .l2)
-        × (Kept heavy shape × (Digits shape (now digits)
-        × ((q < shape .states) × (base + shape .states ≤ length (now marks)))))) ⌝ }
+    requires { ⌜ Tested l (now y) (now totals) (now counts) (now numbers) heavy (now known) shape (now digits) (now readings) j
+        × ((q < shape .states) × (base + shape .states ≤ length (now marks))) ⌝ }
     ensures { λ r. ⌜ FirstMark l (now (y .entry)) (now (numbers .entry)) heavy (now (known .entry)) shape j (now
         (marks .entry)) base (entryOf (now (digits .entry)) q) q 1 r ⌝ }
 {
     let left = digits_of(digits, q);
-    if goes(
-        l,
-        y,
-        totals,
-        counts,
-        numbers,
-        heavy,
-        known,
-        z,
-        j,
-        left,
-        left,
-        marks[base + q],
-    ) {
+    let part = known[j] as usize + whole::all(heavy.n, left, readings);
+    if stays(l, numbers, j, part, marks[base + q]) {
         return 255;
     }
     if loses(
@@ -925,11 +888,11 @@ fn tested_mark(
         counts,
         numbers,
         heavy,
-        known,
-        z,
         shape,
+        readings,
         j,
         left,
+        part,
         q,
         marks,
         base,
@@ -948,18 +911,17 @@ fn first_mark(
     numbers: &[u16],
     heavy: Heavy,
     known: &[u16],
-    z: &[u8],
     shape: Shape,
     digits: &[u8],
+    readings: &[u16],
     j: usize,
     q: usize,
     level: u8,
     marks: &[u8],
     base: usize,
 ) -> u8
-    requires { ⌜ Ready l (now y) (now totals) (now counts) (now numbers) heavy (now known) (now z) × ((j < l .l2)
-        × (Kept heavy shape × (Digits shape (now digits)
-        × ((q < shape .states) × (base + shape .states ≤ length (now marks)))))) ⌝ }
+    requires { ⌜ Tested l (now y) (now totals) (now counts) (now numbers) heavy (now known) shape (now digits) (now readings) j
+        × ((q < shape .states) × (base + shape .states ≤ length (now marks))) ⌝ }
     ensures { λ r. ⌜ FirstMark l (now (y .entry)) (now (numbers .entry)) heavy (now (known .entry)) shape j (now
         (marks .entry)) base (entryOf (now (digits .entry)) q) q level r ⌝ }
 {
@@ -977,9 +939,9 @@ fn first_mark(
         numbers,
         heavy,
         known,
-        z,
         shape,
         digits,
+        readings,
         j,
         q,
         marks,
@@ -1088,7 +1050,6 @@ fn complete_column(
     numbers: &[u16],
     heavy: Heavy,
     known: &[u16],
-    z: &[u8],
     shape: Shape,
     digits: &[u8],
     before: &[u8],
@@ -1099,7 +1060,7 @@ fn complete_column(
     base: usize,
     marks: &mut [u8],
 ) -> u8
-    requires { ⌜ Ready l (now y) (now totals) (now counts) (now numbers) heavy (now known) (now z) × ((j < l .l2)
+    requires { ⌜ (Fit l (now y) (now numbers) heavy × (Tables (now y) 0 (now totals) (now counts) × (l .l2 ≤ length (now known)))) × ((j < l .l2)
         × (Kept heavy shape × (Digits shape (now digits) × ((Sized (l .l2) shape (now before) × Sized (l .l2) shape (now after))
         × ((at + shape .states ≤ base) × (base + shape .states ≤ length (now marks))))))) ⌝ }
     ensures { λ r. ⌜ Remade (shape .states) at (now (marks .entry)) (now (marks .exit))
@@ -1114,6 +1075,9 @@ fn complete_column(
     let n = shape.n;
     let states = shape.states;
     let strides = shape.stride;
+    let size = shape.size;
+    let mut readings: [u16; 78] = [0; 78];
+    whole::fill(l, y, totals, counts, numbers, heavy, size, j, &mut readings);
     let mut levels: [u8; MOST_STATES] = [0; MOST_STATES];
     let mut highest: u8 = 0;
     let mut q: usize = 0;
@@ -1128,9 +1092,9 @@ fn complete_column(
             numbers,
             heavy,
             known,
-            z,
             shape,
             digits,
+            &readings,
             j,
             q,
             tested,
@@ -1155,7 +1119,6 @@ fn complete(
     numbers: &[u16],
     heavy: Heavy,
     known: &[u16],
-    z: &[u8],
     shape: Shape,
     digits: &[u8],
     before: &[u8],
@@ -1163,7 +1126,7 @@ fn complete(
     room: usize,
     marks: &mut [u8],
 ) -> bool
-    requires { ⌜ Ready l (now y) (now totals) (now counts) (now numbers) heavy (now known) (now z)
+    requires { ⌜ (Fit l (now y) (now numbers) heavy × (Tables (now y) 0 (now totals) (now counts) × (l .l2 ≤ length (now known))))
         × (Kept heavy shape × (Digits shape (now digits) × ((Sized (l .l2) shape (now before) × Sized (l .l2) shape (now after))
         × ((l .l2 + 1) * shape .states ≤ length (now marks))))) ⌝ }
     ensures { λ r. ⌜ (length (now (marks .exit)) ≡ length (now (marks .entry)))
@@ -1186,7 +1149,6 @@ fn complete(
             numbers,
             heavy,
             known,
-            z,
             shape,
             digits,
             before,
@@ -1333,7 +1295,6 @@ fn make_marks(
         numbers,
         heavy,
         known,
-        z,
         shape,
         &digits,
         before,

@@ -9,7 +9,8 @@ use borrow.Author.Count.{below-more}
 use borrow.Author.Needs.{needs}
 use lib.ListN.{length}
 use Rattle.column.proofs.Rows.{string-high}
-use Rattle.costs.specs.Costs.{modulus, Grows, Moved, Legible, brings}
+use Rattle.whole.specs.Whole.{modulus, Legible, brings}
+use Rattle.costs.specs.Costs.{Grows, Moved}
 use Rattle.costs.proofs.Sets.{moved-rest, moved-grows}
 use Rattle.costs.proofs.add_block.Statement.{statement}
 use Rattle.costs.proofs.add_block.Tie as tie
@@ -47,8 +48,8 @@ wide-requires c κs = search needs
 loop-holds : tie.Need-loop-holds Inv-loop μ-loop
 loop-holds c = ((omega arith, refl), (λ h. absurd (omega arith), λ k h. absurd (omega arith)))
 
-reading-requires : tie.Need-reading-requires Inv-loop μ-loop
-reading-requires c κs = search needs
+residue-requires : tie.Need-residue-requires Inv-loop μ-loop
+residue-requires c κs = search needs
 
 move-in-requires : tie.Need-move-in-requires Inv-loop μ-loop
 move-in-requires c κs = search needs
@@ -63,10 +64,10 @@ loop-less c = search needs
 record Turn (c : tie.Joined1 Inv-loop μ-loop) : Type 0 where
   long : length (c .if1 .to) ≡ length (c .before .before .before .loop .to)
   grows : Grows (c .before .before .before .loop .to) (c .if1 .to)
-  last : c .if1 .last ≡ c .before .reading .result
+  last : c .if1 .last ≡ c .before .residue .result
   moved : let s = begin (c .before .before .before) in
-      c .before .reading .result < modulus (s .args .l)
-      → Moved (modulus (s .args .l)) (c .before .reading .result) (s .args .from .now) (c .if1 .to)
+      c .before .residue .result < modulus (s .args .l)
+      → Moved (modulus (s .args .l)) (c .before .residue .result) (s .args .from .now) (c .if1 .to)
 
 turn : (c : tie.Joined1 Inv-loop μ-loop) → Turn c
 turn c =
@@ -105,8 +106,8 @@ loop-again c =
         below-more _ (p .loop .e)
             (λ k h r. moved-grows m (gain k) (a .from .now) (p .loop .to) (c .if1 .to) (t .grows) (i .1 .1 k h r))
             (λ r.
-            let e = c .before .reading .ensures r in
-            moved-rest m (c .before .reading .result) (gain (p .loop .e)) (a .from .now) (c .if1 .to) e
+            let e = c .before .residue .ensures r in
+            moved-rest m (c .before .residue .result) (gain (p .loop .e)) (a .from .now) (c .if1 .to) e
             (t .moved (rw e (mod-lt _ (omega arith))))),
       ),
     )
@@ -127,7 +128,7 @@ add-block-spec =
     add-m
     wide-requires
     loop-holds
-    reading-requires
+    residue-requires
     move-in-requires
     add-e
     loop-less

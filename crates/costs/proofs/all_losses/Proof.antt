@@ -8,7 +8,7 @@ use lib.ListN.{getD}
 use mir.Syntax.{w8}
 use mir.Val.{Fits}
 use Rattle.states.specs.States.{each}
-use Rattle.costs.specs.Costs.{firsts}
+use Rattle.whole.specs.Whole.{firsts}
 use borrow.Author.Needs.{needs}
 use Rattle.costs.proofs.all_losses.Statement.{statement}
 use Rattle.costs.proofs.all_losses.Tie as tie

@@ -12,7 +12,8 @@ use lib.ListN.{length, getD, length-set}
 use lib.Seq.{getD-set-same}
 use Rattle.states.specs.States.{each}
 use Rattle.column.proofs.Rows.{string-high}
-use Rattle.costs.specs.Costs.{modulus, In, firsts, legibleIn, bringsIn}
+use Rattle.whole.specs.Whole.{modulus, firsts, legibleIn, bringsIn}
+use Rattle.costs.specs.Costs.{In}
 use Rattle.costs.proofs.Sets.{next-in}
 use Rattle.costs.proofs.can_be_whole.Statement.{statement}
 use Rattle.costs.proofs.can_be_whole.Tie as tie

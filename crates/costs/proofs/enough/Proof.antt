@@ -14,8 +14,9 @@ use Rattle.states.specs.States.{each}
 use Rattle.column.specs.Column.{Light}
 use Rattle.column.proofs.Rows.{string-high}
 use Rattle.live.specs.Live.{Path}
-use Rattle.costs.specs.Costs.{firsts}
-use Rattle.costs.proofs.Costs.{firsts-fall, kept-legible, kept-sum, costs-one}
+use Rattle.whole.specs.Whole.{firsts}
+use Rattle.whole.proofs.Whole.{kept-legible}
+use Rattle.costs.proofs.Costs.{firsts-fall, kept-sum, costs-one}
 use Rattle.costs.proofs.enough.Statement.{statement}
 use Rattle.costs.proofs.enough.Tie as tie
 
@@ -59,7 +60,7 @@ loses c row vs own light path e =
     costs-one x (c .before .before .can-be-whole .result)
     (λ kept.
     c .before .before .can-be-whole .ensures (own (p .loop .j)) (p .loop .inv .1 .1 row vs own light path .0)
-    (kept-legible x kept) (kept-sum x kept (s .pre .0) inside (s .args .known .now) light))
+    (λ s h. kept-legible x s h (kept s h)) (kept-sum x kept (s .pre .0) inside (s .args .known .now) light))
     e
 
 all-losses-requires : tie.Need-all-losses-requires Inv-loop μ-loop

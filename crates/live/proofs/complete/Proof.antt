@@ -20,18 +20,24 @@ use Rattle.live.proofs.complete.Statement.{statement}
 use Rattle.live.proofs.complete.Tie as tie
 
 abbrev Inv-loop : tie.InvT-loop
-Inv-loop l y totals counts numbers heavy known z shape digits before after room marks₀ states j₀ marks j =
+Inv-loop l y totals counts numbers heavy known shape digits before after room marks₀ states j₀ marks j =
     ((j ≤ l .l2) × (length marks ≡ length marks₀)) × ((row vs : List ℕ) (own : ℕ → ℕ → ℕ) → Light l heavy row known
     → Path l y numbers heavy row (each (shape .size)) vs own
     → ((i : ℕ) → i ≤ l .l2 → room ≤ most (l .l2) before after (each (shape .size)) (own i) i (shape .n))
     → (i : ℕ) → j ≤ i → i ≤ l .l2 → 0 < getD marks (markAt shape i (own i)) 0)
 
 abbrev μ-loop : tie.MeasureT-loop
-μ-loop l y totals counts numbers heavy known z shape digits before after room marks₀ states j₀ marks j = j
+μ-loop l y totals counts numbers heavy known shape digits before after room marks₀ states j₀ marks j = j
 
--- the arguments
+-- where the function starts, seen from where the slices are known, and from the loop
+abbrev known-half : tie.After-slice-known Inv-loop μ-loop → tie.After-shared-slice-known4 Inv-loop μ-loop
+known-half c = c .before .before .before .before .before
+
+abbrev start : tie.After-slice-known Inv-loop μ-loop → tie.Start Inv-loop μ-loop
+start c = known-half c .before .before .before .before
+
 abbrev begin : tie.At-loop Inv-loop μ-loop → tie.Start Inv-loop μ-loop
-begin c = c .before .before .before .before .before .before .before .before .before .before .before .before .before .before .before
+begin c = start (c .before .before .before .before .before)
 
 -- the column of the turn and the next one stand in the slice
 places : (c : tie.In-loop Inv-loop μ-loop)
@@ -52,12 +58,12 @@ long c = c .loop .inv .0 .1 ∙ c .before .before .before .only .ensures .0 .lon
 
 mul-only : tie.Need-mul-only Inv-loop μ-loop
 mul-only c =
-    let s = c .before .before .before .before .before .before .before .before .before .before in
-    record { fits = omega (arith, s .pre .1 .1 .1 .1, s .good .1 .1 .1 .1 .1 .1 .1 .1 .1 .1 .1 .1 .1 .0) }
+    let s = start c in
+    record { fits = omega (arith, s .pre .1 .1 .1 .1, s .good .1 .1 .1 .1 .1 .1 .1 .1 .1 .1 .1 .1 .0) }
 
 only-requires : tie.Need-only-requires Inv-loop μ-loop
 only-requires c κs =
-    let s = c .before .before .before .before .before .before .before .before .before .before .before in
+    let s = start (c .before) in
     (some-state (s .pre .1 .0), omega (arith, s .pre .1 .1 .1 .1))
 
 loop-holds : tie.Need-loop-holds Inv-loop μ-loop
@@ -65,7 +71,7 @@ loop-holds c = (
   (omega arith, refl),
   λ row vs own light path far.
       let o = c .before .before in
-      let s = o .before .before .before .before .before .before .before .before .before .before .before .before in
+      let s = start (o .before .before) in
       let a = s .args in
       last-let (a .l) (a .y .now) (a .numbers .now) (a .heavy) row (a .shape) vs own (s .pre .1 .0) path (a .marks
       .now) _ (o .only .ensures .0)
@@ -80,8 +86,7 @@ mul-complete-column c = record {
   fits = omega (
     arith,
     places c,
-    begin (c .before) .good .1 .1 .1 .1 .1 .1 .1 .1 .1 .1 .1 .1 .1
-        .0,
+    begin (c .before) .good .1 .1 .1 .1 .1 .1 .1 .1 .1 .1 .1 .1 .0,
   );
 }
 
@@ -93,8 +98,7 @@ mul-complete-column-2 c = record {
   fits = omega (
     arith,
     places c,
-    begin (c .before) .good .1 .1 .1 .1 .1 .1 .1 .1 .1 .1 .1 .1 .1
-        .0,
+    begin (c .before) .good .1 .1 .1 .1 .1 .1 .1 .1 .1 .1 .1 .1 .0,
   );
 }
 

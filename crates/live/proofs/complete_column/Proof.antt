@@ -13,18 +13,40 @@ use Rattle.live.proofs.complete_column.Statement.{statement}
 use Rattle.live.proofs.complete_column.Tie as tie
 
 abbrev Inv-loop : tie.InvT-loop
-Inv-loop l y totals counts numbers heavy known z shape digits before after room j at base marks₀ columns n states strides levels₀
+Inv-loop l y totals counts numbers heavy known shape digits before after room j at base marks₀ columns n states strides readings levels₀
     most₀ q₀ marks levels highest q =
     Completing l y numbers heavy known shape j at base marks₀
     (λ left. room ≤ most columns before after (each (shape .size)) left j (shape .n)) marks levels highest q
 
 abbrev μ-loop : tie.MeasureT-loop
-μ-loop l y totals counts numbers heavy known z shape digits before after room j at base marks₀ columns n states strides levels₀
+μ-loop l y totals counts numbers heavy known shape digits before after room j at base marks₀ columns n states strides readings levels₀
     most₀ q₀ marks levels highest q = states - q
 
--- the arguments
+-- where the function starts, seen from where the slices are known, from where the readings are made, and from the loop
+abbrev known-half : tie.After-slice-known Inv-loop μ-loop → tie.After-shared-slice-known4 Inv-loop μ-loop
+known-half c = c .before .before .before .before .before
+
+abbrev first : tie.After-readings Inv-loop μ-loop → tie.Start Inv-loop μ-loop
+first c = known-half (c .before .before .before) .before .before .before .before
+
 abbrev begin : tie.At-loop Inv-loop μ-loop → tie.Start Inv-loop μ-loop
-begin c = c .before .before .before .before .before .before .before .before .before .before .before .before
+begin c = first (c .before .before .before)
+
+slice-aggregate-fill : tie.Need-slice-aggregate-fill Inv-loop μ-loop
+slice-aggregate-fill c = search needs
+
+fill-requires : tie.Need-fill-requires Inv-loop μ-loop
+fill-requires c κs =
+    let p = first c .pre in
+    let r = p .0 in
+    let kept = p .1 .1 .0 in
+    let small = p .1 .1 .1 .1 .0 .0 .small in (
+      r .0,
+      (
+        r .1 .0,
+        (p .1 .0, (λ s h. small s (omega (arith, h, kept .blocks)), omega (arith, r .0 .few))),
+      ),
+    )
 
 loop-holds : tie.Need-loop-holds Inv-loop μ-loop
 loop-holds c = completing-starts _ _ _ _ _ _ _ _ _ _ _ _ refl
@@ -32,7 +54,7 @@ loop-holds c = completing-starts _ _ _ _ _ _ _ _ _ _ _ _ refl
 add-level-of : tie.Need-add-level-of Inv-loop μ-loop
 add-level-of c =
     let s = begin (c .before .before .before) in
-    record { fits = omega (arith, s .pre .1 .1 .1 .1 .1 .1, s .good .1 .1 .1 .1 .1 .1 .1 .1 .1 .1 .1 .1 .1 .1 .1 .1 .0) }
+    record { fits = omega (arith, s .pre .1 .1 .1 .1 .1 .1, s .good .1 .1 .1 .1 .1 .1 .1 .1 .1 .1 .1 .1 .1 .1 .1 .0) }
 
 slice-read-level-of : tie.Need-slice-read-level-of Inv-loop μ-loop
 slice-read-level-of c =
@@ -44,7 +66,7 @@ level-of-requires c κs =
     let i = c .before .before .before .before in
     let p = begin i .pre in
     let t = c .before .before .before .loop-test .taken in (
-      omega (arith, p .0 .fit .few, p .1 .1 .0 .blocks),
+      omega (arith, p .0 .0 .few, p .1 .1 .0 .blocks),
       (
         omega (arith, p .1 .1 .1 .0 .long, t),
         omega (
@@ -62,48 +84,61 @@ far-level-requires c κs =
     let p = begin (t .before) .pre in
     (p .1 .1 .1 .1 .0, (omega (arith, p .1 .0), (p .1 .1 .1 .0, t .loop-test .taken)))
 
+slice-aggregate-first-mark : tie.Need-slice-aggregate-first-mark Inv-loop μ-loop
+slice-aggregate-first-mark c = search needs
+
+-- where the turn starts, seen from where the level is known
+abbrev turn : tie.After-level-of Inv-loop μ-loop → tie.In-loop Inv-loop μ-loop
+turn c = c .before .before .before .before
+
 first-mark-requires : tie.Need-first-mark-requires Inv-loop μ-loop
 first-mark-requires c κs =
-    let i = c .before .before .before .before .before .before .before in
-    let p = begin i .pre in (
-      p .0,
-      (
-        p .1 .0,
-        (
-          p .1 .1 .0,
-          (
-            p .1 .1 .1 .0,
-            (
-              c .before .before .before .before .before .before .loop-test .taken,
-              omega (arith, p .1 .1 .1 .1 .1 .1, i .loop .inv .column .long),
-            ),
-          ),
-        ),
-      ),
+    let t = turn (c .before .before .before) in
+    let i = t .before in
+    let p = begin i .pre in
+    let r = p .0 in
+    let kept = p .1 .1 .0 in
+    let f = i .before .before .fill .ensures in (
+      record {
+        fit = r .0;
+        tables = r .1 .0;
+        sums = r .1 .1;
+        column = p .1 .0;
+        kept = kept;
+        tabled = p .1 .1 .1 .0;
+        few = λ s h. p .1 .1 .1 .1 .0 .0 .small s (omega (arith, h, kept .blocks));
+        read = f .1;
+        long = omega (arith, f .0, r .0 .few);
+      },
+      (t .loop-test .taken, omega (arith, p .1 .1 .1 .1 .1 .1, i .loop .inv .column .long)),
     )
+
+-- and from where the mark is
+abbrev turned : tie.After-first-mark Inv-loop μ-loop → tie.In-loop Inv-loop μ-loop
+turned c = turn (c .before .before .before .before)
 
 array-write-levels : tie.Need-array-write-levels Inv-loop μ-loop
 array-write-levels c =
-    let i = c .before .before .before .before .before .before .before .before in
+    let i = turned c .before in
     omega (arith, i .loop .inv .long, begin i .pre .1 .1 .0 .few)
 
 add-marks : tie.Need-add-marks Inv-loop μ-loop
 add-marks c =
-    let s = begin (c .before .before .before .before .before .before .before .before) in
+    let t = turned c in
+    let s = begin (t .before) in
     record {
       fits = omega (
         arith,
-        c .before .before .before .before .before .before .before .loop-test .taken,
+        t .loop-test .taken,
         s .pre .1 .1 .1 .1 .1 .0,
         s .pre .1 .1 .1 .1 .1 .1,
-        s .good .1 .1 .1 .1 .1 .1 .1 .1 .1 .1
-            .1 .1 .1 .1 .1 .1 .0,
+        s .good .1 .1 .1 .1 .1 .1 .1 .1 .1 .1 .1 .1 .1 .1 .1 .0,
       );
     }
 
 slice-write-marks : tie.Need-slice-write-marks Inv-loop μ-loop
 slice-write-marks c =
-    let i = c .before .before .before .before .before .before .before .before in
+    let i = turned c .before in
     let p = begin i .pre .1 .1 .1 .1 .1 in
     omega (arith, p .0, p .1, i .loop .inv .column .long)
 
@@ -112,15 +147,8 @@ higher-requires c κs = search needs
 
 add-q : tie.Need-add-q Inv-loop μ-loop
 add-q c =
-    let i = c .before .before .before .before .before .before .before .before .before in
-    record {
-      fits = omega (
-        arith,
-        begin i .pre .1 .1 .0 .few,
-        c .before .before .before .before .before .before .before .before
-            .loop-test .taken,
-      );
-    }
+    let t = turned (c .before) in
+    record { fits = omega (arith, begin (t .before) .pre .1 .1 .0 .few, t .loop-test .taken) }
 
 loop-less : tie.Need-loop-less Inv-loop μ-loop
 loop-less c = search needs
@@ -128,9 +156,9 @@ loop-less c = search needs
 loop-again : tie.Need-loop-again Inv-loop μ-loop
 loop-again c =
     let f = c .before in
-    let d = f .before .before in
+    let d = f .before .before .before in
     let v = d .before in
-    let t = v .before .before .before .before in
+    let t = turn v in
     let i = t .before in
     let s = begin i in
     let p = s .pre in
@@ -169,11 +197,14 @@ complete-column-spec =
     (tie.spec
     Inv-loop
     μ-loop
+    slice-aggregate-fill
+    fill-requires
     loop-holds
     add-level-of
     slice-read-level-of
     level-of-requires
     far-level-requires
+    slice-aggregate-first-mark
     first-mark-requires
     array-write-levels
     add-marks

@@ -19,8 +19,12 @@ returns-2 c =
       one = λ row vs next s h light crosses one low v m. absurd (omega (arith, c .if2 .taken));
     }
 
+-- where the function starts, seen from where the slices are known
+abbrev known-half : tie.After-shared-slice-known8 → tie.After-shared-slice-known4
+known-half c = c .before .before .before .before
+
 tested-mark-requires : tie.Need-tested-mark-requires
-tested-mark-requires c κs = c .before .before .before .before .before .before .before .before .before .before .pre
+tested-mark-requires c κs = known-half (c .before .before) .before .before .before .before .pre
 
 returns-3 : tie.Need-returns-3
 returns-3 c =

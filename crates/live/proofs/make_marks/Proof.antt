@@ -52,7 +52,7 @@ complete-requires : tie.Need-complete-requires
 complete-requires c κs =
     let d = c .before .before .before in
     let p = begin d .pre in
-    (p .0, (p .1 .0, (d .fill-digits .ensures, (p .1 .1 .0, p .1 .1 .1 .1))))
+    ((p .0 .fit, (p .0 .tables, p .0 .long)), (p .1 .0, (d .fill-digits .ensures, (p .1 .1 .0, p .1 .1 .1 .1))))
 
 same-length : tie.Need-same-length
 same-length c = search needs

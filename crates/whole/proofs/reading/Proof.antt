@@ -1,27 +1,27 @@
--- `costs::reading` meets its contract: each test is one of what a chunk that can be read whole meets. Assumes nothing.
+-- `whole::reading` meets its contract: each test is one of what a chunk that can be read whole meets. Assumes nothing.
 use Prim.Native.Nat.{ℕ, _+_, _-_, _*_, _%_, _<_, _≤_}
 use mathlib.Core.Path.{_≡_, ap, _∙_}
-use native.Mathlib.Nat.{mul-le-mul-right}
+use native.Mathlib.Nat.{mul-le-mul, mul-le-mul-right}
 use native.Mathlib.Omega.{arith}
 use borrow.Author.Needs.{needs}
 use lib.ListN.{take, drop}
 use Rattle.vt.specs.Sum.{total}
 use Rattle.message.proofs.Legal.{legal-bounds}
 use Rattle.column.proofs.Rows.{chunk-stands, string-high}
-use Rattle.costs.specs.Costs.{startAt, brings}
-use Rattle.costs.proofs.reading.Statement.{statement}
-use Rattle.costs.proofs.reading.Tie as tie
+use Rattle.whole.specs.Whole.{startAt, brings, unread}
+use Rattle.whole.proofs.reading.Statement.{statement}
+use Rattle.whole.proofs.reading.Tie as tie
 
 -- the modulus is small
 high : (s : tie.Start) → s .args .l .l1 * s .args .l .nc ≤ 2040
 high s = string-high (s .args .l) (s .pre .0 .allowed)
 
 -- where the function starts, seen from the first call of `wide`
-abbrev begin : tie.After-struct-known → tie.Start
-begin c = c .before .before .before .before
+abbrev begin : tie.After-shared-slice-known3 → tie.Start
+begin c = c .before .before .before
 
 -- where the chunk starts
-start-is : (c : tie.After-struct-known2) → let s = begin (c .before .before) in
+start-is : (c : tie.After-struct-known) → let s = begin (c .before .before) in
     let a = s .args in
     let i = c .before .wide .result in
     ((i * a .l .l2 + a .j) * a .l .nc + a .e ≡ startAt (a .l) (a .block) (a .j) (a .e))
@@ -32,12 +32,6 @@ start-is c =
     let e = c .before .wide .ensures in
     let k = chunk-stands (a .l) (s .pre .0 .allowed) (a .block) (a .j) (s .pre .0 .inside) (s .pre .0 .column) in
     (ap (λ (i : ℕ). (i * a .l .l2 + a .j) * a .l .nc + a .e) e, rw e (k .1))
-
-mul-m : tie.Need-mul-m
-mul-m c = omega (arith, high (begin c))
-
-add-m : tie.Need-add-m
-add-m c = omega (arith, high (begin c))
 
 wide-requires : tie.Need-wide-requires
 wide-requires c κs = search needs
@@ -58,8 +52,10 @@ wide-requires-2 : tie.Need-wide-requires-2
 wide-requires-2 c κs = search needs
 
 returns : tie.Need-returns
-returns c = λ r.
-    absurd (omega (arith, r .starts, c .if1 .taken, c .before .wide2 .ensures, start-is (c .before .before) .0))
+returns c = (
+  λ r. absurd (omega (arith, r .starts, c .if1 .taken, c .before .wide2 .ensures, start-is (c .before .before) .0)),
+  omega arith,
+)
 
 add-if2 : tie.Need-add-if2
 add-if2 c =
@@ -68,16 +64,18 @@ add-if2 c =
     omega (arith, start-is q .1 .1, s .pre .1, legal-bounds (s .args .l) (s .pre .0 .allowed) .nc-high)
 
 returns-2 : tie.Need-returns-2
-returns-2 c = λ r.
-    absurd
-    (omega (
-      arith,
-      r .there,
-      c .if2 .taken,
-      c .before .if1 .left,
-      c .before .before .wide2 .ensures,
-      start-is (c .before .before .before) .0,
-    ))
+returns-2 c = (
+  λ r.
+      absurd (omega (
+        arith,
+        r .there,
+        c .if2 .taken,
+        c .before .if1 .left,
+        c .before .before .wide2 .ensures,
+        start-is (c .before .before .before) .0,
+      )),
+  omega arith,
+)
 
 -- the positions before the chunk are few
 before-low : (c : tie.Else2) → let w = c .before .before .before .before in
@@ -97,32 +95,33 @@ weight-requires c κs =
     let p = begin (c .before .before .before .before .before) .pre .0 in
     ((p .bits, p .short), (p .tables, (c .if2 .left, before-low c)))
 
-rem-result : tie.Need-rem-result
-rem-result c = search needs
-
 returns-3 : tie.Need-returns-3
 unfolding brings
-returns-3 c = λ r.
+returns-3 c =
     let b = c .before .before .before in
     let s = begin (b .before .before .before) in
     let a = s .args in
+    let i = b .before .before .wide .result in
     let place : ℕ = startAt (a .l) (a .block) (a .j) (a .e) - a .end in
-    let at : (b .before .before .wide .result * a .l .l2 + a .j) * a .l .nc + a .e - b .wide2 .result
-    ≡ place =
+    let at : (i * a .l .l2 + a .j) * a .l .nc + a .e - b .wide2 .result ≡ place =
     omega (arith, start-is (b .before) .0, b .wide2 .ensures)
     in
-    ap (λ (v : ℕ). v % (a .l .l1 * a .l .nc + 1))
-    (c .weight .ensures
-    ∙ ap (λ (p : ℕ). total (b .before .before .wide .result * a .l .nc + 1) (take (a .l .nc) (drop p (a .y .now)))) at
-    ∙ ap (λ (i : ℕ). total (i * a .l .nc + 1) (take (a .l .nc) (drop place (a .y .now))))
-    (b .before .before .wide .ensures))
+    let bounds = legal-bounds (a .l) (s .pre .0 .allowed) in
+    let few = mul-le-mul {n₁ = i * a .l .nc} {m₁ = a .l .nc} {n₂ = 2040} {m₂ = 8} (before-low (c .before)) (bounds .nc-high) in
+    let small : c .weight .result < unread = omega (arith, c .weight .ensures .1, few, mul-le-mul (bounds .nc-high) (bounds .nc-high)) in (
+      λ r. (
+        c .weight .ensures .0
+            ∙ ap (λ (p : ℕ). total (i * a .l .nc + 1) (take (a .l .nc) (drop p (a .y .now)))) at
+            ∙ ap (λ (k : ℕ). total (k * a .l .nc + 1) (take (a .l .nc) (drop place (a .y .now)))) (b .before .before .wide .ensures),
+        small,
+      ),
+      omega (arith, small),
+    )
 
 pub reading-spec : {M : Type 1} → statement M
 reading-spec =
     tie.close
     (tie.spec
-    mul-m
-    add-m
     wide-requires
     mul-from
     add-from
@@ -134,5 +133,4 @@ reading-spec =
     returns-2
     mul-weight
     weight-requires
-    rem-result
     returns-3)

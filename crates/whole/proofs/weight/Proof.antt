@@ -1,4 +1,4 @@
--- `costs::weight` meets its contract: what is seen in the window, further on by the positions before it; and every
+-- `whole::weight` meets its contract: what is seen in the window, further on by the positions before it; and every
 -- number on the way fits. Assumes nothing.
 use Prim.Native.Nat.{ℕ, _*_, _≤_}
 use mathlib.Core.Path.{ap}
@@ -8,8 +8,8 @@ use borrow.Author.Needs.{needs}
 use lib.ListN.{take, drop}
 use Rattle.bits.specs.Bits.{longest}
 use Rattle.windows.proofs.Windows.{total-on}
-use Rattle.costs.proofs.weight.Statement.{statement}
-use Rattle.costs.proofs.weight.Tie as tie
+use Rattle.whole.proofs.weight.Statement.{statement}
+use Rattle.whole.proofs.weight.Tie as tie
 
 -- the start of a call that has looked
 abbrev begin : tie.After-look → tie.Start
@@ -42,7 +42,10 @@ returns c =
     let a = begin m .args in
     let seen = m .look .ensures in
     let x = take (a .w) (drop (a .p) (a .y .now)) in
-    omega (arith, seen .positions, ap (λ (n : ℕ). a .before * n) (seen .count), total-on (a .before) x)
+    let few = mul-le-mul {n₁ = a .before} {m₁ = m .look .result .ones} {n₂ = a .before} {m₂ = a .w} (omega arith) (seen .count-small) in (
+      omega (arith, seen .positions, ap (λ (n : ℕ). a .before * n) (seen .count), total-on (a .before) x),
+      omega (arith, few, seen .positions-small),
+    )
 
 pub weight-spec : {M : Type 1} → statement M
 weight-spec = tie.close (tie.spec look-requires mul-result add-result returns)
