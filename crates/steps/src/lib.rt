@@ -62,7 +62,8 @@ fn raise_one(
     apart: u8,
     fresh: &mut [u8],
 )
-    requires { ⌜ ((need < modulus) × (modulus ≤ longest + 1)) × ((span .low ≤ 6 * chunkTop) × (q < length (now fresh))) ⌝ }
+    requires { ⌜ ((need < modulus) × (modulus ≤ longest + 1))
+        × ((span .low ≤ 6 * chunkTop) × (q < length (now fresh))) ⌝ }
     ensures { λ _. ⌜ Raises (now (fresh .entry)) (now (fresh .exit)) × ((n : ℕ) → span .low ≤ 2 * n → 2 * n ≤ span .high
         → n % modulus ≡ need → 0 < mark → Above there apart (getD (now (fresh .exit)) q 0)) ⌝ }
 {

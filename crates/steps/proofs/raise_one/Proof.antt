@@ -24,7 +24,7 @@ slice-read-if2 c = search needs
 returns-2 : tie.Need-returns-2
 returns-2 c =
     let w = c .before .before in
-    (raises-same _, λ n a b e m. above-more _ _ _ _ (c .if2 .taken) (w .above .ensures))
+    (raises-same _, λ n a b e m. above-more _ _ _ _ (omega (arith, c .if2 .taken)) (w .above .ensures))
 
 reaches-requires : tie.Need-reaches-requires
 reaches-requires c κs =
