@@ -9,11 +9,11 @@ use native.Mathlib.Omega.{arith}
 use lib.ListN.{length, getD, set, length-set}
 use lib.Seq.{getD-set-same, getD-set-other}
 use Rattle.message.specs.declared.Layout.{Layout}
-use Rattle.states.specs.States.{stride, state, each}
+use Rattle.states.specs.States.{mostStates, stride, state, each}
 use Rattle.states.specs.declared.Shape.{Shape}
 use Rattle.states.proofs.States.{stride-pos, state-same, state-lowered}
 use Rattle.column.specs.declared.Heavy.{Heavy}
-use Rattle.live.specs.Passes.{mostStates, Within, numberOf, Kept, Remade, Goes, FirstMark}
+use Rattle.live.specs.Passes.{Within, numberOf, Kept, Remade, Goes, FirstMark}
 use Rattle.live.proofs.Columns.{remade-none, remade-set}
 use Rattle.live.proofs.Levels.{Above, Levels, level-or, levels-next}
 use Rattle.live.proofs.Steps.{crosses-same}

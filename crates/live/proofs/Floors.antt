@@ -6,12 +6,12 @@ use native.Mathlib.Decide.{ℕ-discrete}
 use native.Mathlib.Omega.{arith}
 use lib.ListN.{length, getD, set, replicate, length-set, length-replicate, getD-replicate}
 use lib.Seq.{getD-set-same, getD-set-other}
-use Rattle.states.specs.States.{stride, each}
+use Rattle.states.specs.States.{mostStates, stride, each}
 use Rattle.states.specs.declared.Shape.{Shape}
 use Rattle.states.proofs.States.{state-low}
 use Rattle.live.specs.Live.{many}
 use Rattle.live.specs.Near.{mostAfter, Floors}
-use Rattle.live.specs.Passes.{mostStates, Digits, entryOf}
+use Rattle.live.specs.Passes.{Digits, entryOf}
 use Rattle.live.proofs.Near.{after-same}
 
 -- no floors are low

@@ -6,12 +6,12 @@ use mathlib.Core.Bool.{Bool, true, false}
 use mathlib.Core.List.{List}
 use lib.ListN.{length, getD}
 use Rattle.message.specs.declared.Layout.{Layout}
-use Rattle.states.specs.States.{each}
+use Rattle.states.specs.States.{mostStates, each}
 use Rattle.states.specs.declared.Shape.{Shape}
 use Rattle.column.specs.declared.Heavy.{Heavy}
 use Rattle.far.specs.Far.{lefts, Covered, stepAt, blockAt}
 use Rattle.live.specs.Live.{many}
-use Rattle.live.specs.Passes.{mostStates, Within, numberOf}
+use Rattle.live.specs.Passes.{Within, numberOf}
 
 -- a table of what rows count in each heavy block: ahead, in the columns before each, by the losses used; otherwise from each on, by the
 -- losses left

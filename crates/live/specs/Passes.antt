@@ -7,16 +7,12 @@ use mathlib.Core.List.{List}
 use lib.ListN.{length, getD}
 use Rattle.windows.specs.Windows.{Tables}
 use Rattle.message.specs.declared.Layout.{Layout}
-use Rattle.states.specs.States.{state, each, Shaped}
+use Rattle.states.specs.States.{mostStates, state, each, Shaped}
 use Rattle.states.specs.declared.Shape.{Shape}
 use Rattle.column.specs.Column.{Fit, Light, Crosses, apartIn}
 use Rattle.column.specs.declared.Heavy.{Heavy}
 use Rattle.whole.specs.Whole.{entryAt, Readings, readSum}
 use Rattle.live.specs.Live.{Covers, Path, apartFrom, Through}
-
--- the most loss states whose marks are kept
-abbrev pub mostStates : ℕ
-mostStates = 729
 
 -- all that is read to make the marks
 pub record Ready (l : Layout) (y totals counts numbers : List ℕ) (heavy : Heavy) (known z : List ℕ) : Type 0 where
@@ -55,31 +51,16 @@ pub record Kept (heavy : Heavy) (shape : Shape) : Type 0 where
   pub few : shape .states ≤ mostStates
   pub shaped : Shaped (shape .n) (shape .size) (shape .stride) (shape .states)
 
--- a column as it is tested: the heavy blocks of a received row, and what their chunks there bring where they are read whole
-pub record Read (l : Layout) (y totals counts numbers : List ℕ) (heavy : Heavy) (shape : Shape) (readings : List ℕ) (j : ℕ)
-    (left : List ℕ) (part : ℕ) : Type 0 where
-  pub fit : Fit l y numbers heavy
-  pub tables : Tables y 0 totals counts
-  pub column : j < l .l2
-  pub kept : Kept heavy shape
-  pub few : (s : ℕ) → s < heavy .n → each left s < 13
-  pub within : (s : ℕ) → s < heavy .n → each left s ≤ each (shape .size) s
-  pub read : Readings l y heavy (shape .size) j readings
-  pub long : entryAt (heavy .n) 0 ≤ length readings
-  pub enough : readSum readings left (heavy .n) ≤ part
-
--- the same for all loss states
-pub record Tested (l : Layout) (y totals counts numbers : List ℕ) (heavy : Heavy) (known : List ℕ) (shape : Shape)
-    (digits readings : List ℕ) (j : ℕ) : Type 0 where
-  pub fit : Fit l y numbers heavy
-  pub tables : Tables y 0 totals counts
-  pub sums : l .l2 ≤ length known
-  pub column : j < l .l2
-  pub kept : Kept heavy shape
-  pub tabled : Digits shape digits
-  pub few : (s : ℕ) → s < heavy .n → each (shape .size) s < 13
-  pub read : Readings l y heavy (shape .size) j readings
-  pub long : entryAt (heavy .n) 0 ≤ length readings
+-- a column as it is read: the heavy blocks of a received row, and what their chunks there bring where they are read whole
+pub record Read (l : Layout) (y totals counts numbers : List ℕ) (heavy : Heavy) (shape : Shape) (readings : List ℕ) (j : ℕ) : Type 0
+  where
+    pub fit : Fit l y numbers heavy
+    pub tables : Tables y 0 totals counts
+    pub column : j < l .l2
+    pub kept : Kept heavy shape
+    pub few : (s : ℕ) → s < heavy .n → each (shape .size) s < 13
+    pub read : Readings l y heavy (shape .size) j readings
+    pub long : entryAt (heavy .n) 0 ≤ length readings
 
 -- the marks of one column, at a place, are made anew; nothing else is changed
 pub record Remade (states at : ℕ) (entry exit : List ℕ) : Type 0 where

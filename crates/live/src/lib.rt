@@ -12,20 +12,17 @@ ghost use Prim.Native.Nat.{ℕ, _+_, _-_, _*_, _%_, _<_, _≤_};
 ghost use lib.ListN.{length, getD};
 ghost use Rattle.bits.specs.Bits.{longest};
 ghost use Rattle.windows.specs.Windows.{Tables};
-ghost use Rattle.states.specs.States.{each, Shaped};
+ghost use Rattle.states.specs.States.{mostStates, each, Shaped};
 ghost use Rattle.column.specs.Column.{Fit, Light, Crosses, apartIn};
 ghost use Rattle.live.specs.Live.{many, Path, apartBefore, apartFrom, Covers, Through};
-ghost use Rattle.live.specs.Passes.{Ready, Read, Tested, Within, numberOf, PutAt, entryOf, Digits, Kept, Remade, Joined};
+ghost use Rattle.live.specs.Passes.{Ready, Read, Within, numberOf, PutAt, entryOf, Digits, Kept, Remade, Joined};
 ghost use Rattle.steps.specs.Steps.{Counts};
 ghost use Rattle.whole.specs.Whole.{modulus, readSum};
 ghost use Rattle.far.specs.Far.{lefts, blockAt};
 ghost use Rattle.live.specs.Near.{CountedIn, Counted, Sized, mostIn, most, mostAfter, Floors};
-ghost use Rattle.live.specs.Passes.{mostStates, Gains, Spread, SpreadBy, Regained, Goes, OneLess, FirstMark, Pass};
+ghost use Rattle.live.specs.Passes.{Gains, Spread, SpreadBy, Regained, Goes, OneLess, FirstMark, Pass};
 
-// The most loss states whose marks are kept.
-const MOST_STATES: usize = 729;
-
-// As many counts of marked states, one below each state and one of all.
+// One count more than states: of the marked states below each, and of all.
 const MOST_COUNTS: usize = 730;
 
 // From here on a mark says nothing of a number.
@@ -420,7 +417,7 @@ fn remake(
     ahead: bool,
     at: usize,
     base: usize,
-    floors: [u8; MOST_STATES],
+    floors: [u8; states::MOST_STATES],
     marks: &mut [u8],
 ) -> u8
     requires { ⌜ Ready l (now y) (now totals) (now counts) (now numbers) heavy (now known) (now z) × ((j < l .l2)
@@ -549,14 +546,14 @@ fn floors_of(
     j: usize,
     marks: &[u8],
     at: usize,
-) -> [u8; MOST_STATES]
+) -> [u8; states::MOST_STATES]
     requires { ⌜ Sized columns shape (now after) × ((j ≤ columns) × (Digits shape (now digits)
         × ((Shaped (shape .n) (shape .size) (shape .stride) (shape .states) × (shape .states ≤ mostStates))
         × (at + shape .states ≤ length (now marks))))) ⌝ }
     ensures { λ r. ⌜ Floors columns shape (now (after .entry)) room j r ⌝ }
 {
     let states = shape.states;
-    let mut floors: [u8; MOST_STATES] = [0; MOST_STATES];
+    let mut floors: [u8; states::MOST_STATES] = [0; states::MOST_STATES];
     let mut q: usize = 0;
     while q < states {
         floors[q] = floor_of(columns, shape, digits, after, room, j, q, marks[at + q]);
@@ -645,7 +642,7 @@ fn back(
         (apartFrom l heavy (now (z .entry))) (now (marks .entry)) (now (marks .exit)) ⌝ }
 {
     let states = shape.states;
-    let none: [u8; MOST_STATES] = [0; MOST_STATES];
+    let none: [u8; states::MOST_STATES] = [0; states::MOST_STATES];
     let mut j = l.l2;
     only(states, j * states, 0, 1, marks);
     while 0 < j {
@@ -714,7 +711,7 @@ fn level_of(
     strides: &[usize; states::MOST_HEAVY],
     digits: &[u8],
     q: usize,
-    levels: &[u8; MOST_STATES],
+    levels: &[u8; states::MOST_STATES],
     next: u8,
 ) -> u8
     requires { ⌜ (n ≤ 6) × ((q * 6 + 6 ≤ length (now digits)) × (q < 729)) ⌝ }
@@ -768,7 +765,8 @@ fn loses_one(
     marks: &[u8],
     base: usize,
 ) -> bool
-    requires { ⌜ Read l (now y) (now totals) (now counts) (now numbers) heavy shape (now readings) j left part
+    requires { ⌜ (Read l (now y) (now totals) (now counts) (now numbers) heavy shape (now readings) j
+        × (((t : ℕ) → t < heavy .n → getD left t 0 ≤ each (shape .size) t) × (readSum (now readings) left (heavy .n) ≤ part)))
         × ((q < shape .states) × ((s < heavy .n) × (base + shape .states ≤ length (now marks)))) ⌝ }
     ensures { λ r. ⌜ ((row vs known : List ℕ) (next : ℕ → ℕ) → Light l heavy row known
         → part ≡ getD known j 0 + readSum (now (readings .entry)) left (heavy .n)
@@ -819,7 +817,8 @@ fn loses(
     marks: &[u8],
     base: usize,
 ) -> bool
-    requires { ⌜ Read l (now y) (now totals) (now counts) (now numbers) heavy shape (now readings) j left part
+    requires { ⌜ (Read l (now y) (now totals) (now counts) (now numbers) heavy shape (now readings) j
+        × (((t : ℕ) → t < heavy .n → getD left t 0 ≤ each (shape .size) t) × (readSum (now readings) left (heavy .n) ≤ part)))
         × ((q < shape .states) × (base + shape .states ≤ length (now marks))) ⌝ }
     ensures { λ r. ⌜ ((row vs known : List ℕ) (next : ℕ → ℕ) (s : ℕ) → s < heavy .n → Light l heavy row known
         → part ≡ getD known j 0 + readSum (now (readings .entry)) left (heavy .n)
@@ -871,7 +870,8 @@ fn tested_mark(
     marks: &[u8],
     base: usize,
 ) -> u8
-    requires { ⌜ Tested l (now y) (now totals) (now counts) (now numbers) heavy (now known) shape (now digits) (now readings) j
+    requires { ⌜ (Read l (now y) (now totals) (now counts) (now numbers) heavy shape (now readings) j
+        × ((l .l2 ≤ length (now known)) × Digits shape (now digits)))
         × ((q < shape .states) × (base + shape .states ≤ length (now marks))) ⌝ }
     ensures { λ r. ⌜ FirstMark l (now (y .entry)) (now (numbers .entry)) heavy (now (known .entry)) shape j (now
         (marks .entry)) base (entryOf (now (digits .entry)) q) q 1 r ⌝ }
@@ -920,7 +920,8 @@ fn first_mark(
     marks: &[u8],
     base: usize,
 ) -> u8
-    requires { ⌜ Tested l (now y) (now totals) (now counts) (now numbers) heavy (now known) shape (now digits) (now readings) j
+    requires { ⌜ (Read l (now y) (now totals) (now counts) (now numbers) heavy shape (now readings) j
+        × ((l .l2 ≤ length (now known)) × Digits shape (now digits)))
         × ((q < shape .states) × (base + shape .states ≤ length (now marks))) ⌝ }
     ensures { λ r. ⌜ FirstMark l (now (y .entry)) (now (numbers .entry)) heavy (now (known .entry)) shape j (now
         (marks .entry)) base (entryOf (now (digits .entry)) q) q level r ⌝ }
@@ -1078,7 +1079,7 @@ fn complete_column(
     let size = shape.size;
     let mut readings: [u16; 78] = [0; 78];
     whole::fill(l, y, totals, counts, numbers, heavy, size, j, &mut readings);
-    let mut levels: [u8; MOST_STATES] = [0; MOST_STATES];
+    let mut levels: [u8; states::MOST_STATES] = [0; states::MOST_STATES];
     let mut highest: u8 = 0;
     let mut q: usize = 0;
     while q < states {
@@ -1409,7 +1410,7 @@ pub fn prepare(
         × (r .kept ≡ true → Through l (r .shape) (now (marks .exit)) own (apartFrom l heavy (now (z .entry)) vs)))) ⌝ }
 {
     let shape = states::shape_of(heavy.n, size);
-    if MOST_STATES < shape.states {
+    if states::MOST_STATES < shape.states {
         return Prepared {
             shape,
             kept: false,

@@ -7,10 +7,10 @@ use mathlib.Core.List.{List}
 use native.Mathlib.Omega.{arith}
 use borrow.Author.Needs.{needs}
 use lib.ListN.{length, replicate, getD-replicate}
-use Rattle.states.specs.States.{each}
+use Rattle.states.specs.States.{mostStates, each}
 use Rattle.column.specs.Column.{Light}
 use Rattle.live.specs.Live.{Path, apartFrom}
-use Rattle.live.specs.Passes.{mostStates, numberOf}
+use Rattle.live.specs.Passes.{numberOf}
 use Rattle.live.proofs.Columns.{two-columns}
 use Rattle.live.proofs.Floors.{no-floors}
 use Rattle.live.proofs.Paths.{Lets, Passing, passing-first, passing-next, passing-through, split-down}

@@ -99,17 +99,18 @@ first-mark-requires c κs =
     let r = p .0 in
     let kept = p .1 .1 .0 in
     let f = i .before .before .fill .ensures in (
-      record {
-        fit = r .0;
-        tables = r .1 .0;
-        sums = r .1 .1;
-        column = p .1 .0;
-        kept = kept;
-        tabled = p .1 .1 .1 .0;
-        few = λ s h. p .1 .1 .1 .1 .0 .0 .small s (omega (arith, h, kept .blocks));
-        read = f .1;
-        long = omega (arith, f .0, r .0 .few);
-      },
+      (
+        record {
+          fit = r .0;
+          tables = r .1 .0;
+          column = p .1 .0;
+          kept = kept;
+          few = λ s h. p .1 .1 .1 .1 .0 .0 .small s (omega (arith, h, kept .blocks));
+          read = f .1;
+          long = omega (arith, f .0, r .0 .few);
+        },
+        (r .1 .1, p .1 .1 .1 .0),
+      ),
       (t .loop-test .taken, omega (arith, p .1 .1 .1 .1 .1 .1, i .loop .inv .column .long)),
     )
 

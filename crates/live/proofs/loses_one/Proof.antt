@@ -28,12 +28,12 @@ mul-down : tie.Need-mul-down
 mul-down c = search needs
 
 element-copy-out-down : tie.Need-element-copy-out-down
-element-copy-out-down c = omega (arith, begin c .pre .1 .1 .0, begin c .pre .0 .fit .few)
+element-copy-out-down c = omega (arith, begin c .pre .1 .1 .0, begin c .pre .0 .0 .fit .few)
 
 array-read-own : tie.Need-array-read-own
 array-read-own c =
     let s = begin (c .before) in
-    omega (arith, s .pre .1 .1 .0, s .pre .0 .fit .few)
+    omega (arith, s .pre .1 .1 .0, s .pre .0 .0 .fit .few)
 
 returns : tie.Need-returns
 returns c row vs known next light sum crosses one low mark = absurd (omega (arith, c .if1 .taken, one .0))
@@ -68,8 +68,9 @@ stands c =
     let a = s .args in
     let h = s .pre .1 .1 .0 in
     let room = mul-le-mul-right {m = a .s + 1} {n = a .t6 .n} 13 (omega (arith, h)) in
-    let low = s .pre .0 .few (a .s) h in
-    (omega (arith, room, low, c .wide .ensures, s .pre .0 .long), omega (arith, low, c .wide .ensures, h, s .pre .0 .fit .few))
+    let read = s .pre .0 .0 in
+    let low : getD (a .t10) (a .s) 0 < 13 = omega (arith, s .pre .0 .1 .0 (a .s) h, read .few (a .s) h) in
+    (omega (arith, room, low, c .wide .ensures, read .long), omega (arith, low, c .wide .ensures, h, s .pre .0 .0 .fit .few))
 
 add-reading : tie.Need-add-reading
 add-reading c = record { fits = omega (arith, stands c .1) }
@@ -103,7 +104,7 @@ element-copy-out-can-lose-one-2 c = search needs
 sub-can-lose-one : tie.Need-sub-can-lose-one
 sub-can-lose-one c =
     let r = c .before .before in
-    omega (arith, entry r .0, entry r .1, taken r .pre .0 .enough)
+    omega (arith, entry r .0, entry r .1, taken r .pre .0 .1 .1)
 
 add-can-lose-one : tie.Need-add-can-lose-one
 add-can-lose-one c = search needs
@@ -123,7 +124,7 @@ can-lose-one-requires : tie.Need-can-lose-one-requires
 can-lose-one-requires c κs =
     let r = c .before .before .before .before in
     let s = taken r in
-    let p = s .pre .0 in
+    let p = s .pre .0 .0 in
     let f = p .fit in
     let some = r .before .before .before .before .before .if1 .left in (
       record {
@@ -142,14 +143,14 @@ returns-4 c row vs known next light sum crosses one low mark =
     let r = c .before .before .before .before .before in
     let s = taken r in
     let a = s .args in
-    let p = s .pre .0 in
+    let p = s .pre .0 .0 in
     let h = s .pre .1 .1 .0 in
     let tab : ℕ → ℕ = λ t. getD (a .readings .now) (entryAt t (getD (a .t10) t 0)) 0 in
     let own = weightOf crosses in
     let but = firsts-but tab own (a .t6 .n) (a .s) h
     (λ t k d.
     let kept = one .1 t k d in
-    p .read t (getD (a .t10) t 0) k (p .within t k) (kept-legible crosses t k kept) ∙ sym (kept-read crosses t k kept)) in
+    p .read t (getD (a .t10) t 0) k (s .pre .0 .1 .0 t k) (kept-legible crosses t k kept) ∙ sym (kept-read crosses t k kept)) in
     let e : a .part - getD (a .readings .now) (a .s * 13 + r .before .wide .result) 0 + own (a .s)
     ≡ getD known (a .j) 0 + firsts own (a .t6 .n) =
     omega (arith, sum, but, entry r .0, entry r .1)

@@ -5,7 +5,7 @@ use mathlib.Core.Path.{_≡_, refl, sym, _∙_}
 use native.Mathlib.Omega.{arith}
 use borrow.Author.Needs.{needs}
 use lib.ListN.{length}
-use Rattle.live.specs.Passes.{mostStates}
+use Rattle.states.specs.States.{mostStates}
 use Rattle.live.proofs.Steps.{covers-kept, number-low}
 use Rattle.live.proofs.Columns.{Remaking, remaking-starts, remaking-next}
 use Rattle.live.proofs.remake.Statement.{statement}

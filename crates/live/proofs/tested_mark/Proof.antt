@@ -30,15 +30,15 @@ left-is : (c : tie.After-digits-of) → let a = begin c .args in (s : ℕ) → s
     → (entryOf (a .digits .now) (a .q) s ≡ each (c .digits-of .result) s) × (each (c .digits-of .result) s ≤ each (a .shape .size) s)
 left-is c s h =
     let p = begin c .pre in
-    let t = p .0 in
+    let t = p .0 .0 in
     let e = c .digits-of .ensures s (omega (arith, h, t .fit .few)) in
-    let low = entry-low (t .kept .shaped .all) (t .tabled) (begin c .args .q) (p .1 .0) s (omega (arith, h, t .kept .blocks)) in
+    let low = entry-low (t .kept .shaped .all) (p .0 .1 .1) (begin c .args .q) (p .1 .0) s (omega (arith, h, t .kept .blocks)) in
     (sym e, omega (arith, e, low))
 
 digits-of-requires : tie.Need-digits-of-requires
 digits-of-requires c κs =
     let p = start c .pre in
-    omega (arith, p .0 .tabled .long, p .1 .0)
+    omega (arith, p .0 .1 .1 .long, p .1 .0)
 
 mul-part : tie.Need-mul-part
 mul-part c = search needs
@@ -46,7 +46,7 @@ mul-part c = search needs
 shared-slice-read-part : tie.Need-shared-slice-read-part
 shared-slice-read-part c =
     let p = begin (c .before) .pre .0 in
-    omega (arith, p .sums, p .column)
+    omega (arith, p .1 .0, p .0 .column)
 
 cast-part : tie.Need-cast-part
 cast-part c = omega (arith, c .shared-slice-known9 .given (begin (c .before) .args .j))
@@ -54,14 +54,14 @@ cast-part c = omega (arith, c .shared-slice-known9 .given (begin (c .before) .ar
 all-requires : tie.Need-all-requires
 all-requires c κs =
     let d = c .before in
-    let p = begin d .pre .0 in
+    let p = begin d .pre .0 .0 in
     (p .fit .few, (λ s h. omega (arith, left-is d s h .1, p .few s h), p .long))
 
 add-part : tie.Need-add-part
 add-part c =
     let d = c .before .before in
     record {
-      fits = omega (arith, c .all .ensures .1, begin d .pre .0 .fit .few, c .before .shared-slice-known9 .given (begin d .args .j));
+      fits = omega (arith, c .all .ensures .1, begin d .pre .0 .0 .fit .few, c .before .shared-slice-known9 .given (begin d .args .j));
     }
 
 add-stays : tie.Need-add-stays
@@ -77,9 +77,9 @@ shared-slice-read-stays c =
 stays-requires : tie.Need-stays-requires
 stays-requires c κs =
     let s = begin (c .before .before .before) in
-    let f = s .pre .0 .fit in
+    let f = s .pre .0 .0 .fit in
     let l = s .args .l in
-    (string-high l (f .allowed), (s .pre .0 .column, (sizes l (legal-bounds l (f .allowed)) .l1-high, f .sums)))
+    (string-high l (f .allowed), (s .pre .0 .0 .column, (sizes l (legal-bounds l (f .allowed)) .l1-high, f .sums)))
 
 returns : tie.Need-returns
 returns c =
@@ -93,19 +93,8 @@ loses-requires : tie.Need-loses-requires
 loses-requires c κs =
     let u = c .before .before .before in
     let d = u .before .before in
-    let p = begin d .pre in
-    let t = p .0 in (
-      record {
-        fit = t .fit;
-        tables = t .tables;
-        column = t .column;
-        kept = t .kept;
-        few = λ s h. omega (arith, left-is d s h .1, t .few s h);
-        within = λ s h. left-is d s h .1;
-        read = t .read;
-        long = t .long;
-        enough = omega (arith, u .all .ensures .0);
-      },
+    let p = begin d .pre in (
+      (p .0 .0, (λ s h. left-is d s h .1, omega (arith, u .all .ensures .0))),
       (p .1 .0, p .1 .1),
     )
 
@@ -124,7 +113,7 @@ returns-3 c =
     let d = u .before .before in
     let s = begin d in
     let a = s .args in
-    let t = s .pre .0 in
+    let t = s .pre .0 .0 in
     let found = each (d .digits-of .result) in
     let left = entryOf (a .digits .now) (a .q) in
     let same-left : (k : ℕ) → k < a .heavy .n → left k ≡ found k = λ k h. left-is d k h .0 in
