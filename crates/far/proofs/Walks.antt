@@ -11,7 +11,8 @@ use lib.ListN.{length, getD, set, length-set}
 use lib.Seq.{getD-set-same, getD-set-other}
 use Rattle.message.specs.declared.Layout.{Layout}
 use Rattle.column.specs.declared.Heavy.{Heavy}
-use Rattle.far.specs.Far.{lefts, columnOf, leftOf, Reads, readApart, Walk, stepAt, Covered, Stepped}
+use Rattle.states.specs.States.{lefts}
+use Rattle.far.specs.Far.{columnOf, leftOf, Reads, readApart, Walk, stepAt, Covered, Stepped}
 
 module _ (l : Layout) (y : List ℕ) (heavy : Heavy) (z : List ℕ) (s size : ℕ) (ahead : Bool) (at : ℕ)
     (small : size < lefts) where

@@ -10,12 +10,9 @@ use lib.ListN.{length, getD, drop}
 use Rattle.bits.specs.Bits.{AllBits, longest, number}
 use Rattle.message.specs.Layout.{legal}
 use Rattle.message.specs.declared.Layout.{Layout}
+use Rattle.states.specs.States.{lefts}
 use Rattle.column.specs.Column.{chunkAt}
 use Rattle.column.specs.declared.Heavy.{Heavy}
-
--- the numbers of losses that are told apart, none to twelve
-abbrev pub lefts : ℕ
-lefts = 13
 
 -- the column of step t, and the losses left where so many are counted
 abbrev pub columnOf : (ahead : Bool) (columns t : ℕ) → ℕ

@@ -5,12 +5,10 @@ use message::Layout;
 ghost use mathlib.Core.Path.{_≡_};
 ghost use Prim.Native.Nat.{ℕ, _+_, _*_, _<_, _≤_};
 ghost use lib.ListN.{length, getD};
+ghost use Rattle.states.specs.States.{lefts};
 ghost use Rattle.column.specs.Column.{Fit};
-ghost use Rattle.far.specs.Far.{lefts, columnOf, leftOf, Reads, readApart, Asked};
+ghost use Rattle.far.specs.Far.{columnOf, leftOf, Reads, readApart, Asked};
 ghost use Rattle.far.specs.Far.{stepAt, Stepped, Swept, Covered, blockAt};
-
-// The numbers of losses that are told apart, none to twelve.
-pub const LEFTS: usize = 13;
 
 // One where the chunk of heavy block s in column j, read whole where e losses are left, is another than in z.
 fn read_apart(
@@ -94,8 +92,8 @@ fn next_step(
     ensures { λ _. ⌜ Stepped l (now (y .entry)) heavy (now (z .entry)) s size ahead at t
         (now (table .entry)) (now (table .exit)) ⌝ }
 {
-    let from = at + t * LEFTS;
-    let to = from + LEFTS;
+    let from = at + t * states::LEFTS;
+    let to = from + states::LEFTS;
     let mut most: u8 = 0;
     let mut w: usize = 0;
     while w <= size {
@@ -165,7 +163,7 @@ pub fn fill(
         × (length (now (table .exit)) ≡ length (now (table .entry))) ⌝ }
 {
     let n = heavy.n;
-    let stride = (l.l2 + 1) * LEFTS;
+    let stride = (l.l2 + 1) * states::LEFTS;
     let mut s: usize = 0;
     while s < n {
         sweep(

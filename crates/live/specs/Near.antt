@@ -6,10 +6,10 @@ use mathlib.Core.Bool.{Bool, true, false}
 use mathlib.Core.List.{List}
 use lib.ListN.{length, getD}
 use Rattle.message.specs.declared.Layout.{Layout}
-use Rattle.states.specs.States.{mostStates, each}
+use Rattle.states.specs.States.{mostStates, lefts, each}
 use Rattle.states.specs.declared.Shape.{Shape}
 use Rattle.column.specs.declared.Heavy.{Heavy}
-use Rattle.far.specs.Far.{lefts, Covered, stepAt, blockAt}
+use Rattle.far.specs.Far.{Covered, stepAt, blockAt}
 use Rattle.live.specs.Live.{many}
 use Rattle.live.specs.Passes.{Within, numberOf}
 

@@ -7,7 +7,7 @@ use mathlib.Core.List.{List}
 use lib.ListN.{length, getD}
 use Rattle.windows.specs.Windows.{Tables}
 use Rattle.message.specs.declared.Layout.{Layout}
-use Rattle.states.specs.States.{mostStates, state, each, Shaped}
+use Rattle.states.specs.States.{mostStates, lefts, state, each, Shaped}
 use Rattle.states.specs.declared.Shape.{Shape}
 use Rattle.column.specs.Column.{Fit, Light, Crosses, apartIn}
 use Rattle.column.specs.declared.Heavy.{Heavy}
@@ -58,7 +58,7 @@ pub record Read (l : Layout) (y totals counts numbers : List ℕ) (heavy : Heavy
     pub tables : Tables y 0 totals counts
     pub column : j < l .l2
     pub kept : Kept heavy shape
-    pub few : (s : ℕ) → s < heavy .n → each (shape .size) s < 13
+    pub few : (s : ℕ) → s < heavy .n → each (shape .size) s < lefts
     pub read : Readings l y heavy (shape .size) j readings
     pub long : entryAt (heavy .n) 0 ≤ length readings
 

@@ -12,13 +12,13 @@ ghost use Prim.Native.Nat.{ℕ, _+_, _-_, _*_, _%_, _<_, _≤_};
 ghost use lib.ListN.{length, getD};
 ghost use Rattle.bits.specs.Bits.{longest};
 ghost use Rattle.windows.specs.Windows.{Tables};
-ghost use Rattle.states.specs.States.{mostStates, each, Shaped};
+ghost use Rattle.states.specs.States.{mostStates, lefts, each, Shaped};
 ghost use Rattle.column.specs.Column.{Fit, Light, Crosses, apartIn};
 ghost use Rattle.live.specs.Live.{many, Path, apartBefore, apartFrom, Covers, Through};
 ghost use Rattle.live.specs.Passes.{Ready, Read, Within, numberOf, PutAt, entryOf, Digits, Kept, Remade, Joined};
 ghost use Rattle.steps.specs.Steps.{Counts};
 ghost use Rattle.whole.specs.Whole.{modulus, readSum};
-ghost use Rattle.far.specs.Far.{lefts, blockAt};
+ghost use Rattle.far.specs.Far.{blockAt};
 ghost use Rattle.live.specs.Near.{CountedIn, Counted, Sized, mostIn, most, mostAfter, Floors};
 ghost use Rattle.live.specs.Passes.{Gains, Spread, SpreadBy, Regained, Goes, OneLess, FirstMark, Pass};
 
@@ -488,8 +488,8 @@ fn most_after(
     ensures { λ r. ⌜ r ≡ mostAfter columns (now (after .entry)) (each left) j (shape .n) ⌝ }
 {
     let n = shape.n;
-    let stride = (columns + 1) * far::LEFTS;
-    let from = (columns - j) * far::LEFTS;
+    let stride = (columns + 1) * states::LEFTS;
+    let from = (columns - j) * states::LEFTS;
     let mut most: usize = 0;
     let mut s: usize = 0;
     while s < n {
@@ -785,7 +785,7 @@ fn loses_one(
     if marks[base + (q - down)] == 0 {
         return false;
     }
-    let reading = readings[s * whole::LEFTS + bits::wide(own)] as usize;
+    let reading = readings[s * states::LEFTS + bits::wide(own)] as usize;
     whole::can_lose_one(
         l,
         y,
@@ -968,9 +968,9 @@ fn most_in(
     if size < left {
         return 510;
     }
-    let at = s * ((columns + 1) * far::LEFTS);
-    let used = at + j * far::LEFTS + bits::wide(size - left);
-    let rest = at + (columns - j) * far::LEFTS + bits::wide(left);
+    let at = s * ((columns + 1) * states::LEFTS);
+    let used = at + j * states::LEFTS + bits::wide(size - left);
+    let rest = at + (columns - j) * states::LEFTS + bits::wide(left);
     bits::wide(before[used]) + bits::wide(after[rest])
 }
 
@@ -1033,7 +1033,7 @@ fn few_losses(shape: Shape) -> bool
     let size = shape.size;
     let mut s: usize = 0;
     while s < n {
-        if far::LEFTS <= bits::wide(size[s]) {
+        if states::LEFTS <= bits::wide(size[s]) {
             return false;
         }
         s += 1;
@@ -1357,7 +1357,7 @@ fn fill_marks(
             none: false,
         };
     }
-    if COUNTS < shape.n * ((l.l2 + 1) * far::LEFTS) {
+    if COUNTS < shape.n * ((l.l2 + 1) * states::LEFTS) {
         return Prepared {
             shape,
             kept: false,

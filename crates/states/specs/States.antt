@@ -23,6 +23,10 @@ each xs s = getD xs s 0
 abbrev pub mostStates : ℕ
 mostStates = 729
 
+-- the numbers of losses that tables tell apart, none to twelve
+abbrev pub lefts : ℕ
+lefts = 13
+
 -- a shape of the loss states of n blocks: what a loss counts in each block, and the number of states
 pub record Shaped (n : ℕ) (size strides : List ℕ) (states : ℕ) : Type 0 where
   pub counts : (s : ℕ) → s < n → getD strides s 0 ≡ stride (each size) s

@@ -10,6 +10,9 @@ pub const MOST_HEAVY: usize = 6;
 // The most loss states whose marks are kept.
 pub const MOST_STATES: usize = 729;
 
+// The numbers of losses that tables tell apart, none to twelve.
+pub const LEFTS: usize = 13;
+
 // The loss states: how many losses each block has at most, what one counts in the number of a state, and how many states there are.
 pub struct Shape {
     pub n: usize,

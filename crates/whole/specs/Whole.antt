@@ -9,7 +9,7 @@ use Rattle.vt.specs.Sum.{total}
 use Rattle.message.specs.Layout.{legal}
 use Rattle.message.specs.declared.Layout.{Layout}
 use Rattle.windows.specs.Windows.{Tables}
-use Rattle.states.specs.States.{each}
+use Rattle.states.specs.States.{lefts, each}
 use Rattle.column.specs.Column.{Readable}
 use Rattle.column.specs.declared.Heavy.{Heavy}
 
@@ -57,7 +57,7 @@ unread = 65535
 
 -- where a table has what the chunk of heavy block s brings with e losses left
 abbrev pub entryAt : (s e : ℕ) → ℕ
-entryAt s e = s * 13 + e
+entryAt s e = s * lefts + e
 
 -- a table of what the chunks of the heavy blocks bring in column j, by the losses left in each, at most its size
 abbrev pub Readings : Layout → (y : List ℕ) → Heavy → (size : List ℕ) (j : ℕ) (table : List ℕ) → Type 0

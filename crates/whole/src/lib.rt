@@ -10,15 +10,12 @@ ghost use Rattle.bits.specs.Bits.{AllBits, longest, digits};
 ghost use Rattle.vt.specs.Sum.{total};
 ghost use Rattle.windows.specs.Windows.{Tables};
 ghost use Rattle.consistent.specs.Greedy.{losses};
-ghost use Rattle.states.specs.States.{each};
+ghost use Rattle.states.specs.States.{lefts};
 ghost use Rattle.column.specs.Column.{Fit, Readable};
 ghost use Rattle.whole.specs.Whole.{modulus, Source, startAt, Legible, brings, unread, entryAt, Readings, readSum};
 
 // In place of what a chunk brings that cannot be read whole: more than a chunk brings.
 pub const UNREAD: usize = 65535;
-
-// The numbers of losses left that a table of readings tells apart, none to twelve.
-pub const LEFTS: usize = 13;
 
 // What the next w bits from place p on bring to the total of a string in which so many positions stand before them.
 fn weight(y: &[u8], totals: &[u32], counts: &[u16], p: usize, w: usize, before: usize) -> usize
@@ -72,8 +69,8 @@ fn fill_block(
     s: usize,
     table: &mut [u16],
 )
-    requires { ⌜ Source l (now y) (now totals) (now counts) (getD (heavy .block) s 0) j × ((s < 6) × ((size < 13)
-        × (entryAt s 13 ≤ length (now table)))) ⌝ }
+    requires { ⌜ Source l (now y) (now totals) (now counts) (getD (heavy .block) s 0) j × ((s < 6) × ((size < lefts)
+        × (entryAt s lefts ≤ length (now table)))) ⌝ }
     ensures { λ _. ⌜ (length (now (table .exit)) ≡ length (now (table .entry)))
         × (((i : ℕ) → i < entryAt s 0 → getD (now (table .exit)) i 0 ≡ getD (now (table .entry)) i 0)
         × ((e : ℕ) → e ≤ size → Legible l (length (now (y .entry))) (getD (heavy .block) s 0) (getD (heavy .end) s 0) j e
@@ -83,7 +80,7 @@ fn fill_block(
     let block = heavy.block[s];
     let end = heavy.end[s];
     let most = bits::wide(size);
-    let at = s * LEFTS;
+    let at = s * states::LEFTS;
     let mut e: usize = 0;
     while e <= most {
         table[at + e] = reading(l, y, totals, counts, block, end, j, e) as u16;
@@ -104,7 +101,7 @@ pub fn fill(
     table: &mut [u16],
 )
     requires { ⌜ Fit l (now y) (now numbers) heavy × (Tables (now y) 0 (now totals) (now counts) × ((j < l .l2)
-        × (((s : ℕ) → s < heavy .n → getD size s 0 < 13) × (entryAt (heavy .n) 0 ≤ length (now table))))) ⌝ }
+        × (((s : ℕ) → s < heavy .n → getD size s 0 < lefts) × (entryAt (heavy .n) 0 ≤ length (now table))))) ⌝ }
     ensures { λ _. ⌜ (length (now (table .exit)) ≡ length (now (table .entry)))
         × Readings l (now (y .entry)) heavy size j (now (table .exit)) ⌝ }
 {
@@ -118,13 +115,13 @@ pub fn fill(
 
 // What n blocks bring together where so many losses are left in each, as a table has it.
 pub fn all(n: usize, left: [u8; states::MOST_HEAVY], table: &[u16]) -> usize
-    requires { ⌜ (n ≤ 6) × (((s : ℕ) → s < n → getD left s 0 < 13) × (entryAt n 0 ≤ length (now table))) ⌝ }
+    requires { ⌜ (n ≤ 6) × (((s : ℕ) → s < n → getD left s 0 < lefts) × (entryAt n 0 ≤ length (now table))) ⌝ }
     ensures { λ r. ⌜ (r ≡ readSum (now (table .entry)) left n) × (r ≤ n * unread) ⌝ }
 {
     let mut sum: usize = 0;
     let mut s: usize = 0;
     while s < n {
-        sum += table[s * LEFTS + bits::wide(left[s])] as usize;
+        sum += table[s * states::LEFTS + bits::wide(left[s])] as usize;
         s += 1;
     }
     sum

@@ -8,7 +8,8 @@ use borrow.Author.Count.{below-more}
 use borrow.Author.Needs.{needs}
 use lib.ListN.{length, getD}
 use Rattle.message.proofs.Legal.{legal-bounds, sizes}
-use Rattle.far.specs.Far.{lefts, Covered, blockAt}
+use Rattle.states.specs.States.{lefts}
+use Rattle.far.specs.Far.{Covered, blockAt}
 use Rattle.far.proofs.Walks.{covered-kept}
 use Rattle.far.proofs.fill.Statement.{statement}
 use Rattle.far.proofs.fill.Tie as tie

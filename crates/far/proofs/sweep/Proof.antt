@@ -6,7 +6,8 @@ use native.Mathlib.Nat.{mul-le-mul-right}
 use native.Mathlib.Omega.{arith}
 use borrow.Author.Needs.{needs}
 use lib.ListN.{length, getD}
-use Rattle.far.specs.Far.{lefts, stepAt, Covered}
+use Rattle.states.specs.States.{lefts}
+use Rattle.far.specs.Far.{stepAt, Covered}
 use Rattle.far.proofs.Walks.{covered-first, covered-next}
 use Rattle.far.proofs.sweep.Statement.{statement}
 use Rattle.far.proofs.sweep.Tie as tie

@@ -6,7 +6,7 @@ use native.Mathlib.Omega.{arith}
 use borrow.Author.Count.{below-more}
 use borrow.Author.Needs.{needs}
 use lib.ListN.{getD}
-use Rattle.far.specs.Far.{lefts}
+use Rattle.states.specs.States.{lefts}
 use Rattle.live.proofs.few_losses.Statement.{statement}
 use Rattle.live.proofs.few_losses.Tie as tie
 

@@ -8,7 +8,7 @@ use borrow.Author.Needs.{needs}
 use borrow.Author.Tests.{not-false}
 use lib.ListN.{getD}
 use Rattle.message.proofs.Legal.{legal-bounds, sizes}
-use Rattle.far.specs.Far.{lefts}
+use Rattle.states.specs.States.{lefts}
 use Rattle.live.proofs.fill_marks.Statement.{statement}
 use Rattle.live.proofs.fill_marks.Tie as tie
 
