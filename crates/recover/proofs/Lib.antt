@@ -1,3 +1,3 @@
 mod Filled
 mod Recovered
-mod Spots
+pub mod Spots

@@ -68,7 +68,7 @@ module _ (l : Layout) (cells : Cells) where
         few = omega arith;
         spots = record { inside = λ w h. absurd (omega arith); apart = λ v w h g e. absurd (omega arith) };
         all = λ z h o. absurd (omega arith);
-        none = λ h. refl;
+        only = λ w h. absurd (omega arith);
       }
 
   -- the next cell when its place is there already, if it is open
@@ -82,7 +82,7 @@ module _ (l : Layout) (cells : Cells) where
             (λ e. rw e (h (rw e at o)))
             (λ d. k .all w (omega arith) o)
             (same-or-not w z);
-        none = λ h. k .none (λ w g. h w (omega arith));
+        only = λ w g. let o = k .only w g in (o .0, (omega (arith, o .1 .0), o .1 .1));
       }
 
   -- the next cell when its place is new
@@ -96,8 +96,15 @@ module _ (l : Layout) (cells : Cells) where
             (λ e. rw e (n, (omega arith, added-same n places p room ∙ is)))
             (λ d. among-added n places p room (chunkOf l cells w) (k .all w (omega arith) o))
             (same-or-not w z);
-        none = λ h. absurd (h z (omega arith) unfound);
+        only = each-added n places p room
+            (λ (w q : ℕ). (u : ℕ) × ((u < z + 1) × (Open cells u × (q ≡ chunkOf l cells u))))
+            (λ w g. let o = k .only w g in (o .0, (omega (arith, o .1 .0), o .1 .1))) (z, (omega arith, (unfound, is)));
       }
+
+  -- where no cell is open there is no place
+  pub collected-closed : (k n : ℕ) (places : List ℕ) → Collected l cells k n places → ((z : ℕ) → z < k → Open cells z → ⊥) → n ≡ 0
+  collected-closed k zero places c closed = refl
+  collected-closed k (suc n) places c closed = let o = c .only 0 (omega arith) in absurd (closed (o .0) (o .1 .0) (o .1 .1 .0))
 
 -- ---- contents put at the places
 module _ (places contents entry : List ℕ) where

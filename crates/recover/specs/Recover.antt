@@ -28,7 +28,7 @@ pub record Collected (l : Layout) (cells : Cells) (k n : ℕ) (places : List ℕ
   pub few : n ≤ k
   pub spots : Spots n (l .l1 * l .l2) places
   pub all : (z : ℕ) → z < k → Open cells z → Among n places (chunkOf l cells z)
-  pub none : ((z : ℕ) → z < k → Open cells z → ⊥) → n ≡ 0
+  pub only : (w : ℕ) → w < n → (z : ℕ) × ((z < k) × (Open cells z × (getD places w 0 ≡ chunkOf l cells z)))
 
 -- the row exit is the row entry with the contents put at the first n places
 pub record PutAt (n : ℕ) (places contents entry exit : List ℕ) : Type 0 where

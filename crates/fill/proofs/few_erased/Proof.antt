@@ -1,6 +1,10 @@
 -- `fill::few_erased` meets its contract: one more than there are checks is not as few. Assumes nothing.
+use Prim.Native.Nat.{ℕ, _<_}
+use mathlib.Core.Path.{_≡_}
 use native.Mathlib.Omega.{arith}
 use borrow.Author.Needs.{needs}
+use lib.ListN.{getD}
+use Rattle.recover.proofs.Spots.{collected-closed}
 use Rattle.fill.proofs.few_erased.Statement.{statement}
 use Rattle.fill.proofs.few_erased.Tie as tie
 
@@ -21,7 +25,11 @@ collect-requires c κs = search needs
 returns-2 : tie.Need-returns-2
 returns-2 c =
     let e = c .collect .ensures in
-    (λ few. e, λ closed. omega (arith, e .none (λ z h o. omega (arith, closed z h, o .1))))
+    let a = c .before .before .before .before .before .args in
+    let none : ((z : ℕ) → z < 12 → getD (a .cells .lost) z 0 ≡ 0) → c .collect .result .n ≡ 0 =
+    λ closed. collected-closed (a .l) (a .cells) 12 _ _ e (λ z h o. omega (arith, closed z h, o .1))
+    in
+    (λ few. e, λ closed. omega (arith, none closed))
 
 pub few-erased-spec : {M : Type 1} → statement M
 few-erased-spec =
