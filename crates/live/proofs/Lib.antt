@@ -3,6 +3,6 @@ pub mod Steps
 mod Columns
 mod Levels
 mod First
-mod Paths
+pub mod Paths
 mod Near
 mod Floors

@@ -1,5 +1,5 @@
 -- The loss states that a row comes through, and the marks along them as a pass goes over the columns. Assumes nothing.
-use Prim.Native.Nat.{ℕ, zero, suc, _+_, _*_, _<_, _≤_}
+use Prim.Native.Nat.{ℕ, zero, suc, _+_, _-_, _*_, _<_, _≤_}
 use mathlib.Core.Path.{_≡_, refl, sym, ap, _∙_}
 use mathlib.Core.Bool.{Bool}
 use mathlib.Core.Logic.{_⊎_, inl, inr}
@@ -15,7 +15,7 @@ use Rattle.states.specs.declared.Shape.{Shape}
 use Rattle.states.proofs.States.{state-none}
 use Rattle.column.specs.Column.{Light, apartIn}
 use Rattle.column.specs.declared.Heavy.{Heavy}
-use Rattle.live.specs.Live.{Covers, markAt, Path, apartBefore, Through}
+use Rattle.live.specs.Live.{Covers, markAt, Path, apartBefore, apartFrom, Through}
 use Rattle.live.specs.Passes.{Within, numberOf, Kept, Remade, Joined, Regained, Goes, Pass}
 use Rattle.live.proofs.Columns.{other-column}
 use Rattle.live.proofs.Steps.{covers-less, number-low}
@@ -42,6 +42,29 @@ pub before-none : (l : Layout) (heavy : Heavy) (z vs : List ℕ) → apartBefore
 unfolding apartBefore
 before-none l heavy z vs = refl
 
+before-up : (l : Layout) (heavy : Heavy) (z vs : List ℕ) (j k : ℕ)
+    → apartBefore l heavy z vs j ≤ apartBefore l heavy z vs (j + k)
+unfolding apartBefore
+before-up l heavy z vs j zero = let e : j + 0 ≡ j = omega arith in rw e (omega arith)
+before-up l heavy z vs j (suc k) =
+    let e : j + suc k ≡ suc (j + k) = omega arith in
+    rw e (omega (arith, before-up l heavy z vs j k))
+
+-- from a column on they are those of the column itself and those after it
+pub apart-next : (l : Layout) (heavy : Heavy) (z vs : List ℕ) (j : ℕ) → j < l .l2
+    → apartFrom l heavy z vs j ≡ apartIn l heavy z vs j (heavy .n) + apartFrom l heavy z vs (j + 1)
+apart-next l heavy z vs j h =
+    let e : j + 1 + (l .l2 - (j + 1)) ≡ l .l2 = omega arith in
+    omega (arith, before-next l heavy z vs j, rw e at (before-up l heavy z vs (j + 1) (l .l2 - (j + 1))))
+
+-- a row never has more left than at first
+pub path-most : {l : Layout} {y numbers : List ℕ} {heavy : Heavy} {row : List ℕ} {size : ℕ → ℕ} {vs : List ℕ} {own : ℕ → ℕ → ℕ}
+    → Path l y numbers heavy row size vs own → (j s : ℕ) → j ≤ l .l2 → s < heavy .n → own j s ≤ size s
+path-most path zero s h k = omega (arith, path .starts s k)
+path-most path (suc j) s h k =
+    let e : j + 1 ≡ suc j = omega arith in
+    omega (arith, path-most path j s (omega arith) k, rw e at (path .crosses j (omega arith) .falls s k))
+
 -- the marks of the states own in every column
 abbrev pub Lets : Layout → Shape → (marks : List ℕ) (own : ℕ → ℕ → ℕ) → Type 0
 Lets l shape marks own = (i : ℕ) → i ≤ l .l2 → 0 < getD marks (markAt shape i (own i)) 0
@@ -56,11 +79,7 @@ module _ (l : Layout) (y numbers : List ℕ) (heavy : Heavy) (row : List ℕ) (s
     ℕ)
     (kept : Kept heavy shape) (path : Path l y numbers heavy row (each (shape .size)) vs own) where
   pub own-within : (j : ℕ) → j ≤ l .l2 → Within shape (own j)
-  own-within zero h s k = omega (arith, path .starts s (omega (arith, kept .blocks)))
-  own-within (suc j) h s k =
-      let f : own (j + 1) s ≤ own j s = path .crosses j (omega arith) .falls s (omega (arith, kept .blocks)) in
-      let g : own (suc j) s ≤ own j s = rw (← add-one j) f in
-      omega (arith, own-within j (omega arith) s k)
+  own-within j h s k = path-most path j s h (omega (arith, kept .blocks))
 
   pub own-low : (j : ℕ) → j ≤ l .l2 → numberOf shape (own j) < shape .states
   own-low j h = number-low kept (own j) (own-within j h)

@@ -25,7 +25,9 @@ use Rattle.states.specs.declared.Shape.{Shape}
 use Rattle.states.proofs.States.{state-low, state-same, state-up, state-only, digitsOf, state-of, digits-most}
 use Rattle.column.specs.Column.{Fit, Light, Crosses, apartIn}
 use Rattle.column.specs.declared.Heavy.{Heavy}
-use Rattle.live.specs.Live.{Covers, Path, apartBefore, apartFrom}
+use Rattle.live.specs.Live.{Covers, apartFrom}
+use Rattle.live.proofs.Paths.{apart-next, path-most}
+use Rattle.live.proofs.Steps.{crosses-same}
 use Rattle.tables.specs.Tables.{Sound, Under, ownLeft, ShapeOf, stateOf, IsMark, Looked, apart, NearKnown, Comes}
 use Rattle.tables.specs.Tables.{UnderMarks, Stepped}
 use Rattle.tables.specs.declared.Table.{Table}
@@ -87,52 +89,6 @@ left-state {shape = shape} {left} next to of low is =
 
     same : (s : ℕ) → s < shape .n → getD next s 0 ≡ own s
     same = is own most (sym number)
-
--- ---- chunks of the heavy blocks from a column on
-before-up : (l : Layout) (heavy : Heavy) (z vs : List ℕ) (j k : ℕ)
-    → apartBefore l heavy z vs j ≤ apartBefore l heavy z vs (j + k)
-unfolding apartBefore
-before-up l heavy z vs j zero = let e : j + 0 ≡ j = omega arith in rw e (omega arith)
-before-up l heavy z vs j (suc k) =
-    let e : j + suc k ≡ suc (j + k) = omega arith in
-    rw e (omega (arith, before-up l heavy z vs j k))
-
--- those of the column itself, and those after it
-apart-next : (l : Layout) (heavy : Heavy) (z vs : List ℕ) (j : ℕ) → j < l .l2
-    → apartFrom l heavy z vs j ≡ apartIn l heavy z vs j (heavy .n) + apartFrom l heavy z vs (j + 1)
-apart-next l heavy z vs j h =
-    let e : j + 1 + (l .l2 - (j + 1)) ≡ l .l2 = omega arith in
-    omega (arith, next, rw e at (before-up l heavy z vs (j + 1) (l .l2 - (j + 1))))
-  where
-    next : apartBefore l heavy z vs (j + 1) ≡ apartBefore l heavy z vs j + apartIn l heavy z vs j (heavy .n)
-    next =
-        let e : j + 1 ≡ suc j = omega arith in
-        ap (apartBefore l heavy z vs) e ∙ (unfold apartBefore in refl)
-
--- ---- a row crosses a column: this depends on what the heavy blocks have left alone
-crosses-same : {l : Layout} {y numbers : List ℕ} {heavy : Heavy} {row : List ℕ} {j : ℕ} {a b left next : ℕ → ℕ}
-    {vs : List ℕ} → ((s : ℕ) → s < heavy .n → a s ≡ left s) → ((s : ℕ) → s < heavy .n → b s ≡ next s)
-    → Crosses l y numbers heavy row j a b vs → Crosses l y numbers heavy row j left next vs
-crosses-same ha hb c =
-    record {
-      falls = λ s h. omega (arith, ha s h, hb s h, c .falls s h);
-      few = λ s h. omega (arith, ha s h, hb s h, c .few s h);
-      starts = λ s h. omega (arith, ha s h, c .starts s h);
-      there = λ s h. omega (arith, ha s h, hb s h, c .there s h);
-      small = c .small;
-      loses = λ s h. rw (← ha s h, ← hb s h) (c .loses s h);
-      others = c .others;
-      has-sum = c .has-sum;
-    }
-
--- ---- what a row that comes through loss states has left
-module _ {l : Layout} {y numbers : List ℕ} {heavy : Heavy} {row : List ℕ} {size : ℕ → ℕ} {vs : List ℕ} {own : ℕ → ℕ → ℕ}
-    (path : Path l y numbers heavy row size vs own) where
-  path-most : (j s : ℕ) → j ≤ l .l2 → s < heavy .n → own j s ≤ size s
-  path-most zero s h k = omega (arith, path .starts s k)
-  path-most (suc j) s h k =
-      let e : j + 1 ≡ suc j = omega arith in
-      omega (arith, path-most j s (omega arith) k, rw e at (path .crosses j (omega arith) .falls s k))
 
 -- ---- a row under a table at the start of a column
 module _ {l : Layout} {y numbers : List ℕ} {heavy : Heavy} {shape : Shape} {known marks z : List ℕ} {differ j : ℕ}
@@ -208,7 +164,7 @@ module _ {l : Layout} {y numbers : List ℕ} {heavy : Heavy} {shape : Shape} {kn
     pub crossed : apartIn l heavy z (values l x) j (heavy .n) < r
     crossed =
         crossing (u .1 .row) (values l x) (u .1 .light)
-        (crosses-same (left-own (u .0)) own (u .1 .path .crosses j column))
+        (crosses-same l y numbers heavy _ j (values l x) _ _ _ _ (left-own (u .0)) own (u .1 .path .crosses j column))
 
     -- and comes on
     module _ (more : ℕ) (add : r ≤ more + 1) where
