@@ -21,15 +21,20 @@ use Rattle.blocks.proofs.Ends.{ended-brings}
 use Rattle.blocks.proofs.can_end.Statement.{statement}
 use Rattle.blocks.proofs.can_end.Tie as tie
 
--- the start of the function, seen from where the chunks are read on, and from where the cells are cut out
+-- where the function starts, seen from where the chunks are read on
 abbrev begin : tie.After-read-on → tie.Start
 begin c = c .before .before .before .before .before .before
 
-abbrev read : tie.Else2 → tie.After-read-on
-read c = c .before .before .before .before .before .before .before
-
+-- where the cells are cut out, and where the chunks are read on, seen from where the cells are known to be cut out well
 abbrev cut : tie.Else2 → tie.After-cut-out
 cut c = c .before .before .before
+
+abbrev read : tie.Else2 → tie.After-read-on
+read c = cut c .before .before .before .before
+
+-- that place, seen from where the block's sum is known
+abbrev summed : tie.After-line-sum → tie.Else2
+summed c = c .before .before .before .before
 
 -- the cells that were cut out
 is-cut : (c : tie.Else2) → let a = begin (read c) .args in
@@ -120,7 +125,7 @@ missing-requires c κs =
 
 can-bring-requires : tie.Need-can-bring-requires
 can-bring-requires c κs =
-    let e = c .before .before .before .before .before .before in
+    let e = summed (c .before .before) in
     let s = begin (read e) in (
       (legal-bounds (s .args .l) (s .pre .0 .0) .nc-high, (omega arith, omega (arith, block-high s))),
       (s .pre .0 .1 .0, (s .pre .0 .1 .1, (s .pre .1 .0, (is-cut e .0 .few, c .missing .ensures .0)))),
@@ -129,7 +134,7 @@ can-bring-requires c κs =
 returns-3 : tie.Need-returns-3
 returns-3 c =
     let m = c .before in
-    let e = m .before .before .before .before .before .before in
+    let e = summed (m .before .before) in
     let w = read e in
     let a = begin w .args in
     let k = cut e .cut-out .result in

@@ -44,14 +44,19 @@ element-copy-out-with-chunk-2 c = search needs
 with-chunk-requires : tie.Need-with-chunk-requires
 with-chunk-requires c κs = search needs
 
--- where a cell is cut out: it is open in the block, and its chunk stands in the row
-abbrev begin : tie.After-with-chunk → tie.Start
-begin c = c .before .before .before .before .before .before .before .before
+-- where the cell is found to be in the block, and where the function starts, seen from where its chunk is cut out
+abbrev inside : tie.After-with-chunk → tie.Else1
+inside c = c .before .before .before .before
 
+abbrev begin : tie.After-with-chunk → tie.Start
+begin c = inside c .before .before .before .before
+
+-- a cell that is cut out is open in the block, and its chunk stands in the row
 is-in : (c : tie.After-with-chunk) → let a = begin c .args in isIn (a .t3) (a .i) (a .z) ≡ true
 is-in c =
-    let e = c .before .before .before .before .before in
-    sym (e .is-in .ensures) ∙ not-false (e .is-in .result) (c .before .before .before .before .if1 .left)
+    let o = inside c in
+    let e = o .before in
+    sym (e .is-in .ensures) ∙ not-false (e .is-in .result) (o .if1 .left)
 
 stands : (c : tie.After-with-chunk) → let a = begin c .args in
     (getD (a .t3 .column) (a .z) 0 < a .l .l2) × ((getD (a .t3 .place) (a .z) 0 ≤ length (a .y .now))

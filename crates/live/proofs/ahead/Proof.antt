@@ -44,6 +44,10 @@ start c = known-half c .before .before .before .before
 abbrev begin : tie.At-loop Inv-loop μ-loop → tie.Start Inv-loop μ-loop
 begin c = start (c .before .before .before .before .before)
 
+-- the turn, seen from where the marks are made again
+abbrev turn : tie.After-remake Inv-loop μ-loop → tie.In-loop Inv-loop μ-loop
+turn c = c .before .before .before .before
+
 -- the column of the turn and the next one stand in the slice
 places : (c : tie.In-loop Inv-loop μ-loop)
     → let s = begin (c .before) in
@@ -200,7 +204,7 @@ same-length c =
     r .remake .ensures .0 .long ∙ long (r .before .before .before .before .before)
 
 -- where the turn left no mark, no row that is not near is let through
-none-left : (c : tie.Then1 Inv-loop μ-loop) → let i = c .before .before .before .before .before .before .before .before in
+none-left : (c : tie.Then1 Inv-loop μ-loop) → let i = turn (c .before .before .before) .before in
     let s = begin i in let a = s .args in
     (row vs : List ℕ) (own : ℕ → ℕ → ℕ) → Light (a .l) (a .heavy) row (a .known .now)
     → Path (a .l) (a .y .now) (a .numbers .now) (a .heavy) row (each (a .shape .size)) vs own
@@ -236,7 +240,7 @@ returns c =
 
 add-j : tie.Need-add-j Inv-loop μ-loop
 add-j c =
-    let t = c .before .before .before .before .before .before .before in
+    let t = turn (c .before .before .before) in
     let s = begin (t .before) in
     record {
       fits = omega (

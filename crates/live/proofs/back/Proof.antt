@@ -28,9 +28,15 @@ Inv-loop l y totals counts numbers heavy known z shape digits marks₀ states no
 abbrev μ-loop : tie.MeasureT-loop
 μ-loop l y totals counts numbers heavy known z shape digits marks₀ states none j₀ marks j = j
 
--- the arguments
+-- where the function starts, seen from where all slices are known, and from the loop
+abbrev known-half : tie.After-slice-known Inv-loop μ-loop → tie.After-shared-slice-known4 Inv-loop μ-loop
+known-half c = c .before .before .before .before
+
+abbrev start : tie.After-slice-known Inv-loop μ-loop → tie.Start Inv-loop μ-loop
+start c = known-half c .before .before .before .before
+
 abbrev begin : tie.At-loop Inv-loop μ-loop → tie.Start Inv-loop μ-loop
-begin c = c .before .before .before .before .before .before .before .before .before .before .before .before .before
+begin c = start (c .before .before .before .before .before)
 
 -- the column of the turn and the next one stand in the slice
 places : (c : tie.In-loop Inv-loop μ-loop)
@@ -51,19 +57,19 @@ long c = c .loop .inv .0 .1 ∙ c .before .before .before .only .ensures .0 .lon
 
 mul-only : tie.Need-mul-only Inv-loop μ-loop
 mul-only c =
-    let s = c .before .before .before .before .before .before .before .before in
+    let s = start c in
     record { fits = omega (arith, s .pre .1 .1 .1, s .good .1 .1 .1 .1 .1 .1 .1 .1 .1 .1 .0) }
 
 only-requires : tie.Need-only-requires Inv-loop μ-loop
 only-requires c κs =
-    let s = c .before .before .before .before .before .before .before .before .before in
+    let s = start (c .before) in
     (some-state (s .pre .1 .0), omega (arith, s .pre .1 .1 .1))
 
 loop-holds : tie.Need-loop-holds Inv-loop μ-loop
 loop-holds c = (
   (omega arith, refl),
   λ row vs own light path lets.
-      let a = c .before .before .before .before .before .before .before .before .before .before .before .before .args in
+      let a = start (c .before .before .before .before) .args in
       passing-first (a .l) (a .shape) _ own (apartFrom (a .l) (a .heavy) (a .z .now) vs) (λ i. a .l .l2 ≤ i)
       (λ i h d. let e : i ≡ a .l .l2 = omega arith in
       rw e (omega arith)) lets,

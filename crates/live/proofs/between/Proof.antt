@@ -13,9 +13,16 @@ returns : tie.Need-returns
 returns c row vs light crosses = absurd (false≢true (sym (not-true _ (c .if1 .taken)) ∙ c .before .no-more .ensures
     (crosses .falls)))
 
+-- where the function starts, seen from where no block has more left in the next state
+abbrev known-half : tie.Else1 → tie.After-shared-slice-known4
+known-half c = c .before .before .before .before
+
+abbrev start : tie.Else1 → tie.Start
+start c = known-half c .before .before .before .before
+
 crossing-requires : tie.Need-crossing-requires
 crossing-requires c κs =
-    let s = c .before .before .before .before .before .before .before .before in
+    let s = start c in
     let r = s .pre .0 in
     (r .fit, (r .tables, (s .pre .1, (r .long, r .all))))
 

@@ -16,14 +16,27 @@ use Rattle.live.proofs.fill_marks.Tie as tie
 narrow : (s : tie.Start) → s .args .l .l2 ≤ 255
 narrow s = sizes (s .args .l) (legal-bounds (s .args .l) (s .pre .0 .fit .allowed)) .l2-high
 
--- the function's entry, seen from where the tables of counts are lent
+-- where the function starts, seen from where all slices are known, and from where the losses are few
+abbrev known-half : tie.After-slice-known → tie.After-shared-slice-known3
+known-half c = c .before .before .before .before
+
+abbrev start : tie.After-slice-known → tie.Start
+start c = known-half c .before .before .before
+
+abbrev entry : tie.Else1 → tie.Start
+entry c = start (c .before .before)
+
+-- where the losses are few, and where the function starts, seen from where the tables of counts are lent
+abbrev losing : tie.After-after → tie.Else1
+losing c = c .before .before .before .before .before .before
+
 abbrev begin : tie.After-after → tie.Start
-begin c = c .before .before .before .before .before .before .before .before .before .before .before .before .before .before .before
+begin c = entry (losing c)
 
 -- the heavy blocks have few losses
 small : (c : tie.After-after) → (s : ℕ) → s < begin c .args .shape .n → getD (begin c .args .shape .size) s 0 < lefts
 small c s h =
-    let f = c .before .before .before .before .before .before in
+    let f = losing c in
     f .before .few-losses .ensures (not-false _ (f .if1 .left)) s h
 
 few-losses-requires : tie.Need-few-losses-requires
@@ -36,11 +49,11 @@ add-if2 : tie.Need-add-if2
 add-if2 c = search needs
 
 mul-if2 : tie.Need-mul-if2
-mul-if2 c = record { fits = omega (arith, narrow (c .before .before .before .before .before .before .before .before .before .before)) }
+mul-if2 c = record { fits = omega (arith, narrow (entry (c .before))) }
 
 mul-if2-2 : tie.Need-mul-if2-2
 mul-if2-2 c =
-    let s = c .before .before .before .before .before .before .before .before .before .before .before in
+    let s = entry (c .before .before) in
     record {
       fits = omega (
         arith,

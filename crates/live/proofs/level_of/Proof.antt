@@ -54,9 +54,13 @@ add-s c = search needs
 loop-less : tie.Need-loop-less Inv-loop μ-loop
 loop-less c = search needs
 
+-- the loop's head, seen from where the level that the block calls for is known
+abbrev looped : tie.After-raised Inv-loop μ-loop → tie.At-loop Inv-loop μ-loop
+looped c = c .before .before .before .before .before
+
 loop-again : tie.Need-loop-again Inv-loop μ-loop
 loop-again c =
-    let p = c .before .before .before .before .before .before .before .loop in
+    let p = looped (c .before .before) .loop in
     let h = c .before .higher .ensures in (
       (omega arith, omega (arith, h .0, p .inv .0 .1)),
       below-more _ _

@@ -15,9 +15,15 @@ use Rattle.live.proofs.Near.{most-covers}
 use Rattle.live.proofs.make_marks.Statement.{statement}
 use Rattle.live.proofs.make_marks.Tie as tie
 
--- the function's entry
+-- where the function starts, seen from where all slices are known, and from where the digits are filled
+abbrev known-half : tie.After-slice-known → tie.After-shared-slice-known4
+known-half c = c .before .before .before .before .before
+
+abbrev start : tie.After-slice-known → tie.Start
+start c = known-half c .before .before .before .before
+
 abbrev begin : tie.After-fill-digits → tie.Start
-begin c = c .before .before .before .before .before .before .before .before .before .before .before
+begin c = start (c .before .before)
 
 -- a row that is not near is wide at each of its states
 wide : (s : tie.Start) → let a = s .args in
@@ -42,7 +48,7 @@ slice-aggregate-fill-digits c = search needs
 
 fill-digits-requires : tie.Need-fill-digits-requires
 fill-digits-requires c κs =
-    let p = c .before .before .before .before .before .before .before .before .before .before .pre in
+    let p = start (c .before) .pre in
     (omega (arith, p .0 .fit .few, p .1 .0 .blocks), (p .1 .0 .shaped, omega (arith, p .1 .0 .few)))
 
 slice-aggregate-complete : tie.Need-slice-aggregate-complete

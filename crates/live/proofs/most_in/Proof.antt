@@ -7,18 +7,22 @@ use lib.ListN.{getD}
 use Rattle.live.proofs.most_in.Statement.{statement}
 use Rattle.live.proofs.most_in.Tie as tie
 
+-- where the function starts, seen from where the places in both tables are known
+abbrev start : tie.After-wide2 → tie.Start
+start c = c .before .before .before .before .before
+
 -- the two entries are those of the tables, and bytes
-entries : (c : tie.After-wide4) → let s = c .before .before .before .before .before .before .before .before .before in
+entries : (c : tie.After-wide4) → let s = start (c .before .before .before .before) in
     let a = s .args in
     let at = a .s * ((a .columns + 1) * 13) in
     ((c .before .before .wide3 .result ≡ getD (a .before .now) (at + a .j * 13 + (a .size - a .left)) 0)
     × (c .wide4 .result ≡ getD (a .after .now) (at + (a .columns - a .j) * 13 + a .left) 0))
     × ((c .before .before .wide3 .result ≤ 255) × (c .wide4 .result ≤ 255))
 entries c =
-    let s = c .before .before .before .before .before .before .before .before .before in
+    let u = c .before .before .before .before in
+    let s = start u in
     let a = s .args in
     let at = a .s * ((a .columns + 1) * 13) in
-    let u = c .before .before .before .before in
     let e = ap (λ (v : ℕ). getD (a .before .now) (at + a .j * 13 + v) 0) (u .before .wide .ensures) in
     let f = ap (λ (v : ℕ). getD (a .after .now) (at + (a .columns - a .j) * 13 + v) 0) (u .wide2 .ensures) in
     let b = c .before .before .before .shared-slice-known3 .given (at + a .j * 13 + u .before .wide .result) in

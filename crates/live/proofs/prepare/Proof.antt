@@ -10,9 +10,16 @@ use Rattle.states.specs.declared.Shape.{Shape}
 use Rattle.live.proofs.prepare.Statement.{statement}
 use Rattle.live.proofs.prepare.Tie as tie
 
--- the arguments
+-- where the function starts, seen from where the shape is known
+abbrev known-half : tie.After-shape-of → tie.After-shared-slice-known4
+known-half c = c .before .before .before .before
+
 abbrev begin : tie.After-shape-of → tie.Start
-begin c = c .before .before .before .before .before .before .before .before
+begin c = known-half c .before .before .before .before
+
+-- where the shape is known, seen from where the marks have room
+abbrev formed : tie.Else2 → tie.After-shape-of
+formed c = c .before .before .before .before .before
 
 shape-of-requires : tie.Need-shape-of-requires
 shape-of-requires c κs = search needs
@@ -55,7 +62,7 @@ returns-2 c =
 
 fill-marks-requires : tie.Need-fill-marks-requires
 fill-marks-requires c κs =
-    let h = c .before .before .before .before .before .before in
+    let h = formed (c .before) in
     let g = h .shape-of in
     let p = begin h .pre in (
       record { fit = p .0; tables = p .1 .0; long = p .1 .1 .0; all = p .1 .1 .1 },
@@ -75,7 +82,7 @@ same-length c = search needs
 returns-3 : tie.Need-returns-3
 returns-3 c =
     let f = c .before .before .fill-marks in
-    let g = c .before .before .before .before .before .before .before .before .before .shape-of in
+    let g = formed (c .before .before .before .before) .shape-of in
     let e = f .ensures .0 in (
       (ap (λ (v : Shape). v .n) e ∙ g .ensures .0 .0, ap (λ (v : Shape). v .size) e ∙ g .ensures .0 .1),
       (

@@ -18,10 +18,17 @@ between-requires c κs = search needs
 carried-requires : tie.Need-carried-requires
 carried-requires c κs = search needs
 
+-- where the function starts, seen from where the losses of the state are known
+abbrev known-half : tie.After-digits-of → tie.After-shared-slice-known4
+known-half c = c .before .before .before .before
+
+abbrev start : tie.After-digits-of → tie.Start
+start c = known-half c .before .before .before .before
+
 returns : tie.Need-returns
 returns c vs m k v =
     let d = c .before .before in
-    let s = d .before .before .before .before .before .before .before .before in
+    let s = start d in
     let a = s .args in
     let few = s .pre .0 .fit .few in
     let own : (t : ℕ) → t < a .heavy .n → entryOf (a .digits .now) (a .q) t ≡ each (d .digits-of .result) t =

@@ -12,9 +12,15 @@ use Rattle.live.proofs.Steps.{gains-same, entry-is, entry-low, crosses-
 use Rattle.live.proofs.spread.Statement.{statement}
 use Rattle.live.proofs.spread.Tie as tie
 
--- the arguments
+-- where the function starts, seen from where the state p has a mark, and from where its losses are known
+abbrev known-half : tie.Else1 → tie.After-shared-slice-known5
+known-half c = c .before .before .before .before .before .before
+
+abbrev start : tie.Else1 → tie.Start
+start c = known-half c .before .before .before .before .before
+
 abbrev begin : tie.After-digits-of → tie.Start
-begin c = c .before .before .before .before .before .before .before .before .before .before .before .before
+begin c = start (c .before)
 
 -- what is left in the state p
 other-is : (c : tie.After-digits-of) → let a = begin c .args in (t : ℕ) → t < a .heavy .n
@@ -33,7 +39,7 @@ returns c =
 
 digits-of-requires : tie.Need-digits-of-requires
 digits-of-requires c κs =
-    let p = c .before .before .before .before .before .before .before .before .before .before .before .pre .1 .1 in
+    let p = start c .pre .1 .1 in
     omega (arith, p .0 .1 .long, p .1 .0)
 
 raise-requires : tie.Need-raise-requires

@@ -20,9 +20,12 @@ abbrev μ-loop : tie.MeasureT-loop
 μ-loop l y totals counts numbers heavy known z states digits j other there marks at low high fresh₀ q₀ fresh q =
     high - q
 
--- the arguments
+-- where half of the slices are known, and where the function starts, seen from the loop
+abbrev known-half : tie.At-loop Inv-loop μ-loop → tie.After-shared-slice-known5 Inv-loop μ-loop
+known-half c = c .before .before .before .before .before
+
 abbrev begin : tie.At-loop Inv-loop μ-loop → tie.Start Inv-loop μ-loop
-begin c = c .before .before .before .before .before .before .before .before .before .before
+begin c = known-half c .before .before .before .before .before
 
 loop-holds : tie.Need-loop-holds Inv-loop μ-loop
 loop-holds c = ((omega arith, omega arith), spread-none _ _ _ _ _ _ _ _ _ _ _ _ _ _ _)

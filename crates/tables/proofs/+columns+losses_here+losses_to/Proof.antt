@@ -134,12 +134,26 @@ columns-μ-loop l y totals counts numbers heavy shape known marks z room j diffe
     apart k c =
     l .l2 - c
 
--- the function's entry seen from the loop
-abbrev start : (t : ℕ) → columns-lts.After-slice-known (columns-claims t) (columns-at t) columns.Post columns-Inv-loop
+-- where `columns` starts: the place where all slices are known, and from there, where half of them are, and the start
+abbrev Known : ℕ → Type 0
+Known t = columns-lts.After-slice-known (columns-claims t) (columns-at t) columns.Post columns-Inv-loop
     columns-μ-loop
-    → columns-lts.Start (columns-claims t) (columns-at t) columns.Post columns-Inv-loop
+
+abbrev known-half : (t : ℕ) → Known t
+    → columns-lts.After-shared-slice-known4 (columns-claims t) (columns-at t) columns.Post columns-Inv-loop
     columns-μ-loop
-start t c = c .before .before .before .before .before .before .before .before
+known-half t c = c .before .before .before .before
+
+abbrev start : (t : ℕ) → Known t → columns-lts.Start (columns-claims t) (columns-at t) columns.Post columns-Inv-loop
+    columns-μ-loop
+start t c = known-half t c .before .before .before .before
+
+-- the loop's head, seen from where the mark of the table's state is read
+abbrev looped : (t : ℕ) → columns-lts.After-mark-at (columns-claims t) (columns-at t) columns.Post columns-Inv-loop
+    columns-μ-loop
+    → columns-lts.At-loop (columns-claims t) (columns-at t) columns.Post columns-Inv-loop
+    columns-μ-loop
+looped t c = c .before .before .before .before .before
 
 -- the numbers of the loop stay low
 high : (t : ℕ) (c : columns-lts.At-loop (columns-claims t) (columns-at t) columns.Post columns-Inv-loop
@@ -151,14 +165,24 @@ high t c =
     let size = sizes (s .args .l) (legal-bounds (s .args .l) (s .pre .1 .0 .is-legal)) in
     (omega (arith, size .l2-high, g .inside), omega (arith, size .l2-high, g .inside, g .looked .small))
 
--- the place where those that lose a bit in the column are found, and the turn of the loop seen from there
+-- the place where those that lose a bit in the column are found; from there, where the mark leaves hope, and the turn of the
+-- loop; and that place, seen from where the step is made
 abbrev Found : ℕ → Type 0
 Found t = columns-lts.After-slice-known2 (columns-claims t) (columns-at t) columns.Post columns-Inv-loop
     columns-μ-loop
 
+abbrev hoped : (t : ℕ) → Found t → columns-lts.Else2 (columns-claims t) (columns-at t) columns.Post columns-Inv-loop
+    columns-μ-loop
+hoped t c = c .before .before .before .before
+
 abbrev turn : (t : ℕ) → Found t → columns-lts.Then1 (columns-claims t) (columns-at t) columns.Post columns-Inv-loop
     columns-μ-loop
-turn t c = c .before .before .before .before .before .before .before .before .before
+turn t c = hoped t c .before .before .before .before .before
+
+abbrev found : (t : ℕ) → columns-lts.After-step (columns-claims t) (columns-at t) columns.Post columns-Inv-loop
+    columns-μ-loop
+    → Found t
+found t c = c .before .before .before
 
 columns-loop-holds : (t : ℕ)
     → columns-lts.Need-loop-holds (columns-claims t) (columns-at t) columns.Post columns-Inv-loop
@@ -194,19 +218,19 @@ columns-mark-at-requires t c κs =
 columns-hopeful-requires : (t : ℕ)
     → columns-lts.Need-hopeful-requires (columns-claims t) (columns-at t) columns.Post columns-Inv-loop
     columns-μ-loop
-columns-hopeful-requires t c κs = high t (c .before .before .before .before .before) .1
+columns-hopeful-requires t c κs = high t (looped t c) .1
 
 columns-same-length : (t : ℕ)
     → columns-lts.Need-same-length (columns-claims t) (columns-at t) columns.Post columns-Inv-loop
     columns-μ-loop
-columns-same-length t c = c .before .before .before .before .before .before .before .loop .inv .long
+columns-same-length t c = looped t (c .before .before) .loop .inv .long
 
 columns-returns : (t : ℕ)
     → columns-lts.Need-returns (columns-claims t) (columns-at t) columns.Post columns-Inv-loop
     columns-μ-loop
 columns-returns t c =
     let m = c .before .before in
-    let i = m .before .before .before .before .before in
+    let i = looped t m in
     let a = start t (i .before) .args in
     going-near (i .loop .inv) (m .mark-at .result)
     (subst (λ (v : ℕ). IsMark (a .shape) (a .marks .now) (i .loop .c) v (m .mark-at .result))
@@ -275,7 +299,7 @@ columns-returns-3 : (t : ℕ)
     columns-μ-loop
 columns-returns-3 t c =
     let q = c .before .before in
-    let k = q .before .before .before in
+    let k = found t q in
     let w = turn t k in
     going-unread (w .before .before .loop .inv) (w .if1 .taken) (k .before .before .losses-here .ensures)
     (q .before .before .crossing .ensures .0) (q .step .ensures) (not-true _ (c .if4 .taken))
@@ -302,14 +326,14 @@ columns-add-c : (t : ℕ)
     → columns-lts.Need-add-c (columns-claims t) (columns-at t) columns.Post columns-Inv-loop
     columns-μ-loop
 columns-add-c t c =
-    let i = turn t (c .before .before .before .before .before .before .before) .before .before in
+    let i = turn t (found t (c .before .before .before .before)) .before .before in
     omega (arith, high t i .0)
 
 columns-loop-less : (t : ℕ)
     → columns-lts.Need-loop-less (columns-claims t) (columns-at t) columns.Post columns-Inv-loop
     columns-μ-loop
 columns-loop-less t c =
-    let w = turn t (c .before .before .before .before .before .before .before) in
+    let w = turn t (found t (c .before .before .before .before)) in
     omega (arith, w .if1 .taken)
 
 columns-loop-again : (t : ℕ)
@@ -318,7 +342,7 @@ columns-loop-again : (t : ℕ)
 columns-loop-again t c =
     let f = c .before .before in
     let q = f .before .before in
-    let k = q .before .before .before in
+    let k = found t q in
     let w = turn t k in
     let crossing = q .before .before .crossing .ensures in
     going-next (w .before .before .loop .inv) (w .if1 .taken) (k .before .before .losses-here .ensures) (crossing .0)
@@ -359,13 +383,28 @@ abbrev losses-here-μ-loop : losses-here-lts.MeasureT-loop
 losses-here-μ-loop l y totals counts numbers heavy shape known marks z room j t differ cap list₀ q k₀ to₀ list k to =
     q - to
 
--- the function's entry seen from the loop
+-- where `losses_here` starts: the place where all is at hand, and from there, where half of the slices are known, and the
+-- start; and the start, seen from where the state's number is known
+abbrev Here-known : ℕ → Type 0
+Here-known t = losses-here-lts.After-left (losses-here-claims t) (losses-here-at t) losses-here.Post
+    losses-here-Inv-loop losses-here-μ-loop
+
+abbrev here-half : (t : ℕ) → Here-known t
+    → losses-here-lts.After-shared-slice-known4 (losses-here-claims t) (losses-here-at t) losses-here.Post
+    losses-here-Inv-loop losses-here-μ-loop
+here-half t c = c .before .before .before .before .before
+
+abbrev entered : (t : ℕ) → Here-known t
+    → losses-here-lts.Start (losses-here-claims t) (losses-here-at t) losses-here.Post
+    losses-here-Inv-loop losses-here-μ-loop
+entered t c = here-half t c .before .before .before .before
+
 abbrev enter : (t : ℕ)
     → losses-here-lts.After-number-of (losses-here-claims t) (losses-here-at t) losses-here.Post
     losses-here-Inv-loop losses-here-μ-loop
     → losses-here-lts.Start (losses-here-claims t) (losses-here-at t) losses-here.Post
     losses-here-Inv-loop losses-here-μ-loop
-enter t c = c .before .before .before .before .before .before .before .before .before .before
+enter t c = entered t (c .before)
 
 -- the next column is one, or the end of the last
 next-low : (t : ℕ)
@@ -381,7 +420,7 @@ losses-here-number-of-requires : (t : ℕ)
     → losses-here-lts.Need-number-of-requires (losses-here-claims t) (losses-here-at t) losses-here.Post
     losses-here-Inv-loop losses-here-μ-loop
 losses-here-number-of-requires t c κs =
-    let p = c .before .before .before .before .before .before .before .before .before .pre .1 in
+    let p = entered t c .pre .1 in
     let of = p .1 .1 .1 .1 .0 in
     (omega (arith, of .blocks, p .1 .1 .0 .few), of .shaped)
 
@@ -464,12 +503,27 @@ losses-here-returns t c =
     let n = c .before .before .number-of .ensures in
     grown-weaken (λ x sent u. (u .0, omega (arith, u .1, n, c .loop-test .left))) (c .before .loop .inv)
 
--- the place where what is left in the lower state is known, and the function's entry seen from there
+-- where `losses_to` starts: the place where all is at hand, and from there, where half of the slices are known, and the start
+abbrev To-known : ℕ → Type 0
+To-known t = losses-to-lts.After-left (losses-to-claims t) (losses-to-at t) losses-to.Post
+
+abbrev to-half : (t : ℕ) → To-known t
+    → losses-to-lts.After-shared-slice-known4 (losses-to-claims t) (losses-to-at t) losses-to.Post
+to-half t c = c .before .before .before .before .before
+
+abbrev begun : (t : ℕ) → To-known t → losses-to-lts.Start (losses-to-claims t) (losses-to-at t) losses-to.Post
+begun t c = to-half t c .before .before .before .before
+
+-- the place where what is left in the lower state is known, the function's start seen from there, and that place seen from
+-- where the step is made
 abbrev Lower : ℕ → Type 0
 Lower t = losses-to-lts.After-losses-left (losses-to-claims t) (losses-to-at t) losses-to.Post
 
 abbrev begin : (t : ℕ) → Lower t → losses-to-lts.Start (losses-to-claims t) (losses-to-at t) losses-to.Post
-begin t c = c .before .before .before .before .before .before .before .before .before .before
+begin t c = begun t (c .before)
+
+abbrev lowered : (t : ℕ) → losses-to-lts.After-step (losses-to-claims t) (losses-to-at t) losses-to.Post → Lower t
+lowered t c = c .before .before .before .before .before .before
 
 -- a row at that state after the column has so much left
 own-next : (t : ℕ) (c : Lower t) → let a = begin t c .args in (x : List ℕ)
@@ -495,7 +549,7 @@ apart-low t c =
 losses-to-losses-left-requires : (t : ℕ)
     → losses-to-lts.Need-losses-left-requires (losses-to-claims t) (losses-to-at t) losses-to.Post
 losses-to-losses-left-requires t c κs =
-    let p = c .before .before .before .before .before .before .before .before .before .pre .1 .0 in
+    let p = begun t c .pre .1 .0 in
     let of = p .1 .1 .1 .1 .0 in
     (omega (arith, of .blocks, p .1 .1 .0 .few), of .shaped)
 
@@ -560,7 +614,7 @@ losses-to-returns-3 : (t : ℕ)
     → losses-to-lts.Need-returns-3 (losses-to-claims t) (losses-to-at t) losses-to.Post
 losses-to-returns-3 t c =
     let q = c .before .before in
-    let n = q .before .before .before .before .before .before in
+    let n = lowered t q in
     let p = begin t n .pre .1 .0 in
     grown-nothing (p .1 .0)
     (λ x sent u.
@@ -570,7 +624,7 @@ losses-to-all-end-requires : (t : ℕ)
     → losses-to-lts.Need-all-end-requires (losses-to-claims t) (losses-to-at t) losses-to.Post
 losses-to-all-end-requires t c κs =
     let q = c .before .before .before in
-    let p = begin t (q .before .before .before .before .before .before) .pre .1 .0 in
+    let p = begin t (lowered t q) .pre .1 .0 in
     (p .0, (p .1 .1 .1 .1 .1 .0 .tables, (q .step .ensures .sound, p .1 .1 .1 .0)))
 
 losses-to-returns-4 : (t : ℕ)
@@ -578,7 +632,7 @@ losses-to-returns-4 : (t : ℕ)
 losses-to-returns-4 t c =
     let e = c .before in
     let q = e .before .before .before .before in
-    let n = q .before .before .before .before .before .before in
+    let n = lowered t q in
     let p = begin t n .pre .1 .0 in
     grown-nothing (p .1 .0)
     (λ x sent u.
@@ -588,7 +642,7 @@ losses-to-returns-4 t c =
 losses-to-add-columns : (t : ℕ)
     → losses-to-lts.Need-add-columns (losses-to-claims t) (losses-to-at t) losses-to.Post
 losses-to-add-columns t c =
-    let s = begin t (c .before .before .before .before .before .before .before .before .before .before .before) in
+    let s = begin t (lowered t (c .before .before .before .before .before)) in
     let size = sizes (s .args .l) (legal-bounds (s .args .l) (s .pre .1 .0 .0 .is-legal)) in
     omega (arith, size .l2-high, s .pre .1 .0 .1 .1 .1 .0)
 
@@ -622,7 +676,8 @@ losses-to-returns-5 : (t : ℕ)
     → losses-to-lts.Need-returns-5 (losses-to-claims t) (losses-to-at t) losses-to.Post
 losses-to-returns-5 t c =
     let d = c .before .before in
-    let q = d .before .before .before .before .before .before .before in
+    let e = d .before .before .before .before .before in
+    let q = e .before .before in
     let w = q .before .before .before in
     let f = w .before .before in
     let n = f .before in

@@ -41,15 +41,19 @@ add-h c =
 slice-aggregate-count-unlike : tie.Need-slice-aggregate-count-unlike Inv-loop μ-loop
 slice-aggregate-count-unlike c = search needs
 
+-- the loop's head, seen from where the block is light
+abbrev looped : tie.Else2 Inv-loop μ-loop → tie.At-loop Inv-loop μ-loop
+looped c = c .before .before .before .before
+
 mul-count-unlike : tie.Need-mul-count-unlike Inv-loop μ-loop
 mul-count-unlike c =
-    let p = c .before .before .before .before .before .before in
+    let p = looped (c .before .before) in
     let s = p .before .before in
     omega (arith, room (s .args .l) (s .pre .0) (p .loop .i) (c .before .before .before .before .if1 .taken))
 
 count-unlike-requires : tie.Need-count-unlike-requires Inv-loop μ-loop
 count-unlike-requires c κs =
-    let p = c .before .before .before .before .before .before in
+    let p = looped (c .before .before) in
     let s = p .before .before in
     let r = room (s .args .l) (s .pre .0) (p .loop .i) (c .before .before .before .before .if1 .taken) in
     let long : length (s .args .t3) ≡ 255 = search needs in
@@ -57,7 +61,7 @@ count-unlike-requires c κs =
 
 add-count : tie.Need-add-count Inv-loop μ-loop
 add-count c =
-    let p = c .before .before .before .before .before .before .before in
+    let p = looped (c .before .before .before) in
     let s = p .before .before in
     let r = room (s .args .l) (s .pre .0) (p .loop .i) (c .before .before .before .before .before .if1 .taken) in
     omega (arith, r, p .loop .inv .low, c .count-unlike .ensures .1)

@@ -14,9 +14,12 @@ use Rattle.tables.proofs.Ending.{ended}
 use Rattle.tables.proofs.ends.Statement.{statement}
 use Rattle.tables.proofs.ends.Tie as tie
 
--- the start of the function
+-- where the block has lost something before, and where the function starts, seen from where the width is known
+abbrev losing : tie.After-wide → tie.Else1
+losing c = c .before .before .before .before .before .before
+
 abbrev begin : tie.After-wide → tie.Start
-begin c = c .before .before .before .before .before .before .before .before .before .before .before
+begin c = losing c .before .before .before .before .before
 
 returns : tie.Need-returns
 returns c = λ x sent u. refl

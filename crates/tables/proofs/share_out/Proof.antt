@@ -37,32 +37,36 @@ mul-c c = omega (arith, chunk-low (c .before .before .before .before .before .pr
 add-c : tie.Need-add-c
 add-c c = omega (arith, chunk-low (c .before .before .before .before .before .pre))
 
+-- where the function starts, seen from where the place of the chunk is asked for
+abbrev start : tie.After-struct-known2 → tie.Start
+start c = c .before .before .before .before .before .before
+
 mul-place-of : tie.Need-mul-place-of
-mul-place-of c = omega (arith, start-low (c .before .before .before .before .before .before .pre))
+mul-place-of c = omega (arith, start-low (start c .pre))
 
 place-of-requires : tie.Need-place-of-requires
-place-of-requires c κs = let p = c .before .before .before .before .before .before .pre in (start-low p, received-low p)
+place-of-requires c κs = let p = start c .pre in (start-low p, received-low p)
 
 add-if2 : tie.Need-add-if2
 add-if2 c =
-    let p = c .before .before .before .before .before .before .before .before .before .pre in
+    let p = start (c .before .before .before) .pre in
     omega (arith, received-low p, chunk-bits p, c .before .before .place-of .ensures .0)
 
 returns : tie.Need-returns
 returns c =
     let f = c .before .before .before in
-    let p = f .before .before .before .before .before .before .before .pre in
+    let p = start (f .before) .pre in
     shared-short p (f .place-of .result) (f .place-of .ensures .1) (c .before .before .if1 .taken) (c .if2 .taken)
 
 read-chunk-requires : tie.Need-read-chunk-requires
 read-chunk-requires c κs =
-    let p = c .before .before .before .before .before .before .before .before .before .before .pre in
+    let p = start (c .before .before .before .before) .pre in
     (p .bits, (chunk-bits p, (c .if2 .left, chunk-low p)))
 
 returns-2 : tie.Need-returns-2
 returns-2 c =
     let f = c .before .before .before .before in
-    let s = f .before .before .before .before .before .before .before in
+    let s = start (f .before) in
     let a = s .args in
     let g = s .good .1 .1 .1 .1 .1 .1 .0 in
     let n : length (a .t7 .row) ≡ 255 = search (needs, g .1 .1) in
@@ -73,7 +77,7 @@ returns-2 c =
 returns-3 : tie.Need-returns-3
 returns-3 c =
     let f = c .before .before in
-    let p = f .before .before .before .before .before .before .before .pre in
+    let p = start (f .before) .pre in
     shared-beyond p (f .place-of .result) (f .place-of .ensures .1) (c .if3 .taken)
 
 -- what holds where the chunk becomes a cell: there is room for it, and the answer is that table
@@ -86,13 +90,13 @@ cell : (c : lts.Else3 (
   take-cell-reads.Learnt,
 ) reads.Pre reads.Post) →
     let f = c .before .before in
-    let a = f .before .before .before .before .before .before .before .args in
+    let a = start (f .before) .args in
     (a .t7 .cells .n < 12)
     × Shared (a .l) (a .y .now) (a .t3) (a .j) (a .h) (a .a) (a .t7) true
     (withCell (a .t7) (a .h) (getD (a .t3 .block) (a .h) 0) (a .j) (a .a) (f .place-of .result))
 cell c =
     let f = c .before .before in
-    let s = f .before .before .before .before .before .before .before in
+    let s = start (f .before) in
     let a = s .args in
     let z : (a .a ≡ 0 → ⊥) = c .before .if1 .left in
     let pos : 0 < a .a = omega arith in
@@ -115,12 +119,12 @@ cell c =
 take-cell-requires : tie.Need-take-cell-requires
 take-cell-requires c κs =
     let f = c .before .before in
-    let p = f .before .before .before .before .before .before .before .pre in
+    let p = start (f .before) .pre in
     (omega (arith, p .some, p .sound .few), (omega (arith, column-low p), (p .less, cell c .0)))
 
 returns-4 : tie.Need-returns-4
 returns-4 c =
-    let s = c .before .before .before .before .before .before .before .before .before .before in
+    let s = start (c .before .before .before .before) in
     let a = s .args in
     subst (λ (t : Table). Shared (a .l) (a .y .now) (a .t3) (a .j) (a .h) (a .a) (a .t7) true t)
     (sym (c .take-cell .ensures))

@@ -249,7 +249,8 @@ same-length-2 c = search needs
 
 returns-4 : tie.Need-returns-4
 returns-4 c =
-    let q = unmarked (c .before .before .before .before .before .before) in
+    let m = c .before .before .before in
+    let q = unmarked (m .before .before .before) in
     grown-weaken (λ x sent u. (u, comes q _ x sent u (λ j h k. absurd (omega (arith, k))))) (c .before .before .columns2 .ensures)
 
 pub tables-spec : {M : Type 1} → statement M
