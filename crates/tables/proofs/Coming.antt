@@ -1,8 +1,8 @@
 -- Rows that come through marked loss states, from one column to the next: what a row has left is what its table has
 -- left, a mark of its state covers what it can still differ in, and a column that it crosses takes it on. Rests on the
 -- laws of states. Assumes nothing.
-use Prim.Native.Nat.{ℕ, zero, suc, _+_, _-_, _*_, _<_, _≤_}
-use mathlib.Core.Path.{_≡_, refl, sym, ap, subst, _∙_}
+use Prim.Native.Nat.{ℕ, zero, _+_, _<_, _≤_}
+use mathlib.Core.Path.{_≡_, sym, subst, _∙_}
 use mathlib.Core.Bool.{Bool, true}
 use mathlib.Core.Logic.{_⊎_, inl, inr, ⊎-elim}
 use mathlib.Core.List.{List}
