@@ -1,7 +1,7 @@
 -- The marks of one column, made anew state by state. Assumes nothing.
 use Prim.Native.Nat.{ℕ, _+_, _*_, _<_, _≤_}
 use mathlib.Core.Path.{_≡_, refl, sym, _∙_}
-use mathlib.Core.Bool.{Bool}
+use mathlib.Core.Bool.{Bool, false}
 use mathlib.Core.Logic.{_⊎_, inl, inr, ⊎-elim}
 use mathlib.Core.List.{List}
 use native.Mathlib.Decide.{ℕ-discrete, decLt}
@@ -10,9 +10,10 @@ use native.Mathlib.Omega.{arith}
 use lib.ListN.{length, getD, set, length-set}
 use lib.Seq.{getD-set-same, getD-set-other}
 use Rattle.message.specs.declared.Layout.{Layout}
+use Rattle.states.specs.States.{stateOf}
 use Rattle.states.specs.declared.Shape.{Shape}
 use Rattle.column.specs.declared.Heavy.{Heavy}
-use Rattle.live.specs.Passes.{Within, numberOf, entryOf, PutAt, Digits, Kept}
+use Rattle.live.specs.Passes.{Within, entryOf, PutAt, Digits, Kept}
 use Rattle.live.specs.Passes.{Remade, Gains, Spread, SpreadBy, Gained}
 use Rattle.live.proofs.Steps.{gained-next}
 
@@ -46,17 +47,16 @@ two-columns states j columns marks h room =
     omega (arith, mul-le-mul-right {m = j + 2} {n = columns + 1} states (omega arith))
 
 -- ---- fresh marks of a column
-module _ (l : Layout) (y numbers : List ℕ) (heavy : Heavy) (known z digits : List ℕ) (j : ℕ) (ahead : Bool) (other : ℕ
-    → ℕ) (there : ℕ)
+module _ (l : Layout) (y numbers : List ℕ) (heavy : Heavy) (known z digits : List ℕ) (j : ℕ) (other : ℕ → ℕ) (there : ℕ)
     (marks : List ℕ) (at low : ℕ) (entry : List ℕ) where
-  pub spread-none : Spread l y numbers heavy known z digits j ahead other there marks at low low entry entry
+  pub spread-none : Spread l y numbers heavy known z digits j other there marks at low low entry entry
   spread-none = record { long = refl; grows = λ q. omega arith; gains = λ q lo hi. absurd (omega arith) }
 
   -- one fresh mark more is raised
   pub spread-next : (q v : ℕ) (fresh : List ℕ) → q < length fresh → getD fresh q 0 ≤ v
-      → (0 < getD marks (at + q) 0 → Gains l y numbers heavy known z j ahead (entryOf digits q) other there v)
-      → Spread l y numbers heavy known z digits j ahead other there marks at low q entry fresh
-      → Spread l y numbers heavy known z digits j ahead other there marks at low (q + 1) entry (set fresh q v)
+      → (0 < getD marks (at + q) 0 → Gains l y numbers heavy known z j false (entryOf digits q) other there v)
+      → Spread l y numbers heavy known z digits j other there marks at low q entry fresh
+      → Spread l y numbers heavy known z digits j other there marks at low (q + 1) entry (set fresh q v)
   spread-next q v fresh h up here s =
       record {
         long = length-set fresh q v ∙ s .long;
@@ -69,7 +69,7 @@ module _ (l : Layout) (y numbers : List ℕ) (heavy : Heavy) (known z digits : L
       grows-at i (no e) = rw (getD-set-other fresh q i v 0 e) (s .grows i)
 
       gains-at : (i : ℕ) → low ≤ i → i < q + 1 → 0 < getD marks (at + i) 0 → Dec (i ≡ q)
-          → Gains l y numbers heavy known z j ahead (entryOf digits i) other there (getD (set fresh q v) i 0)
+          → Gains l y numbers heavy known z j false (entryOf digits i) other there (getD (set fresh q v) i 0)
       gains-at i lo hi m (yes e) = rw (e, getD-set-same fresh q v 0 h) (here (rw e at m))
       gains-at i lo hi m (no e) = rw (getD-set-other fresh q i v 0 e) (s .gains i lo (omega arith) m)
 
@@ -78,8 +78,8 @@ module _ (l : Layout) (y numbers : List ℕ) (heavy : Heavy) (known z : List ℕ
     (at base : ℕ)
     (marks : List ℕ) where
   pub record Remaking (fresh : List ℕ) (p : ℕ) : Type 0 where
-    pub gained : (own : ℕ → ℕ) → Within shape own → 0 < getD marks (at + numberOf shape own) 0
-        → Gained l y numbers heavy known z shape j ahead marks base p own (getD fresh (numberOf shape own) 0)
+    pub gained : (own : ℕ → ℕ) → Within shape own → 0 < getD marks (at + stateOf shape own) 0
+        → Gained l y numbers heavy known z shape j ahead marks base p own (getD fresh (stateOf shape own) 0)
 
   pub remaking-starts : (fresh : List ℕ) → Remaking fresh 0
   remaking-starts fresh = record { gained = λ own w m other w' k. absurd (omega arith) }
@@ -95,18 +95,18 @@ module _ (l : Layout) (y numbers : List ℕ) (heavy : Heavy) (known z : List ℕ
 
 -- ---- the table of the losses left, for the states below q
 pub record Tabled (shape : Shape) (q : ℕ) (table : List ℕ) : Type 0 where
-  pub entry : (left : ℕ → ℕ) → Within shape left → numberOf shape left < q → (s : ℕ) → s < shape .n
-      → getD table (numberOf shape left * 6 + s) 0 ≡ left s
+  pub entry : (left : ℕ → ℕ) → Within shape left → stateOf shape left < q → (s : ℕ) → s < shape .n
+      → getD table (stateOf shape left * 6 + s) 0 ≡ left s
 
 pub table-next : (shape : Shape) → shape .n ≤ 6 → (entry exit : List ℕ) (q : ℕ) (found : List ℕ) → Tabled shape q entry
     → PutAt q found entry exit
-    → ((left : ℕ → ℕ) → Within shape left → q ≡ numberOf shape left → (s : ℕ) → s < shape .n → getD found s 0 ≡ left s)
+    → ((left : ℕ → ℕ) → Within shape left → q ≡ stateOf shape left → (s : ℕ) → s < shape .n → getD found s 0 ≡ left s)
     → Tabled shape (q + 1) exit
 table-next shape few entry exit q found before put digits =
-    record { entry = λ left w h s k. go left w h s k (ℕ-discrete (numberOf shape left) q) }
+    record { entry = λ left w h s k. go left w h s k (ℕ-discrete (stateOf shape left) q) }
   where
-    go : (left : ℕ → ℕ) → Within shape left → numberOf shape left < q + 1 → (s : ℕ) → s < shape .n
-        → Dec (numberOf shape left ≡ q) → getD exit (numberOf shape left * 6 + s) 0 ≡ left s
+    go : (left : ℕ → ℕ) → Within shape left → stateOf shape left < q + 1 → (s : ℕ) → s < shape .n
+        → Dec (stateOf shape left ≡ q) → getD exit (stateOf shape left * 6 + s) 0 ≡ left s
     go left w h s k (yes e) = rw e (put .here s (omega arith) ∙ digits left w (sym e) s k)
-    go left w h s k (no e) = put .before (numberOf shape left * 6 + s) (omega arith) ∙ before .entry left w (omega
+    go left w h s k (no e) = put .before (stateOf shape left * 6 + s) (omega arith) ∙ before .entry left w (omega
         arith) s k

@@ -9,11 +9,11 @@ use native.Mathlib.Omega.{arith}
 use lib.ListN.{length, getD, set, length-set}
 use lib.Seq.{getD-set-same, getD-set-other}
 use Rattle.message.specs.declared.Layout.{Layout}
-use Rattle.states.specs.States.{mostStates, stride, state, each}
+use Rattle.states.specs.States.{mostStates, stride, state, each, stateOf}
 use Rattle.states.specs.declared.Shape.{Shape}
 use Rattle.states.proofs.States.{stride-pos, state-same, state-lowered}
 use Rattle.column.specs.declared.Heavy.{Heavy}
-use Rattle.live.specs.Passes.{Within, numberOf, Kept, Remade, Goes, FirstMark}
+use Rattle.live.specs.Passes.{Within, Kept, Remade, Goes, FirstMark}
 use Rattle.live.proofs.Columns.{remade-none, remade-set}
 use Rattle.live.proofs.Levels.{Above, Levels, level-or, levels-next}
 use Rattle.live.proofs.Steps.{crosses-same}
@@ -35,8 +35,8 @@ module _ (l : Layout) (y numbers : List ℕ) (heavy : Heavy) (known : List ℕ) 
     pub column : Remade (shape .states) at entry marks
     pub levelled : Levels (shape .n) size next-marks (each levels) q
     pub most-of : (p : ℕ) → p < q → getD marks (at + p) 0 ≤ most
-    pub goes : (left : ℕ → ℕ) → Within shape left → wide left → numberOf shape left < q
-        → Goes l y numbers heavy known shape j entry base left (getD marks (at + numberOf shape left) 0)
+    pub goes : (left : ℕ → ℕ) → Within shape left → wide left → stateOf shape left < q
+        → Goes l y numbers heavy known shape j entry base left (getD marks (at + stateOf shape left) 0)
 
   pub completing-starts : (levels : List ℕ) → length levels ≡ mostStates → Completing entry levels 0 0
   completing-starts levels h =
@@ -51,11 +51,11 @@ module _ (l : Layout) (y numbers : List ℕ) (heavy : Heavy) (known : List ℕ) 
 
   -- what is known of the losses left found, the level v, which is tested as f, and the mark m of state q
   pub record Told (marks levels : List ℕ) (most q : ℕ) (found : ℕ → ℕ) (v f m more : ℕ) : Type 0 where
-    pub digits : (own : ℕ → ℕ) → Within shape own → numberOf shape own ≡ q → (s : ℕ) → s < heavy .n → own s ≡ found s
+    pub digits : (own : ℕ → ℕ) → Within shape own → stateOf shape own ≡ q → (s : ℕ) → s < heavy .n → own s ≡ found s
     pub own : 0 < getD marks (base + q) 0 → 0 < v
     pub down : (s u : ℕ) → s < shape .n → 0 < found s → 0 < getD (shape .stride) s 0 → getD (shape .stride) s 0 ≤ q
         → 0 < u → u < 3 → u ≤ getD levels (q - getD (shape .stride) s 0) 0 → u + 1 ≤ v
-    pub tested : (left : ℕ → ℕ) → Within shape left → numberOf shape left ≡ q → wide left → f ≡ v
+    pub tested : (left : ℕ → ℕ) → Within shape left → stateOf shape left ≡ q → wide left → f ≡ v
     pub first : FirstMark l y numbers heavy known shape j marks base found q f m
     pub most-more : most ≤ more
     pub mark-more : m ≤ more
@@ -68,7 +68,7 @@ module _ (l : Layout) (y numbers : List ℕ) (heavy : Heavy) (known : List ℕ) 
     same-next p = c .column .others (base + p) (inr (omega arith))
 
     -- the level is above those one loss below
-    above : (left : ℕ → ℕ) → Within shape left → numberOf shape left ≡ q → (s : ℕ) → s < shape .n → 0 < left s
+    above : (left : ℕ → ℕ) → Within shape left → stateOf shape left ≡ q → (s : ℕ) → s < shape .n → 0 < left s
         → Above (each levels (q - stride size s)) v
     above left w e s k p u h₁ h₂ h₃ =
         let t : getD (shape .stride) s 0 ≡ stride size s = kept .shaped .counts s k in
@@ -77,7 +77,7 @@ module _ (l : Layout) (y numbers : List ℕ) (heavy : Heavy) (known : List ℕ) 
         told .down s u k (omega arith) (omega (arith, stride-pos size s)) (omega arith) h₁ h₂ (rw t h₃)
 
     -- so state q is marked if a row can cross the column from it to a marked state
-    here : (left : ℕ → ℕ) → Within shape left → wide left → numberOf shape left ≡ q
+    here : (left : ℕ → ℕ) → Within shape left → wide left → stateOf shape left ≡ q
         → Goes l y numbers heavy known shape j entry base left m
     here left w u e row vs next light crosses marked =
         let f-is = told .tested left w e u in
@@ -86,7 +86,7 @@ module _ (l : Layout) (y numbers : List ℕ) (heavy : Heavy) (known : List ℕ) 
         let falls : (s : ℕ) → s < shape .n → next s ≤ left s = λ s k. crosses .falls s (omega (arith, kept .blocks)) in
         ⊎-elim (λ a. told .first .high (omega (arith, a, f-is)))
         (⊎-elim
-        (λ a. let n : numberOf shape next ≡ q = state-same' next left a ∙ e in
+        (λ a. let n : stateOf shape next ≡ q = state-same' next left a ∙ e in
         told .first .same row vs next light crosses' (λ s k. a s (omega (arith, kept .blocks)) ∙ same s k)
         (omega (arith, told .own (rw (same-next q) (rw n at marked)), f-is)) (rw (same-next q) (rw n at marked)))
         (λ a. let s = a .0 in
@@ -106,7 +106,7 @@ module _ (l : Layout) (y numbers : List ℕ) (heavy : Heavy) (known : List ℕ) 
         (level-or (shape .n) size next-marks (each levels) q (c .levelled) v left next e w falls marked (above left w
         e))
       where
-        state-same' : (a b : ℕ → ℕ) → ((s : ℕ) → s < shape .n → a s ≡ b s) → numberOf shape a ≡ numberOf shape b
+        state-same' : (a b : ℕ → ℕ) → ((s : ℕ) → s < shape .n → a s ≡ b s) → stateOf shape a ≡ stateOf shape b
         state-same' a b k = state-same size a b (shape .n) k
 
     pub completing-next : Completing (set marks (at + q) m) (set levels q v) more (q + 1)
@@ -123,7 +123,7 @@ module _ (l : Layout) (y numbers : List ℕ) (heavy : Heavy) (known : List ℕ) 
               (λ i. rw there (told .own (rw (same-next q) i)))
               (λ left w e s i p. rw there (above left w e s i p));
           most-of = λ p i. most-at p i (ℕ-discrete p q);
-          goes = λ left w u i. goes-at left w u i (ℕ-discrete (numberOf shape left) q);
+          goes = λ left w u i. goes-at left w u i (ℕ-discrete (stateOf shape left) q);
         }
       where
         most-at : (p : ℕ) → p < q + 1 → Dec (p ≡ q) → getD (set marks (at + q) m) (at + p) 0 ≤ more
@@ -133,11 +133,11 @@ module _ (l : Layout) (y numbers : List ℕ) (heavy : Heavy) (known : List ℕ) 
             rw (getD-set-other marks (at + q) (at + p) m 0 (λ d. e (omega arith)))
             (omega (arith, c .most-of p (omega arith), told .most-more))
 
-        goes-at : (left : ℕ → ℕ) → Within shape left → wide left → numberOf shape left < q + 1 → Dec (numberOf shape left ≡ q)
-            → Goes l y numbers heavy known shape j entry base left (getD (set marks (at + q) m) (at + numberOf shape
+        goes-at : (left : ℕ → ℕ) → Within shape left → wide left → stateOf shape left < q + 1 → Dec (stateOf shape left ≡ q)
+            → Goes l y numbers heavy known shape j entry base left (getD (set marks (at + q) m) (at + stateOf shape
             left) 0)
         goes-at left w u i (yes e) =
             rw (e, getD-set-same marks (at + q) m 0 (omega (arith, c .column .long))) (here left w u e)
         goes-at left w u i (no e) =
-            rw (getD-set-other marks (at + q) (at + numberOf shape left) m 0 (λ d. e (omega arith))) (c .goes left w u
+            rw (getD-set-other marks (at + q) (at + stateOf shape left) m 0 (λ d. e (omega arith))) (c .goes left w u
             (omega arith))

@@ -10,13 +10,13 @@ use native.Mathlib.Numerals.{add-one}
 use native.Mathlib.Omega.{arith}
 use lib.ListN.{length, getD}
 use Rattle.message.specs.declared.Layout.{Layout}
-use Rattle.states.specs.States.{stride, state, each}
+use Rattle.states.specs.States.{stride, state, each, stateOf}
 use Rattle.states.specs.declared.Shape.{Shape}
 use Rattle.states.proofs.States.{state-none}
 use Rattle.column.specs.Column.{Light, apartIn}
 use Rattle.column.specs.declared.Heavy.{Heavy}
 use Rattle.live.specs.Live.{Covers, markAt, Path, apartBefore, apartFrom, Through}
-use Rattle.live.specs.Passes.{Within, numberOf, Kept, Remade, Joined, Regained, Goes, Pass}
+use Rattle.live.specs.Passes.{Within, Kept, Remade, Joined, Regained, Goes, Pass}
 use Rattle.live.proofs.Columns.{other-column}
 use Rattle.live.proofs.Steps.{covers-less, number-low}
 
@@ -81,16 +81,16 @@ module _ (l : Layout) (y numbers : List ℕ) (heavy : Heavy) (row : List ℕ) (s
   pub own-within : (j : ℕ) → j ≤ l .l2 → Within shape (own j)
   own-within j h s k = path-most path j s h (omega (arith, kept .blocks))
 
-  pub own-low : (j : ℕ) → j ≤ l .l2 → numberOf shape (own j) < shape .states
+  pub own-low : (j : ℕ) → j ≤ l .l2 → stateOf shape (own j) < shape .states
   own-low j h = number-low kept (own j) (own-within j h)
 
   -- the first state is the last of all, the last one is that with nothing left
-  pub own-first : numberOf shape (own 0) + 1 ≡ shape .states
+  pub own-first : stateOf shape (own 0) + 1 ≡ shape .states
   own-first =
       state-full (each (shape .size)) (own 0) (shape .n) (λ s k. path .starts s (omega (arith, kept .blocks)))
       ∙ sym (kept .shaped .all)
 
-  pub own-last : numberOf shape (own (l .l2)) ≡ 0
+  pub own-last : stateOf shape (own (l .l2)) ≡ 0
   own-last = state-none (each (shape .size)) (own (l .l2)) (shape .n) (λ s k. path .ends s (omega (
     arith,
     kept
@@ -112,24 +112,24 @@ module _ (l : Layout) (y numbers : List ℕ) (heavy : Heavy) (row : List ℕ) (s
 
   -- one state of a column gets a mark: the own one
   pub only-lets : (c at q : ℕ) (entry marks : List ℕ) → at ≡ c * shape .states → Remade (shape .states) at entry marks
-      → 0 < getD marks (at + q) 0 → numberOf shape (own c) ≡ q → Lets l shape entry own → Lets l shape marks own
+      → 0 < getD marks (at + q) 0 → stateOf shape (own c) ≡ q → Lets l shape entry own → Lets l shape marks own
   only-lets c at q entry marks e r m o t i h = go (ℕ-discrete i c)
     where
       go : Dec (i ≡ c) → 0 < getD marks (markAt shape i (own i)) 0
       go (yes d) = rw (d, o, ← e) m
-      go (no d) = rw (other-column (shape .states) c at entry marks e r i (numberOf shape (own i)) d (own-low i h)) (t
+      go (no d) = rw (other-column (shape .states) c at entry marks e r i (stateOf shape (own i)) d (own-low i h)) (t
           i h)
 
   -- one column more is passed: column c, by column b, where the row counts no less than the floor of its state
   pub passing-next : (known z : List ℕ) (j : ℕ) (ahead : Bool) (c b : ℕ) (entry marks floors : List ℕ) (f : ℕ → ℕ) (done done'
       : ℕ → Type 0)
       → c ≤ l .l2 → b ≤ l .l2 → Remade (shape .states) (c * shape .states) entry marks
-      → ((left : ℕ → ℕ) → Within shape left → 0 < getD entry (c * shape .states + numberOf shape left) 0
-      → Regained l y numbers heavy known z shape j ahead entry (b * shape .states) (getD floors (numberOf shape left) 0) left
-      (getD marks (c * shape .states + numberOf shape left) 0))
+      → ((left : ℕ → ℕ) → Within shape left → 0 < getD entry (c * shape .states + stateOf shape left) 0
+      → Regained l y numbers heavy known z shape j ahead entry (b * shape .states) (getD floors (stateOf shape left) 0) left
+      (getD marks (c * shape .states + stateOf shape left) 0))
       → Joined l y numbers heavy known j ahead (own c) (own b) vs
       → f c ≤ f b + apartIn l heavy z vs j (heavy .n)
-      → getD floors (numberOf shape (own c)) 0 ≤ f b + apartIn l heavy z vs j (heavy .n)
+      → getD floors (stateOf shape (own c)) 0 ≤ f b + apartIn l heavy z vs j (heavy .n)
       → done b → ((i : ℕ) → done' i → (i ≡ c) ⊎ done i)
       → Passing l shape entry own f done → Passing l shape marks own f done'
   passing-next known z j ahead c b entry marks floors f done done' hc hb r g k low floor d dd p =
@@ -146,7 +146,7 @@ module _ (l : Layout) (y numbers : List ℕ) (heavy : Heavy) (row : List ℕ) (s
       unchanged : (i : ℕ) → i ≤ l .l2 → (i ≡ c → ⊥)
           → getD marks (markAt shape i (own i)) 0 ≡ getD entry (markAt shape i (own i)) 0
       unchanged i h n =
-          other-column (shape .states) c (c * shape .states) entry marks refl r i (numberOf shape (own i)) n (own-low i
+          other-column (shape .states) c (c * shape .states) entry marks refl r i (stateOf shape (own i)) n (own-low i
           h)
 
       lets-at : (i : ℕ) → i ≤ l .l2 → Dec (i ≡ c) → 0 < getD marks (markAt shape i (own i)) 0
@@ -163,7 +163,7 @@ module _ (l : Layout) (y numbers : List ℕ) (heavy : Heavy) (row : List ℕ) (s
   pub first-next : (known : List ℕ) → Light l heavy row known → (j : ℕ) (entry marks : List ℕ) (wide : (ℕ → ℕ) → Type 0) → j < l .l2
       → wide (own j) → Remade (shape .states) (j * shape .states) entry marks
       → ((left : ℕ → ℕ) → Within shape left → wide left → Goes l y numbers heavy known shape j entry ((j + 1) * shape .states) left
-      (getD marks (j * shape .states + numberOf shape left) 0))
+      (getD marks (j * shape .states + stateOf shape left) 0))
       → ((i : ℕ) → j + 1 ≤ i → i ≤ l .l2 → 0 < getD entry (markAt shape i (own i)) 0)
       → (i : ℕ) → j ≤ i → i ≤ l .l2 → 0 < getD marks (markAt shape i (own i)) 0
   first-next known light j entry marks wide hj u r g t i lo hi = go (ℕ-discrete i j)
@@ -173,7 +173,7 @@ module _ (l : Layout) (y numbers : List ℕ) (heavy : Heavy) (row : List ℕ) (s
           rw e (g (own j) (own-within j (omega arith)) u row vs (own (j + 1)) light (path .crosses j hj)
           (t (j + 1) (omega arith) (omega arith)))
       go (no n) =
-          rw (other-column (shape .states) j (j * shape .states) entry marks refl r i (numberOf shape (own i)) n
+          rw (other-column (shape .states) j (j * shape .states) entry marks refl r i (stateOf shape (own i)) n
           (own-low i hi))
           (t i (omega arith) hi)
 

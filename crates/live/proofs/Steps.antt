@@ -12,14 +12,14 @@ use lib.Seq.{getD-set-same, getD-set-other}
 use Rattle.bits.specs.Bits.{digits}
 use Rattle.message.specs.declared.Layout.{Layout}
 use Rattle.consistent.specs.Greedy.{losses}
-use Rattle.states.specs.States.{stride, state, each}
+use Rattle.states.specs.States.{stride, state, each, stateOf}
 use Rattle.states.specs.declared.Shape.{Shape}
 use Rattle.states.proofs.States.{stride-pos, state-low, state-up, digitsOf, state-of, digits-most}
 use Rattle.column.specs.Column.{Crosses, chunkAt}
 use Rattle.column.specs.declared.Heavy.{Heavy}
 use Rattle.live.specs.Live.{many, Covers}
 use Rattle.steps.specs.Steps.{Above}
-use Rattle.live.specs.Passes.{Within, numberOf, Digits, entryOf, Kept, Joined, Gains, SpreadBy, Gained, OneLess}
+use Rattle.live.specs.Passes.{Within, Digits, entryOf, Kept, Joined, Gains, SpreadBy, Gained, OneLess}
 
 -- a higher mark covers as much
 pub covers-more : (a b n : ℕ) → a ≤ b → Covers a n → Covers b n
@@ -88,7 +88,7 @@ module _ (l : Layout) (y numbers : List ℕ) (heavy : Heavy) (known : List ℕ) 
 -- ---- the numbers of states
 module _ {heavy : Heavy} {shape : Shape} (kept : Kept heavy shape) where
   -- the number of a state is below the number of states
-  pub number-low : (left : ℕ → ℕ) → Within shape left → numberOf shape left < shape .states
+  pub number-low : (left : ℕ → ℕ) → Within shape left → stateOf shape left < shape .states
   number-low left w = omega (arith, state-low (each (shape .size)) left (shape .n) w, kept .shaped .all)
 
   -- there is a state
@@ -96,12 +96,12 @@ module _ {heavy : Heavy} {shape : Shape} (kept : Kept heavy shape) where
   some-state = omega (arith, kept .shaped .all, stride-pos (each (shape .size)) (shape .n))
 
   -- with no more left in any block the number is no higher
-  pub number-up : (low high : ℕ → ℕ) → ((s : ℕ) → s < heavy .n → low s ≤ high s) → numberOf shape low ≤ numberOf shape
+  pub number-up : (low high : ℕ → ℕ) → ((s : ℕ) → s < heavy .n → low s ≤ high s) → stateOf shape low ≤ stateOf shape
       high
   number-up low high h = state-up (each (shape .size)) low high (shape .n) (λ s k. h s (omega (arith, kept .blocks)))
 
   -- the losses left that the table has for the number of a state are its own
-  pub entry-is : {table : List ℕ} → Digits shape table → (own : ℕ → ℕ) → Within shape own → (q : ℕ) → numberOf shape
+  pub entry-is : {table : List ℕ} → Digits shape table → (own : ℕ → ℕ) → Within shape own → (q : ℕ) → stateOf shape
       own ≡ q
       → (s : ℕ) → s < heavy .n → own s ≡ entryOf table q s
   entry-is {table} d own w q e s h = rw (← e) (sym (d .entry own w s (omega (arith, kept .blocks))))
@@ -135,21 +135,21 @@ module _ (l : Layout) (y numbers : List ℕ) (heavy : Heavy) (known z : List ℕ
     -- one other state more
     pub gained-next : (marks : List ℕ) (base p at : ℕ) (entry exit column : List ℕ)
         → SpreadBy l y numbers heavy known z table shape j ahead p (getD marks (base + p) 0) column at entry exit
-        → (own : ℕ → ℕ) → Within shape own → 0 < getD column (at + numberOf shape own) 0
-        → Gained l y numbers heavy known z shape j ahead marks base p own (getD entry (numberOf shape own) 0)
-        → Gained l y numbers heavy known z shape j ahead marks base (p + 1) own (getD exit (numberOf shape own) 0)
+        → (own : ℕ → ℕ) → Within shape own → 0 < getD column (at + stateOf shape own) 0
+        → Gained l y numbers heavy known z shape j ahead marks base p own (getD entry (stateOf shape own) 0)
+        → Gained l y numbers heavy known z shape j ahead marks base (p + 1) own (getD exit (stateOf shape own) 0)
     gained-next marks base p at entry exit column spread own w m before other w' h =
-        go (ℕ-discrete (numberOf shape other) p)
+        go (ℕ-discrete (stateOf shape other) p)
       where
-        go : Dec (numberOf shape other ≡ p)
-            → Gains l y numbers heavy known z j ahead own other (getD marks (base + numberOf shape other) 0) (getD exit
-            (numberOf shape own) 0)
+        go : Dec (stateOf shape other ≡ p)
+            → Gains l y numbers heavy known z j ahead own other (getD marks (base + stateOf shape other) 0) (getD exit
+            (stateOf shape own) 0)
         go (yes e) =
             λ vs n k c.
-            gains-same own own (entryOf table p) other (getD marks (base + p) 0) (getD exit (numberOf shape own) 0) (λ t a. refl)
+            gains-same own own (entryOf table p) other (getD marks (base + p) 0) (getD exit (stateOf shape own) 0) (λ t a. refl)
             (entry-is kept digits other w' p e)
             (spread .gains own w (λ a. omega (arith, number-up kept other own (k .back a .falls))) m)
             vs n k (rw e at c)
         go (no e) =
-            gains-more own other (getD marks (base + numberOf shape other) 0) (getD entry (numberOf shape own) 0) _
-            (spread .grows (numberOf shape own)) (before other w' (omega arith))
+            gains-more own other (getD marks (base + stateOf shape other) 0) (getD entry (stateOf shape own) 0) _
+            (spread .grows (stateOf shape own)) (before other w' (omega arith))

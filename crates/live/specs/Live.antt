@@ -6,7 +6,7 @@ use mathlib.Core.Logic.{_⊎_}
 use mathlib.Core.List.{List}
 use lib.ListN.{length, getD}
 use Rattle.message.specs.declared.Layout.{Layout}
-use Rattle.states.specs.States.{state, each}
+use Rattle.states.specs.States.{state, each, stateOf}
 use Rattle.states.specs.declared.Shape.{Shape}
 use Rattle.column.specs.Column.{Crosses, apartIn}
 use Rattle.column.specs.declared.Heavy.{Heavy}
@@ -21,7 +21,7 @@ Covers mark n = (0 < mark) × ((n < mark) ⊎ (many ≤ mark))
 
 -- where the mark of a loss state in column j stands; the marks of all columns stand one after another, and those after the last
 abbrev pub markAt : Shape → (j : ℕ) (left : ℕ → ℕ) → ℕ
-markAt shape j left = j * shape .states + state (each (shape .size)) left (shape .n)
+markAt shape j left = j * shape .states + stateOf shape left
 
 -- the loss states own that a row with the chunks vs comes through: at the start of column j heavy block s has own j s losses left, at
 -- first all, in the end none

@@ -6,12 +6,12 @@ use mathlib.Core.Bool.{Bool, true, false}
 use mathlib.Core.List.{List}
 use lib.ListN.{length, getD}
 use Rattle.message.specs.declared.Layout.{Layout}
-use Rattle.states.specs.States.{mostStates, lefts, each}
+use Rattle.states.specs.States.{mostStates, lefts, each, stateOf}
 use Rattle.states.specs.declared.Shape.{Shape}
 use Rattle.column.specs.declared.Heavy.{Heavy}
 use Rattle.far.specs.Far.{Covered, stepAt, blockAt}
 use Rattle.live.specs.Live.{many}
-use Rattle.live.specs.Passes.{Within, numberOf}
+use Rattle.live.specs.Passes.{Within}
 
 -- a table of what rows count in each heavy block: ahead, in the columns before each, by the losses used; otherwise from each on, by the
 -- losses left
@@ -54,4 +54,4 @@ mostAfter columns after left j (suc s) =
 pub record Floors (columns : ℕ) (shape : Shape) (after : List ℕ) (room j : ℕ) (floors : List ℕ) : Type 0 where
   pub low : (q : ℕ) → q < mostStates → getD floors q 0 < many
   pub under : (left : ℕ → ℕ) → Within shape left → (n : ℕ) → room ≤ n + mostAfter columns after left j (shape .n)
-      → getD floors (numberOf shape left) 0 ≤ n
+      → getD floors (stateOf shape left) 0 ≤ n

@@ -7,7 +7,7 @@ use mathlib.Core.List.{List}
 use lib.ListN.{length, getD}
 use Rattle.windows.specs.Windows.{Tables}
 use Rattle.message.specs.declared.Layout.{Layout}
-use Rattle.states.specs.States.{mostStates, lefts, state, each, Shaped}
+use Rattle.states.specs.States.{mostStates, lefts, state, each, Shaped, stateOf}
 use Rattle.states.specs.declared.Shape.{Shape}
 use Rattle.column.specs.Column.{Fit, Light, Crosses, apartIn}
 use Rattle.column.specs.declared.Heavy.{Heavy}
@@ -25,10 +25,6 @@ pub record Ready (l : Layout) (y totals counts numbers : List ℕ) (heavy : Heav
 abbrev pub Within : Shape → (left : ℕ → ℕ) → Type 0
 Within shape left = (s : ℕ) → s < shape .n → left s ≤ each (shape .size) s
 
--- the number of a state
-abbrev pub numberOf : Shape → (left : ℕ → ℕ) → ℕ
-numberOf shape left = state (each (shape .size)) left (shape .n)
-
 -- the losses left in state q in a table that has six entries a state
 abbrev pub entryOf : (digits : List ℕ) (q : ℕ) → ℕ → ℕ
 entryOf digits q s = getD digits (q * 6 + s) 0
@@ -37,7 +33,7 @@ entryOf digits q s = getD digits (q * 6 + s) 0
 pub record Digits (shape : Shape) (digits : List ℕ) : Type 0 where
   pub long : shape .states * 6 ≤ length digits
   pub entry : (left : ℕ → ℕ) → Within shape left → (s : ℕ) → s < shape .n
-      → entryOf digits (numberOf shape left) s ≡ left s
+      → entryOf digits (stateOf shape left) s ≡ left s
 
 -- the losses left in state q are set in it; what comes before them is unchanged
 pub record PutAt (q : ℕ) (left entry exit : List ℕ) : Type 0 where
@@ -86,14 +82,13 @@ Gains l y numbers heavy known z j ahead own other there mark =
     (vs : List ℕ) (m : ℕ) → Joined l y numbers heavy known j ahead own other vs → Covers there m
     → Covers mark (m + apartIn l heavy z vs j (heavy .n))
 
--- fresh marks are raised by the mark of the state other: those of the marked states low to high - 1 of a column
-pub record Spread (l : Layout) (y numbers : List ℕ) (heavy : Heavy) (known z digits : List ℕ) (j : ℕ) (ahead : Bool)
-    (other : ℕ → ℕ)
-    (there : ℕ) (marks : List ℕ) (at low high : ℕ) (entry exit : List ℕ) : Type 0 where
+-- fresh marks are raised by the mark of the state other after the column: those of the marked states low to high - 1 of a column
+pub record Spread (l : Layout) (y numbers : List ℕ) (heavy : Heavy) (known z digits : List ℕ) (j : ℕ) (other : ℕ → ℕ) (there : ℕ)
+    (marks : List ℕ) (at low high : ℕ) (entry exit : List ℕ) : Type 0 where
   pub long : length exit ≡ length entry
   pub grows : (q : ℕ) → getD entry q 0 ≤ getD exit q 0
   pub gains : (q : ℕ) → low ≤ q → q < high → 0 < getD marks (at + q) 0
-      → Gains l y numbers heavy known z j ahead (entryOf digits q) other there (getD exit q 0)
+      → Gains l y numbers heavy known z j false (entryOf digits q) other there (getD exit q 0)
 
 -- fresh marks are raised by the mark of the state with number p: those of all marked states of a column that a row can
 -- join with it
@@ -101,16 +96,16 @@ pub record SpreadBy (l : Layout) (y numbers : List ℕ) (heavy : Heavy) (known z
     (p there : ℕ) (marks : List ℕ) (at : ℕ) (entry exit : List ℕ) : Type 0 where
   pub long : length exit ≡ length entry
   pub grows : (q : ℕ) → getD entry q 0 ≤ getD exit q 0
-  pub gains : (own : ℕ → ℕ) → Within shape own → (ahead ≡ false → p ≤ numberOf shape own) → 0 < getD marks (at + numberOf shape own) 0
-      → Gains l y numbers heavy known z j ahead own (entryOf digits p) there (getD exit (numberOf shape own) 0)
+  pub gains : (own : ℕ → ℕ) → Within shape own → (ahead ≡ false → p ≤ stateOf shape own) → 0 < getD marks (at + stateOf shape own) 0
+      → Gains l y numbers heavy known z j ahead own (entryOf digits p) there (getD exit (stateOf shape own) 0)
 
 -- the mark of the state own gains by the marks of the other states below number p, which stand at base
 abbrev pub Gained : Layout → (y numbers : List ℕ) → Heavy → (known z : List ℕ) → Shape → (j : ℕ) (ahead : Bool) (marks
     : List ℕ)
     (base p : ℕ) (own : ℕ → ℕ) (mark : ℕ) → Type 0
 Gained l y numbers heavy known z shape j ahead marks base p own mark =
-    (other : ℕ → ℕ) → Within shape other → numberOf shape other < p
-    → Gains l y numbers heavy known z j ahead own other (getD marks (base + numberOf shape other) 0) mark
+    (other : ℕ → ℕ) → Within shape other → stateOf shape other < p
+    → Gains l y numbers heavy known z j ahead own other (getD marks (base + stateOf shape other) 0) mark
 
 -- the mark of the state own covers what each mark of the other states, which stand at base, covers and the chunks of column j that are
 -- others than in z, where these are floor together at least
@@ -118,7 +113,7 @@ abbrev pub Regained : Layout → (y numbers : List ℕ) → Heavy → (known z :
     (base floor : ℕ) (own : ℕ → ℕ) (mark : ℕ) → Type 0
 Regained l y numbers heavy known z shape j ahead marks base floor own mark =
     (other : ℕ → ℕ) → Within shape other → (vs : List ℕ) (m : ℕ) → Joined l y numbers heavy known j ahead own other vs
-    → Covers (getD marks (base + numberOf shape other) 0) m → floor ≤ m + apartIn l heavy z vs j (heavy .n)
+    → Covers (getD marks (base + stateOf shape other) 0) m → floor ≤ m + apartIn l heavy z vs j (heavy .n)
     → Covers mark (m + apartIn l heavy z vs j (heavy .n))
 
 -- the state left is marked if a row crosses column j from it to a marked state
@@ -126,7 +121,7 @@ abbrev pub Goes : Layout → (y numbers : List ℕ) → Heavy → (known : List 
     (left : ℕ → ℕ) (mark : ℕ) → Type 0
 Goes l y numbers heavy known shape j marks base left mark =
     (row vs : List ℕ) (next : ℕ → ℕ) → Light l heavy row known → Crosses l y numbers heavy row j left next vs
-    → 0 < getD marks (base + numberOf shape next) 0 → 0 < mark
+    → 0 < getD marks (base + stateOf shape next) 0 → 0 < mark
 
 -- a state with one loss less in block s, of n blocks
 abbrev pub OneLess : (n : ℕ) (left next : ℕ → ℕ) (s : ℕ) → Type 0

@@ -12,10 +12,10 @@ ghost use Prim.Native.Nat.{ℕ, _+_, _-_, _*_, _%_, _<_, _≤_};
 ghost use lib.ListN.{length, getD};
 ghost use Rattle.bits.specs.Bits.{longest};
 ghost use Rattle.windows.specs.Windows.{Tables};
-ghost use Rattle.states.specs.States.{mostStates, lefts, each, Shaped};
+ghost use Rattle.states.specs.States.{mostStates, lefts, each, Shaped, stateOf};
 ghost use Rattle.column.specs.Column.{Fit, Light, Crosses, apartIn};
 ghost use Rattle.live.specs.Live.{many, Path, apartBefore, apartFrom, Covers, Through};
-ghost use Rattle.live.specs.Passes.{Ready, Read, Within, numberOf, PutAt, entryOf, Digits, Kept, Remade, Joined};
+ghost use Rattle.live.specs.Passes.{Ready, Read, Within, PutAt, entryOf, Digits, Kept, Remade, Joined};
 ghost use Rattle.steps.specs.Steps.{Counts};
 ghost use Rattle.whole.specs.Whole.{modulus, readSum};
 ghost use Rattle.far.specs.Far.{blockAt};
@@ -266,7 +266,7 @@ fn spread_over(
         × (((low ≤ high) × (high ≤ states)) × ((at + states ≤ length (now marks))
         × (states ≤ length (now fresh)))))) ⌝ }
     ensures { λ _. ⌜ Spread l (now (y .entry)) (now (numbers .entry)) heavy (now (known .entry)) (now (z .entry)) (now
-        (digits .entry)) j false (each other) there
+        (digits .entry)) j (each other) there
         (now (marks .entry)) at low high (now (fresh .entry)) (now (fresh .exit)) ⌝ }
 {
     let mut q = low;
@@ -426,10 +426,10 @@ fn remake(
         × ((q : ℕ) → q < mostStates → getD floors q 0 < many)))))) ⌝ }
     ensures { λ r. ⌜ Remade (shape .states) at (now (marks .entry)) (now (marks .exit))
         × (((p : ℕ) → p < shape .states → getD (now (marks .exit)) (at + p) 0 ≤ r)
-        × ((own : ℕ → ℕ) → Within shape own → 0 < getD (now (marks .entry)) (at + numberOf shape own) 0
+        × ((own : ℕ → ℕ) → Within shape own → 0 < getD (now (marks .entry)) (at + stateOf shape own) 0
         → Regained l (now (y .entry)) (now (numbers .entry)) heavy (now (known .entry)) (now (z .entry)) shape j ahead
-        (now (marks .entry)) base (getD floors (numberOf shape own) 0) own
-        (getD (now (marks .exit)) (at + numberOf shape own) 0))) ⌝ }
+        (now (marks .entry)) base (getD floors (stateOf shape own) 0) own
+        (getD (now (marks .exit)) (at + stateOf shape own) 0))) ⌝ }
 {
     let states = shape.states;
     let mut fresh = floors;
@@ -1011,7 +1011,7 @@ fn far_level(
     level: u8,
 ) -> u8
     requires { ⌜ (Sized columns shape (now before) × Sized columns shape (now after)) × ((j ≤ columns) × (Digits shape (now digits) × (q < shape .states))) ⌝ }
-    ensures { λ r. ⌜ ((left : ℕ → ℕ) → Within shape left → numberOf shape left ≡ q
+    ensures { λ r. ⌜ ((left : ℕ → ℕ) → Within shape left → stateOf shape left ≡ q
         → room ≤ most columns (now (before .entry)) (now (after .entry)) (each (shape .size)) left j (shape .n) → r ≡ level) ⌝ }
 {
     if level == 0 {
@@ -1070,7 +1070,7 @@ fn complete_column(
         → room ≤ most (l .l2) (now (before .entry)) (now (after .entry)) (each (shape .size)) left j (shape .n)
         → Goes l (now (y .entry)) (now (numbers .entry)) heavy (now (known .entry)) shape j (now
         (marks .entry)) base left
-        (getD (now (marks .exit)) (at + numberOf shape left) 0))) ⌝ }
+        (getD (now (marks .exit)) (at + stateOf shape left) 0))) ⌝ }
 {
     let columns = l.l2;
     let n = shape.n;

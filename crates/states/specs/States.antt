@@ -3,6 +3,7 @@ use Prim.Native.Nat.{ℕ, zero, suc, _+_, _*_, _<_}
 use mathlib.Core.Path.{_≡_}
 use mathlib.Core.List.{List}
 use lib.ListN.{getD}
+use Rattle.states.specs.declared.Shape.{Shape}
 
 -- what a loss of block s counts in the number of a state, where block t has at most size t losses
 unfoldable pub stride : (size : ℕ → ℕ) → ℕ → ℕ
@@ -31,3 +32,7 @@ lefts = 13
 pub record Shaped (n : ℕ) (size strides : List ℕ) (states : ℕ) : Type 0 where
   pub counts : (s : ℕ) → s < n → getD strides s 0 ≡ stride (each size) s
   pub all : states ≡ stride (each size) n
+
+-- the number of the state of a shape in which block s has left s losses left
+abbrev pub stateOf : Shape → (left : ℕ → ℕ) → ℕ
+stateOf shape left = state (each (shape .size)) left (shape .n)

@@ -11,7 +11,7 @@ use Rattle.bits.specs.Bits.{AllBits, longest}
 use Rattle.message.specs.Layout.{legal}
 use Rattle.message.specs.declared.Layout.{Layout}
 use Rattle.windows.specs.Windows.{Tables}
-use Rattle.states.specs.States.{state, stride, each, mostStates, Shaped}
+use Rattle.states.specs.States.{state, stride, each, mostStates, Shaped, stateOf}
 use Rattle.states.specs.declared.Shape.{Shape}
 use Rattle.weigh.specs.Weigh.{brought, chunkTop, SeenIn, MoreOnes}
 use Rattle.weigh.specs.declared.Span.{Span}
@@ -103,7 +103,7 @@ pub record Shares (shape : Shape) (n b q : ℕ) (span : Span) (apart : ℕ) : Ty
 -- the choices so far are those of a row with the chunks vs that is at the state next after the column
 pub record Chosen (l : Layout) (heavy : Heavy) (z : List ℕ) (shape : Shape) (j s q : ℕ) (span : Span) (apart : ℕ)
     (next : ℕ → ℕ) (vs : List ℕ) : Type 0 where
-  pub number : q + state (each (shape .size)) next s ≡ state (each (shape .size)) next (shape .n)
+  pub number : q + state (each (shape .size)) next s ≡ stateOf shape next
   pub low : span .low + 2 * broughtIn l heavy vs j s ≤ 2 * broughtIn l heavy vs j (heavy .n)
   pub high : 2 * broughtIn l heavy vs j (heavy .n) ≤ span .high + 2 * broughtIn l heavy vs j s
   pub differs : apartIn l heavy z vs j (heavy .n) ≤ apart + apartIn l heavy z vs j s
@@ -112,7 +112,7 @@ pub record Chosen (l : Layout) (heavy : Heavy) (z : List ℕ) (shape : Shape) (j
 pub record Sharing (l : Layout) (heavy : Heavy) (z : List ℕ) (shape : Shape) (j : ℕ) (left : ℕ → ℕ) (b a q : ℕ)
     (span : Span) (apart : ℕ) (next : ℕ → ℕ) (vs : List ℕ) : Type 0 where
   pub own : left b ≡ next b + a
-  pub number : q + state (each (shape .size)) next b ≡ state (each (shape .size)) next (shape .n)
+  pub number : q + state (each (shape .size)) next b ≡ stateOf shape next
   pub low : span .low + 2 * broughtIn l heavy vs j (suc b) ≤ 2 * broughtIn l heavy vs j (heavy .n)
   pub high : 2 * broughtIn l heavy vs j (heavy .n) ≤ span .high + 2 * broughtIn l heavy vs j (suc b)
   pub differs : apartIn l heavy z vs j (heavy .n) ≤ apart + apartIn l heavy z vs j (suc b)
@@ -125,5 +125,5 @@ pub record Raised (l : Layout) (y : List ℕ) (heavy : Heavy) (z : List ℕ) (sh
   pub raises : Raises entry exit
   pub gains : (numbers row vs : List ℕ) (next : ℕ → ℕ) → Crosses l y numbers heavy row j left next vs → Goes next vs
       → broughtIn l heavy vs j (heavy .n) % modulus ≡ need
-      → 0 < getD marks (at + state (each (shape .size)) next (shape .n)) 0
-      → Above there (apartIn l heavy z vs j (heavy .n)) (getD exit (state (each (shape .size)) next (shape .n)) 0)
+      → 0 < getD marks (at + stateOf shape next) 0
+      → Above there (apartIn l heavy z vs j (heavy .n)) (getD exit (stateOf shape next) 0)

@@ -10,7 +10,7 @@ ghost use mathlib.Core.List.{List};
 ghost use Prim.Native.Nat.{ℕ, _+_, _-_, _*_, _%_, _<_, _≤_};
 ghost use lib.ListN.{length, getD};
 ghost use Rattle.bits.specs.Bits.{longest};
-ghost use Rattle.states.specs.States.{state, each, mostStates};
+ghost use Rattle.states.specs.States.{state, each, mostStates, stateOf};
 ghost use Rattle.windows.specs.Windows.{Tables};
 ghost use Rattle.weigh.specs.Weigh.{chunkTop};
 ghost use Rattle.column.specs.Column.{Fit, Light, chunkAt, Crosses, apartIn, Readable};
@@ -313,9 +313,9 @@ pub fn raise(
     ensures { λ _. ⌜ Raises (now (fresh .entry)) (now (fresh .exit)) × ((row vs : List ℕ) (next : ℕ → ℕ)
         → Light l heavy row (now (known .entry))
         → Crosses l (now (y .entry)) (now (numbers .entry)) heavy row j (each left) next vs
-        → 0 < getD (now (marks .entry)) (at + state (each (shape .size)) next (shape .n)) 0
+        → 0 < getD (now (marks .entry)) (at + stateOf shape next) 0
         → Above there (apartIn l heavy (now (z .entry)) vs j (heavy .n))
-        (getD (now (fresh .exit)) (state (each (shape .size)) next (shape .n)) 0)) ⌝ }
+        (getD (now (fresh .exit)) (stateOf shape next) 0)) ⌝ }
 {
     let modulus = l.l1 * l.nc + 1;
     let need = column::missing(numbers[l.l1 + j] as usize, known[j] as usize, modulus);

@@ -20,7 +20,7 @@ use Rattle.message.proofs.Legal.{legal-bounds, sizes}
 use Rattle.lines.specs.Lines.{values}
 use Rattle.found.specs.Found.{Given, Holding, Grown}
 use Rattle.found.proofs.Found.{grown-rows}
-use Rattle.states.specs.States.{state, each}
+use Rattle.states.specs.States.{state, each, stateOf}
 use Rattle.states.specs.declared.Shape.{Shape}
 use Rattle.states.proofs.States.{state-low, state-same, state-up, state-only, digitsOf, state-of, digits-most}
 use Rattle.column.specs.Column.{Fit, Light, Crosses, apartIn}
@@ -28,7 +28,7 @@ use Rattle.column.specs.declared.Heavy.{Heavy}
 use Rattle.live.specs.Live.{Covers, apartFrom}
 use Rattle.live.proofs.Paths.{apart-next, path-most}
 use Rattle.live.proofs.Steps.{crosses-same}
-use Rattle.tables.specs.Tables.{Sound, Under, ownLeft, ShapeOf, stateOf, IsMark, Looked, apart, NearKnown, Comes}
+use Rattle.tables.specs.Tables.{Sound, Under, ownLeft, ShapeOf, IsMark, Looked, apart, NearKnown, Comes}
 use Rattle.tables.specs.Tables.{UnderMarks, Stepped}
 use Rattle.tables.specs.declared.Table.{Table}
 use Rattle.tables.proofs.Making.{reached-not}

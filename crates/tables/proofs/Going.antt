@@ -13,13 +13,13 @@ use Rattle.message.specs.Layout.{rowBits}
 use Rattle.message.specs.declared.Layout.{Layout}
 use Rattle.found.specs.Found.{Sent, Holding, Grown}
 use Rattle.found.proofs.Found.{grown-length, grown-holding, grown-none, grown-nothing, grown-then, grown-weaken}
-use Rattle.states.specs.States.{each}
+use Rattle.states.specs.States.{each, stateOf}
 use Rattle.states.specs.declared.Shape.{Shape}
 use Rattle.states.proofs.States.{state-same}
 use Rattle.column.specs.Column.{Light, Crosses, apartIn}
 use Rattle.column.specs.declared.Heavy.{Heavy}
 use Rattle.live.specs.Live.{Covers}
-use Rattle.tables.specs.Tables.{Sound, Whole, ownLeft, ShapeOf, stateOf, IsMark, Looked, NearKnown, UnderMarks}
+use Rattle.tables.specs.Tables.{Sound, Whole, ownLeft, ShapeOf, IsMark, Looked, NearKnown, UnderMarks}
 use Rattle.tables.specs.Tables.{Stepped}
 use Rattle.tables.specs.declared.Table.{Table}
 use Rattle.tables.proofs.Making.{whole}

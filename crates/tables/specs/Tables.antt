@@ -77,10 +77,6 @@ pub record ShapeOf (heavy : Heavy) (shape : Shape) (left : List ℕ) : Type 0 wh
   pub shaped : Shaped (shape .n) (shape .size) (shape .stride) (shape .states)
   pub within : (s : ℕ) → s < shape .n → getD left s 0 ≤ each (shape .size) s
 
--- the number of a loss state
-abbrev pub stateOf : Shape → (left : ℕ → ℕ) → ℕ
-stateOf shape left = state (each (shape .size)) left (shape .n)
-
 -- the mark of state q in column j, which is 255 where none is kept
 abbrev pub IsMark : Shape → (marks : List ℕ) → (j q mark : ℕ) → Type 0
 IsMark shape marks j q mark =

@@ -12,7 +12,7 @@ ghost use Rattle.lines.specs.Lines.{unlike};
 ghost use Rattle.found.specs.Found.{Given, Sent, Holding, Grown};
 ghost use Rattle.anchor.specs.Anchor.{over};
 ghost use Rattle.cells.specs.Cells.{NoSingle, Placed};
-ghost use Rattle.states.specs.States.{each};
+ghost use Rattle.states.specs.States.{each, stateOf};
 ghost use Rattle.live.specs.Live.{Covers, apartFrom};
 ghost use Rattle.tables.specs.Tables.{
   pushed,
@@ -27,7 +27,6 @@ ghost use Rattle.tables.specs.Tables.{
   Under,
   ShapeOf,
   ownLeft,
-  stateOf,
   IsMark,
   LightIn,
   HeavyOf,

@@ -12,11 +12,11 @@ use borrow.Author.Tests.{lt-ltb}
 use lib.ListN.{length, getD}
 use Rattle.bits.proofs.Laws.{lt-or-ge}
 use Rattle.message.proofs.Legal.{legal-bounds, sizes}
-use Rattle.states.specs.States.{each}
+use Rattle.states.specs.States.{each, stateOf}
 use Rattle.column.specs.Column.{Light, apartIn}
 use Rattle.live.specs.Live.{Path, markAt, apartBefore, apartFrom, Through}
 use Rattle.live.specs.Near.{mostAfter}
-use Rattle.live.specs.Passes.{Within, numberOf, Remade, Regained}
+use Rattle.live.specs.Passes.{Within, Remade, Regained}
 use Rattle.live.proofs.Columns.{two-columns}
 use Rattle.live.proofs.Near.{after-covers}
 use Rattle.live.proofs.Paths.{Lets, Passing, passing-first, passing-next, passing-through, split-up}
@@ -125,7 +125,7 @@ floor : (c : tie.After-floors-of Inv-loop μ-loop) → let i = c .before .before
     let j = i .loop .j in (row vs : List ℕ) (own : ℕ → ℕ → ℕ)
     → Path (a .l) (a .y .now) (a .numbers .now) (a .heavy) row (each (a .shape .size)) vs own
     → a .room ≤ apartFrom (a .l) (a .heavy) (a .z .now) vs 0
-    → getD (c .floors-of .result) (numberOf (a .shape) (own (j + 1))) 0
+    → getD (c .floors-of .result) (stateOf (a .shape) (own (j + 1))) 0
     ≤ apartBefore (a .l) (a .heavy) (a .z .now) vs j + apartIn (a .l) (a .heavy) (a .z .now) vs j (a .heavy .n)
 floor c row vs own path far =
     let t = c .before .before in
@@ -157,10 +157,10 @@ floor c row vs own path far =
 turned : (c : tie.After-floors-of Inv-loop μ-loop) (marks : List ℕ)
     → let i = c .before .before .before in let s = begin i in let a = s .args in let j = i .loop .j in
     Remade (a .shape .states) ((j + 1) * a .shape .states) (i .loop .marks) marks
-    → ((left : ℕ → ℕ) → Within (a .shape) left → 0 < getD (i .loop .marks) ((j + 1) * a .shape .states + numberOf (a .shape) left) 0
+    → ((left : ℕ → ℕ) → Within (a .shape) left → 0 < getD (i .loop .marks) ((j + 1) * a .shape .states + stateOf (a .shape) left) 0
     → Regained (a .l) (a .y .now) (a .numbers .now) (a .heavy) (a .known .now) (a .z .now) (a .shape) j true (i .loop .marks)
-    (j * a .shape .states) (getD (c .floors-of .result) (numberOf (a .shape) left) 0) left
-    (getD marks ((j + 1) * a .shape .states + numberOf (a .shape) left) 0))
+    (j * a .shape .states) (getD (c .floors-of .result) (stateOf (a .shape) left) 0) left
+    (getD marks ((j + 1) * a .shape .states + stateOf (a .shape) left) 0))
     → (row vs : List ℕ) (own : ℕ → ℕ → ℕ) → Light (a .l) (a .heavy) row (a .known .now)
     → Path (a .l) (a .y .now) (a .numbers .now) (a .heavy) row (each (a .shape .size)) vs own
     → a .room ≤ apartFrom (a .l) (a .heavy) (a .z .now) vs 0
@@ -191,7 +191,7 @@ lets-in c row vs own light path far through =
     let o = c .before .before .before .only .ensures in
     let kept = s .pre .1 .0 in
     let first = own-first (a .l) (a .y .now) (a .numbers .now) (a .heavy) row (a .shape) vs own kept path in
-    let q : numberOf (a .shape) (own 0) ≡ a .shape .states - 1 = omega arith in
+    let q : stateOf (a .shape) (own 0) ≡ a .shape .states - 1 = omega arith in
     let lets = through-lets (a .l) (a .y .now) (a .numbers .now) (a .heavy) row (a .shape) vs own kept path (a .marks .now)
     (s .pre .1 .1 .1 .1) through in
     c .loop .inv .1 row vs own light path far
@@ -223,7 +223,7 @@ none-left c row vs own light path far through =
     omega (
       arith,
       c .if1 .taken,
-      m .1 .0 (numberOf (a .shape) (own (j + 1)))
+      m .1 .0 (stateOf (a .shape) (own (j + 1)))
           (own-low (a .l) (a .y .now) (a .numbers .now) (a .heavy) row (a .shape) vs own (s .pre .1 .0) path (j + 1) inside),
       passed .lets (j + 1) inside,
     )

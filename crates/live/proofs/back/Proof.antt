@@ -7,10 +7,9 @@ use mathlib.Core.List.{List}
 use native.Mathlib.Omega.{arith}
 use borrow.Author.Needs.{needs}
 use lib.ListN.{length, replicate, getD-replicate}
-use Rattle.states.specs.States.{mostStates, each}
+use Rattle.states.specs.States.{mostStates, each, stateOf}
 use Rattle.column.specs.Column.{Light}
 use Rattle.live.specs.Live.{Path, apartFrom}
-use Rattle.live.specs.Passes.{numberOf}
 use Rattle.live.proofs.Columns.{two-columns}
 use Rattle.live.proofs.Floors.{no-floors}
 use Rattle.live.proofs.Paths.{Lets, Passing, passing-first, passing-next, passing-through, split-down}
@@ -115,7 +114,7 @@ loop-again c =
     let e : j + 1 ≡ i .loop .j = omega (arith, k) in (
       (omega (arith, k, h), r .remake .ensures .0 .long ∙ i .loop .inv .0 .1),
       λ row vs own light path lets.
-          let low : numberOf (a .shape) (own j) < mostStates =
+          let low : stateOf (a .shape) (own j) < mostStates =
           omega (
             arith,
             s .pre .1 .0 .few,
@@ -135,7 +134,7 @@ loop-again c =
                 (arith, k, h));
           }
           (omega (arith, before-next (a .l) (a .heavy) (a .z .now) vs j))
-          (omega (arith, getD-replicate {A = ℕ} mostStates (numberOf (a .shape) (own j)) 0 0 (omega (arith, low))))
+          (omega (arith, getD-replicate {A = ℕ} mostStates (stateOf (a .shape) (own j)) 0 0 (omega (arith, low))))
           (omega arith) (split-down j) (rw e (i .loop .inv .1 row vs own light path lets)),
     )
 

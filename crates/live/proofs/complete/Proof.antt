@@ -8,11 +8,10 @@ use native.Mathlib.Omega.{arith}
 use borrow.Author.Needs.{needs}
 use borrow.Author.Tests.{lt-ltb}
 use lib.ListN.{length, getD}
-use Rattle.states.specs.States.{each}
+use Rattle.states.specs.States.{each, stateOf}
 use Rattle.column.specs.Column.{Light}
 use Rattle.live.specs.Live.{Path, markAt}
 use Rattle.live.specs.Near.{most}
-use Rattle.live.specs.Passes.{numberOf}
 use Rattle.live.proofs.Columns.{two-columns}
 use Rattle.live.proofs.Paths.{first-next, last-let, lets-through, own-first, own-low}
 use Rattle.live.proofs.Steps.{some-state}
@@ -139,7 +138,7 @@ returns c =
           absurd (omega (
             arith,
             c .if1 .taken,
-            f .1 .0 (numberOf (a .shape) (own j))
+            f .1 .0 (stateOf (a .shape) (own j))
                 (own-low (a .l) (a .y .now) (a .numbers .now) (a .heavy) row (a .shape) vs own (s .pre .1 .0) path j
                 (omega (arith, k, h))),
             first-next (a .l) (a .y .now) (a .numbers .now) (a .heavy) row (a .shape) vs own (s .pre .1 .0) path (a

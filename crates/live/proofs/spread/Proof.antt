@@ -5,9 +5,9 @@ use mathlib.Core.Path.{_≡_, refl, sym, subst}
 use mathlib.Core.Bool.{Bool, false}
 use native.Mathlib.Omega.{arith}
 use lib.ListN.{getD}
-use Rattle.states.specs.States.{each}
+use Rattle.states.specs.States.{each, stateOf}
 use Rattle.column.specs.Column.{apartIn}
-use Rattle.live.specs.Passes.{entryOf, numberOf, Gains}
+use Rattle.live.specs.Passes.{entryOf, Gains}
 use Rattle.live.proofs.Steps.{gains-same, entry-is, entry-low, crosses-same, above-covers, number-low}
 use Rattle.live.proofs.spread.Statement.{statement}
 use Rattle.live.proofs.spread.Tie as tie
@@ -112,7 +112,7 @@ returns-3 c =
       grows = e .grows;
       gains = λ own w down m.
           let back = r .before .before .if2 .left in
-          let q = numberOf (a .shape) own in
+          let q = stateOf (a .shape) own in
           subst
           (λ (b : Bool). Gains (a .l) (a .y .now) (a .numbers .now) (a .heavy) (a .known .now) (a .z .now) (a .j) b own
           (entryOf (a .digits .now) (a .p)) (a .there) (getD (r .spread-over .last .1 .1 .1 .1 .1 .1 .1 .1 .1 .1 .1 .1 .1 .1 .1 .1 .1 .0) q 0))

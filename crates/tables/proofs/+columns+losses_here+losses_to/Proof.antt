@@ -16,8 +16,8 @@ use borrow.Fn.PlainCycle.{Measures, is, falls, and}
 use Rattle.message.proofs.Legal.{legal-bounds, sizes}
 use Rattle.found.specs.Found.{Grown}
 use Rattle.found.proofs.Found.{grown-length, grown-holding, grown-none, grown-nothing, grown-weaken, grown-turn}
-use Rattle.states.specs.States.{each}
-use Rattle.tables.specs.Tables.{ownLeft, stateOf, IsMark, UnderMarks}
+use Rattle.states.specs.States.{each, stateOf}
+use Rattle.tables.specs.Tables.{ownLeft, IsMark, UnderMarks}
 use Rattle.tables.proofs.Making.{no-single}
 use Rattle.tables.proofs.Coming.{fits, near-stays, left-state, comes-marked, comes-near, own-left, crossed}
 use Rattle.tables.proofs.Coming.{comes-next, under-next, shape-next, state-next, looked-next}
