@@ -17,6 +17,9 @@ bench report now=FOLDER [before=FOLDER] [out=FILE]
   now, before   what this version and the one before it stored
   out           the page, in Markdown; it names the pictures as they stand beside it";
 
+/// The folder beside a run's figures with those of cells that were timed again.
+const AGAIN: &str = "again";
+
 /// The most times as long as the tuned peer that a call may take.
 const CALL_BOUND: f64 = 1.5;
 
@@ -25,6 +28,8 @@ struct Stored {
     folder: PathBuf,
     facts: Vec<Fact>,
     cells: Vec<Cell>,
+    /// Cells that were timed again by themselves, for more trials.
+    again: Vec<Cell>,
     setups: Vec<Setup>,
     calls: Vec<Call>,
 }
@@ -35,6 +40,7 @@ impl Stored {
             folder: folder.to_path_buf(),
             facts: read(folder)?,
             cells: read(folder)?,
+            again: read(&folder.join(AGAIN))?,
             setups: read(folder)?,
             calls: read(folder)?,
         })
@@ -46,6 +52,12 @@ impl Stored {
 
     fn cell(&self, key: &Key) -> Option<&Cell> {
         self.cells.iter().find(|cell| cell.key == *key)
+    }
+
+    /// The cells that targets are judged by: each as it was timed most often.
+    fn judged(&self) -> Vec<Cell> {
+        let oftener = |cell: &Cell| self.again.iter().find(|again| again.key == cell.key && again.trials > cell.trials);
+        self.cells.iter().map(|cell| oftener(cell).unwrap_or(cell).clone()).collect()
     }
 }
 
@@ -121,8 +133,9 @@ fn machine(now: &Stored) -> String {
 
 fn targets(now: &Stored) -> String {
     let mut lines: Vec<Vec<String>> = Vec::new();
+    let cells = now.judged();
     for target in &TARGETS {
-        let (measured, met) = target.measured(&now.cells);
+        let (measured, met) = target.measured(&cells);
         lines.push(vec![target.words.into(), measured, met.words().into()]);
     }
     for operation in ["write", "read", "mend"] {
@@ -130,7 +143,9 @@ fn targets(now: &Stored) -> String {
     }
     let words = format!(
         "Each target is judged by the worst of the cells that it speaks of, which is named. \"So far\" stands where some of them have too few trials:
-fewer than {FOR_P99} for p99, {FOR_STEPS} of the steps, {FOR_ANY} else. Where no kind of rows is named, all are meant."
+fewer than {FOR_P99} for p99, {FOR_STEPS} of the steps, {FOR_ANY} else. Where no kind of rows is named, all are meant. Of {again} cells there are more trials
+in `{AGAIN}/lists.tsv` beside the other figures, timed by themselves; targets are judged by these, the tables below are not.",
+        again = now.again.len()
     );
     format!("## Targets\n\n{words}\n\n{}", table(&["target", "measured", "met"], &lines))
 }

@@ -1,7 +1,8 @@
 //! The stored figures: files of lines with fields between tabs, the first of which names the fields.
 //!
 //! A run has a folder with four files: `machine.tsv`, `lists.tsv` (a line for each cell, [`Cell`]), `setups.tsv`
-//! (Table II, [`Setup`]) and `calls.tsv` (writing, reading, mending, [`Call`]).
+//! (Table II, [`Setup`]) and `calls.tsv` (writing, reading, mending, [`Call`]). A folder `again` in it may have one more `lists.tsv`, of
+//! cells that were timed by themselves for more trials.
 
 use std::fs::{self, File};
 use std::io::{self, Write};
