@@ -133,7 +133,8 @@ fn fill_later(l: Layout, k: usize, desk: &mut [u8])
 // The chunks of the first row of the list slice.
 fn first_chunks(l: Layout, list: &[u8], out: &mut [u8])
     requires { ⌜ (legal l ≡ true) × ((bytesFor (rowBits l) ≤ length (now list)) × (l .l1 * l .l2 ≤ length (now out))) ⌝ }
-    ensures { λ _. ⌜ now (out .exit) ≡ values l (take (rowBits l) (unpacked (take (bytesFor (rowBits l)) (now (list .entry)))))
+    ensures { λ _. ⌜ now (out .exit)
+        ≡ values l (take (rowBits l) (unpacked (take (bytesFor (rowBits l)) (now (list .entry)))))
         ++ drop (l .l1 * l .l2) (now (out .entry)) ⌝ }
 {
     let n = l.l1 * l.l2 * l.nc;
@@ -145,7 +146,8 @@ fn first_chunks(l: Layout, list: &[u8], out: &mut [u8])
 
 // The desk prepared for the first row of the list slice.
 fn prepare(l: Layout, y: &[u8], list: &[u8], desk: &mut [u8])
-    requires { ⌜ (legal l ≡ true) × (AllBits (now y) × (((length (now y) ≤ rowBits l) × (rowBits l ≤ length (now y) + mostLosses))
+    requires { ⌜ (legal l ≡ true) × (AllBits (now y) × (((length (now y) ≤ rowBits l)
+        × (rowBits l ≤ length (now y) + mostLosses))
         × ((bytesFor (rowBits l) ≤ length (now list)) × (deskSize ≤ length (now desk))))) ⌝ }
     ensures { λ _. ⌜ Prepared l (now (y .entry))
         (values l (take (rowBits l) (unpacked (take (bytesFor (rowBits l)) (now (list .entry)))))) (now (desk .exit)) ⌝ }

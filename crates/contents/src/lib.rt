@@ -117,7 +117,8 @@ pub fn asked(
 // Keeps of the first n contents those that a line allows, one by one; the answer is how many they are.
 fn sift_each(nc: usize, a: Ask, out: &mut [u8], n: usize) -> usize
     requires { ⌜ (nc ≤ 8) × (Small a × (n ≤ length (now out))) ⌝ }
-    ensures { λ r. ⌜ (r ≤ n) × ((w : ℕ) → Among (now (out .entry)) 0 n w → Allows nc a w → Among (now (out .exit)) 0 r w) ⌝ }
+    ensures { λ r. ⌜ (r ≤ n) × ((w : ℕ) → Among (now (out .entry)) 0 n w → Allows nc a w
+        → Among (now (out .exit)) 0 r w) ⌝ }
 {
     let table = vt::weights();
     let mut k: usize = 0;
@@ -136,7 +137,8 @@ fn sift_each(nc: usize, a: Ask, out: &mut [u8], n: usize) -> usize
 // Keeps of the first n contents those that a line allows; the answer is how many they are. A line that asks nothing allows all.
 pub fn sift(nc: usize, a: Ask, out: &mut [u8], n: usize) -> usize
     requires { ⌜ (nc ≤ 8) × (Small a × (n ≤ length (now out))) ⌝ }
-    ensures { λ r. ⌜ (r ≤ n) × ((w : ℕ) → Among (now (out .entry)) 0 n w → Allows nc a w → Among (now (out .exit)) 0 r w) ⌝ }
+    ensures { λ r. ⌜ (r ≤ n) × ((w : ℕ) → Among (now (out .entry)) 0 n w → Allows nc a w
+        → Among (now (out .exit)) 0 r w) ⌝ }
 {
     if a.modulus == 1 {
         return n;

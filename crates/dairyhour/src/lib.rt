@@ -57,7 +57,8 @@ pub extern "C" fn dh_write(
 
 #[no_mangle]
 pub extern "C" fn dh_read(msg: &[u8], out: &mut [u16]) -> LayoutAnswer
-    ensures { λ a. ⌜ (layoutIn a ≡ layoutAnswer (readRefusal (now (msg .entry)) (length (now (out .entry)))) (now (msg .entry)))
+    ensures { λ a. ⌜ (layoutIn a
+        ≡ layoutAnswer (readRefusal (now (msg .entry)) (length (now (out .entry)))) (now (msg .entry)))
         × (now (out .exit) ≡ readTarget (now (msg .entry)) (now (out .entry))) ⌝ }
 {
     let answer = message::reading::read(msg, out);
@@ -81,7 +82,8 @@ pub extern "C" fn dh_read(msg: &[u8], out: &mut [u16]) -> LayoutAnswer
 
 #[no_mangle]
 pub extern "C" fn dh_mend(w: usize, sum: usize, bits: &[u8], out: &mut [u8]) -> Answer
-    ensures { λ a. ⌜ (answerIn a ≡ record { refusal = mendRefusal w sum (now (bits .entry)) (length (now (out .entry))); value = 0 })
+    ensures { λ a. ⌜ (answerIn a
+        ≡ record { refusal = mendRefusal w sum (now (bits .entry)) (length (now (out .entry))); value = 0 })
         × (now (out .exit) ≡ mendTarget w sum (now (bits .entry)) (now (out .entry))) ⌝ }
 {
     let answer = vt::mend(w, sum, bits, out);

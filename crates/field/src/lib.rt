@@ -638,7 +638,8 @@ fn fill_exponents(nc: usize, logs: &[u8], xs: &[u8], es: &mut [u8])
 
 // The first n exponents of one check's terms made those of the next check's.
 fn raise_all(nc: usize, n: usize, es: &mut [u8])
-    requires { ⌜ (3 ≤ nc) × (nc ≤ 8) × (n < 2 ^ nc) × (n ≤ length (now es)) × ((c : ℕ) → c < n → getD (now es) c 0 < 2 ^ nc) ⌝ }
+    requires { ⌜ (3 ≤ nc) × (nc ≤ 8) × (n < 2 ^ nc) × (n ≤ length (now es)) × ((c : ℕ) → c < n
+        → getD (now es) c 0 < 2 ^ nc) ⌝ }
     ensures { λ _. ⌜ Names nc n (now (es .exit)) (λ c. times nc (power nc c) (named nc (getD (now (es .entry)) c 0))) ⌝ }
 {
     let mut c: usize = 0;
@@ -663,7 +664,8 @@ fn sum(p: &[u8; 256], places: &[u8]) -> u8
 
 // The first r checks of the chunks, at the start of a slice: the exponents of all terms of a check are made those of the next.
 pub fn checks(nc: usize, r: usize, logs: &[u8], chunks: &[u8], out: &mut [u8])
-    requires { ⌜ ((3 ≤ nc) × (nc ≤ 8) × Logs nc (now logs) × Elements nc (now chunks)) × ((length (now chunks) < 2 ^ nc) × (r ≤ length (now out))) ⌝ }
+    requires { ⌜ ((3 ≤ nc) × (nc ≤ 8) × Logs nc (now logs) × Elements nc (now chunks))
+        × ((length (now chunks) < 2 ^ nc) × (r ≤ length (now out))) ⌝ }
     ensures { λ _. ⌜ Checks nc r (now (chunks .entry)) (now (out .exit)) ⌝ }
 {
     let n = chunks.len();

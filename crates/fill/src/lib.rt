@@ -125,7 +125,8 @@ fn list_contents(
     z: usize,
     out: &mut [u8],
 ) -> usize
-    requires { ⌜ Given l (now numbers) (now y) × ((Placed l (length (now y)) cells × Open cells z) × (256 ≤ length (now out))) ⌝ }
+    requires { ⌜ Given l (now numbers) (now y) × ((Placed l (length (now y)) cells × Open cells z)
+        × (256 ≤ length (now out))) ⌝ }
     ensures { λ r. ⌜ (r ≤ 256) × ((x : List ℕ) → Sent l (now (numbers .entry)) (now (y .entry)) x
         → Under l (now (y .entry)) cells row x → Among (now (out .exit)) 0 r (getD (values l x) (chunkOf l cells z) 0)) ⌝ }
 {
@@ -299,7 +300,8 @@ pub fn fill(
     kept: Kept,
 ) -> Kept
     requires { ⌜ Given l (now numbers) (now y) × (Holding l (now numbers) (now y) cap (now list) (kept .count) (kept .more)
-        × (Placed l (length (now y)) cells × (NoSingle (cells .block) (cells .lost) × NoSingle (cells .column) (cells .lost)))) ⌝ }
+        × (Placed l (length (now y)) cells × (NoSingle (cells .block) (cells .lost)
+        × NoSingle (cells .column) (cells .lost)))) ⌝ }
     ensures { λ r. ⌜ Grown l (now (numbers .entry)) (now (y .entry)) cap (Under l (now (y .entry)) cells row)
         (now (list .entry)) (kept .count) (kept .more) (now (list .exit)) (r .count) (r .more) ⌝ }
 {

@@ -59,7 +59,8 @@ pub fn add_row(
     list: &mut [u8],
     kept: Kept,
 ) -> Kept
-    requires { ⌜ Given l (now numbers) (now y) × Holding l (now numbers) (now y) cap (now list) (kept .count) (kept .more) ⌝ }
+    requires { ⌜ Given l (now numbers) (now y)
+        × Holding l (now numbers) (now y) cap (now list) (kept .count) (kept .more) ⌝ }
     ensures { λ r. ⌜ Grown l (now (numbers .entry)) (now (y .entry)) cap (InHand l row)
         (now (list .entry)) (kept .count) (kept .more) (now (list .exit)) (r .count) (r .more) ⌝ }
 {

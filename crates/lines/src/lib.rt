@@ -38,7 +38,8 @@ pub fn spread(
 )
     requires { ⌜ Inside nc start stride count (length (now vs)) × (at + count * nc ≤ length (now out)) ⌝ }
     ensures { λ _. ⌜ now (out .exit)
-        ≡ take at (now (out .entry)) ++ line nc start stride count (now (vs .entry)) ++ drop (at + count * nc) (now (out .entry)) ⌝ }
+        ≡ take at (now (out .entry)) ++ line nc start stride count (now (vs .entry))
+        ++ drop (at + count * nc) (now (out .entry)) ⌝ }
 {
     let mut t: usize = 0;
     while t < count {
@@ -110,7 +111,8 @@ fn put_back(nc: usize, whole: usize, bits: &[u8]) -> Mended
 // The chunk of nc bits that the bits at hand, which weigh so much, make with a bit that adds g to the total of their positions, the
 // first of which is given. A 0 adds at most the number of their ones; a 1 adds at least that and the first position.
 fn mend_chunk(nc: usize, first: usize, w: Weight, g: usize, bits: &[u8]) -> Mended
-    requires { ⌜ (((length (now bits) + 1 ≡ nc) × (nc ≤ 8)) × AllBits (now bits)) × (((1 ≤ first) × (first ≤ longest) × (g ≤ longest))
+    requires { ⌜ (((length (now bits) + 1 ≡ nc) × (nc ≤ 8)) × AllBits (now bits)) × (((1 ≤ first)
+        × (first ≤ longest) × (g ≤ longest))
         × ((w .total ≡ total 1 (now bits)) × (w .ones ≡ ones (now bits)))) ⌝ }
     ensures { λ r. ⌜ ((x : List ℕ) → AllBits x → comesFrom x 1 (now (bits .entry)) ≡ true
         → total first x ≡ total first (now (bits .entry)) + g → (r .ok ≡ true) × (r .value ≡ number nc x)) ⌝ }

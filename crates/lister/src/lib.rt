@@ -60,7 +60,8 @@ fn room(n: usize, slice: usize) -> usize
 // Lists the rows that are consistent with the numbers of a fit message and the m bits of a fit row.
 fn list_rows(l: Layout, numbers: &[u16], row: &[u8], m: usize, out: &mut [u8]) -> Listed
     requires { ⌜ Given l (now numbers) (take m (unpacked (now row))) × (m ≤ length (now row) * 8) ⌝ }
-    ensures { λ r. ⌜ (listedOf r ≡ rowsAnswer (roomFor (rowBits l) (length (now (out .entry)))) (allSent l (now (numbers .entry)) (take m (unpacked (now (row .entry))))))
+    ensures { λ r. ⌜ (listedOf r
+        ≡ rowsAnswer (roomFor (rowBits l) (length (now (out .entry)))) (allSent l (now (numbers .entry)) (take m (unpacked (now (row .entry))))))
         × (now (out .exit) ≡ rowsSlice (roomFor (rowBits l) (length (now (out .entry)))) (allSent l (now (numbers .entry)) (take m (unpacked (now (row .entry))))) (now (out .entry))) ⌝ }
 {
     let mut y: [u8; bits::LONGEST] = [0; bits::LONGEST];

@@ -317,7 +317,8 @@ fn spread(
     fresh: &mut [u8],
 )
     requires { ⌜ Ready l (now y) (now totals) (now counts) (now numbers) heavy (now known) (now z) × ((j < l .l2)
-        × ((Kept heavy shape × Digits shape (now digits)) × ((p < shape .states) × ((at + shape .states ≤ length (now marks))
+        × ((Kept heavy shape × Digits shape (now digits)) × ((p < shape .states)
+        × ((at + shape .states ≤ length (now marks))
         × ((shape .states ≤ length (now fresh)) × ((shape .states < length (now some))
         × Counts (now marks) at (shape .states) (now some))))))) ⌝ }
     ensures { λ _. ⌜ SpreadBy l (now (y .entry)) (now (numbers .entry)) heavy (now (known .entry)) (now (z .entry)) (now (digits .entry))
@@ -766,7 +767,8 @@ fn loses_one(
     base: usize,
 ) -> bool
     requires { ⌜ (Read l (now y) (now totals) (now counts) (now numbers) heavy shape (now readings) j
-        × (((t : ℕ) → t < heavy .n → getD left t 0 ≤ each (shape .size) t) × (readSum (now readings) left (heavy .n) ≤ part)))
+        × (((t : ℕ) → t < heavy .n → getD left t 0 ≤ each (shape .size) t)
+        × (readSum (now readings) left (heavy .n) ≤ part)))
         × ((q < shape .states) × ((s < heavy .n) × (base + shape .states ≤ length (now marks)))) ⌝ }
     ensures { λ r. ⌜ ((row vs known : List ℕ) (next : ℕ → ℕ) → Light l heavy row known
         → part ≡ getD known j 0 + readSum (now (readings .entry)) left (heavy .n)
@@ -818,7 +820,8 @@ fn loses(
     base: usize,
 ) -> bool
     requires { ⌜ (Read l (now y) (now totals) (now counts) (now numbers) heavy shape (now readings) j
-        × (((t : ℕ) → t < heavy .n → getD left t 0 ≤ each (shape .size) t) × (readSum (now readings) left (heavy .n) ≤ part)))
+        × (((t : ℕ) → t < heavy .n → getD left t 0 ≤ each (shape .size) t)
+        × (readSum (now readings) left (heavy .n) ≤ part)))
         × ((q < shape .states) × (base + shape .states ≤ length (now marks))) ⌝ }
     ensures { λ r. ⌜ ((row vs known : List ℕ) (next : ℕ → ℕ) (s : ℕ) → s < heavy .n → Light l heavy row known
         → part ≡ getD known j 0 + readSum (now (readings .entry)) left (heavy .n)
@@ -963,7 +966,8 @@ fn most_in(
 ) -> usize
     requires { ⌜ ((columns ≤ 255) × ((s < 6) × ((j ≤ columns) × (size < lefts))))
         × ((blockAt columns (s + 1) ≤ length (now before)) × (blockAt columns (s + 1) ≤ length (now after))) ⌝ }
-    ensures { λ r. ⌜ (left ≤ size → r ≡ mostIn columns (now (before .entry)) (now (after .entry)) s size left j) × (r ≤ 510) ⌝ }
+    ensures { λ r. ⌜ (left ≤ size → r ≡ mostIn columns (now (before .entry)) (now (after .entry)) s size left j)
+        × (r ≤ 510) ⌝ }
 {
     if size < left {
         return 510;
@@ -1010,9 +1014,11 @@ fn far_level(
     q: usize,
     level: u8,
 ) -> u8
-    requires { ⌜ (Sized columns shape (now before) × Sized columns shape (now after)) × ((j ≤ columns) × (Digits shape (now digits) × (q < shape .states))) ⌝ }
+    requires { ⌜ (Sized columns shape (now before) × Sized columns shape (now after)) × ((j ≤ columns)
+        × (Digits shape (now digits) × (q < shape .states))) ⌝ }
     ensures { λ r. ⌜ ((left : ℕ → ℕ) → Within shape left → stateOf shape left ≡ q
-        → room ≤ most columns (now (before .entry)) (now (after .entry)) (each (shape .size)) left j (shape .n) → r ≡ level) ⌝ }
+        → room ≤ most columns (now (before .entry)) (now (after .entry)) (each (shape .size)) left j (shape .n) → r
+        ≡ level) ⌝ }
 {
     if level == 0 {
         return level;
@@ -1061,8 +1067,10 @@ fn complete_column(
     base: usize,
     marks: &mut [u8],
 ) -> u8
-    requires { ⌜ (Fit l (now y) (now numbers) heavy × (Tables (now y) 0 (now totals) (now counts) × (l .l2 ≤ length (now known)))) × ((j < l .l2)
-        × (Kept heavy shape × (Digits shape (now digits) × ((Sized (l .l2) shape (now before) × Sized (l .l2) shape (now after))
+    requires { ⌜ (Fit l (now y) (now numbers) heavy × (Tables (now y) 0 (now totals) (now counts)
+        × (l .l2 ≤ length (now known)))) × ((j < l .l2)
+        × (Kept heavy shape × (Digits shape (now digits) × ((Sized (l .l2) shape (now before)
+        × Sized (l .l2) shape (now after))
         × ((at + shape .states ≤ base) × (base + shape .states ≤ length (now marks))))))) ⌝ }
     ensures { λ r. ⌜ Remade (shape .states) at (now (marks .entry)) (now (marks .exit))
         × (((p : ℕ) → p < shape .states → getD (now (marks .exit)) (at + p) 0 ≤ r)
@@ -1127,8 +1135,10 @@ fn complete(
     room: usize,
     marks: &mut [u8],
 ) -> bool
-    requires { ⌜ (Fit l (now y) (now numbers) heavy × (Tables (now y) 0 (now totals) (now counts) × (l .l2 ≤ length (now known))))
-        × (Kept heavy shape × (Digits shape (now digits) × ((Sized (l .l2) shape (now before) × Sized (l .l2) shape (now after))
+    requires { ⌜ (Fit l (now y) (now numbers) heavy × (Tables (now y) 0 (now totals) (now counts)
+        × (l .l2 ≤ length (now known))))
+        × (Kept heavy shape × (Digits shape (now digits) × ((Sized (l .l2) shape (now before)
+        × Sized (l .l2) shape (now after))
         × ((l .l2 + 1) * shape .states ≤ length (now marks))))) ⌝ }
     ensures { λ r. ⌜ (length (now (marks .exit)) ≡ length (now (marks .entry)))
         × ((row vs : List ℕ) (own : ℕ → ℕ → ℕ) → Light l heavy row (now (known .entry))

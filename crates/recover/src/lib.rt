@@ -120,7 +120,8 @@ fn reduce(nc: usize, count: usize, row: [u8; 255]) -> [u8; 255]
 
 // What is missing of each of the first n checks: the field sum of the check and that of the chunks.
 fn missing(l: Layout, n: usize, logs: &[u8], numbers: &[u16], chunks: &[u8]) -> [u8; 16]
-    requires { ⌜ ((isLegal l ≡ true) × (n ≤ l .r)) × ((Logs (l .nc) (now logs) × (length (now numbers) ≡ l .l1 + l .l2 + l .r))
+    requires { ⌜ ((isLegal l ≡ true) × (n ≤ l .r)) × ((Logs (l .nc) (now logs) × (length (now numbers)
+        ≡ l .l1 + l .l2 + l .r))
         × (Elements (l .nc) (now chunks) × (length (now chunks) < 2 ^ l .nc))) ⌝ }
     ensures { λ r. ⌜ Elements (l .nc) r × Missing l n (now (numbers .entry)) (now (chunks .entry)) r ⌝ }
 {

@@ -30,7 +30,8 @@ fn row_bytes(msg: &[u8]) -> usize
 // Puts what is to be printed for the input at the start of a slice, and answers its length.
 fn respond(input: &[u8], out: &mut [u8]) -> usize
     requires { ⌜ longestText ≤ length (now out) ⌝ }
-    ensures { λ r. ⌜ Put (printed (now (input .entry))) 0 (now (out .entry)) (now (out .exit)) r × Counts r (now (out .exit)) ⌝ }
+    ensures { λ r. ⌜ Put (printed (now (input .entry))) 0 (now (out .entry)) (now (out .exit)) r
+        × Counts r (now (out .exit)) ⌝ }
 {
     let parts = rowtext::input::split(input);
     let from = parts.from;

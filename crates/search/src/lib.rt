@@ -117,7 +117,8 @@ fn try_block(
     row: &mut [u8],
 ) -> bool
     requires { ⌜ (legal l ≡ true) × (AllBits (now rest) × (Tabled (now rest) p (now totals) (now counts)
-        × ((i < length (now numbers)) × ((getD (now numbers) i 0 ≤ blockBits l) × (i * l .l2 + l .l2 ≤ length (now row)))))) ⌝ }
+        × ((i < length (now numbers)) × ((getD (now numbers) i 0 ≤ blockBits l)
+        × (i * l .l2 + l .l2 ≤ length (now row)))))) ⌝ }
     ensures { λ r. ⌜ Tried l (getD (now (numbers .entry)) i 0) i a (now (rest .entry)) (now (row .entry)) (now (row .exit)) r ⌝ }
 {
     let s = numbers[i] as usize;
@@ -411,7 +412,8 @@ fn early_anchor(
     cap: usize,
     list: &mut [u8],
 ) -> Kept
-    requires { ⌜ Given l (now numbers) (now y) × ((cap * bytesFor (rowBits l) ≤ length (now list)) × (getD (now desk) 0 0 ≡ 0)) ⌝ }
+    requires { ⌜ Given l (now numbers) (now y) × ((cap * bytesFor (rowBits l) ≤ length (now list))
+        × (getD (now desk) 0 0 ≡ 0)) ⌝ }
     ensures { λ r. ⌜ Grown l (now (numbers .entry)) (now (y .entry)) cap (λ x. ⊥)
         (now (list .entry)) 0 false (now (list .exit)) (r .count) (r .more)
         × Anchored l (now (numbers .entry)) (now (y .entry)) (rowsIn (rowBits l) (now (list .exit)) (r .count) (r .more)) (now (desk .exit)) ⌝ }
@@ -438,7 +440,8 @@ fn all_patterns(
     cap: usize,
     list: &mut [u8],
 ) -> Kept
-    requires { ⌜ Given l (now numbers) (now y) × ((cap * bytesFor (rowBits l) ≤ length (now list)) × (getD (now desk) 0 0 ≡ 0)) ⌝ }
+    requires { ⌜ Given l (now numbers) (now y) × ((cap * bytesFor (rowBits l) ≤ length (now list))
+        × (getD (now desk) 0 0 ≡ 0)) ⌝ }
     ensures { λ r. ⌜ Listed l (now (numbers .entry)) (now (y .entry)) cap (now (list .entry)) (now (list .exit))
         (r .count) (r .more) ⌝ }
 {

@@ -223,7 +223,8 @@ fn ends(
 ) -> bool
     requires { ⌜ Given l (now numbers) (now y) × (Tables (now y) 0 (now totals) (now counts)
         × (Sound l (length (now y)) heavy t × ((j < l .l2) × (h < heavy .n)))) ⌝ }
-    ensures { λ r. ⌜ ((x : List ℕ) → Sent l (now (numbers .entry)) (now (y .entry)) x → Under l (now (y .entry)) heavy (j + 1) 0 t x
+    ensures { λ r. ⌜ ((x : List ℕ) → Sent l (now (numbers .entry)) (now (y .entry)) x
+        → Under l (now (y .entry)) heavy (j + 1) 0 t x
         → r ≡ true) ⌝ }
 {
     if before == 0 {
@@ -262,7 +263,8 @@ fn all_end(
 ) -> bool
     requires { ⌜ Given l (now numbers) (now y) × (Tables (now y) 0 (now totals) (now counts)
         × (Sound l (length (now y)) heavy t × (j < l .l2))) ⌝ }
-    ensures { λ r. ⌜ ((x : List ℕ) → Sent l (now (numbers .entry)) (now (y .entry)) x → Under l (now (y .entry)) heavy (j + 1) 0 t x
+    ensures { λ r. ⌜ ((x : List ℕ) → Sent l (now (numbers .entry)) (now (y .entry)) x
+        → Under l (now (y .entry)) heavy (j + 1) 0 t x
         → r ≡ true) ⌝ }
 {
     let n = heavy.n;

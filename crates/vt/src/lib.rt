@@ -291,7 +291,8 @@ pub fn weights() -> [u16; 256]
 // The total and the number of the ones of a byte, from the table.
 pub fn weigh_byte(t: &[u16; 256], b: u8) -> Weight
     requires { ⌜ now t ≡ weightsOf ⌝ }
-    ensures { λ r. ⌜ ((r .total ≡ total 1 (digits 8 b)) × (r .total ≤ 36)) × ((r .ones ≡ ones (digits 8 b)) × (r .ones ≤ 8)) ⌝ }
+    ensures { λ r. ⌜ ((r .total ≡ total 1 (digits 8 b)) × (r .total ≤ 36)) × ((r .ones ≡ ones (digits 8 b))
+        × (r .ones ≤ 8)) ⌝ }
 {
     let v = t[bits::wide(b)] as usize;
     Weight {
@@ -350,7 +351,8 @@ struct Place {
 // many ones stand behind it, and count is the number of ones from the part on.
 fn find_place(bits: &[u8], before: usize, behind: usize, t: usize, count: usize) -> Place
     requires { ⌜ ((AllBits (now bits) × (length (now bits) ≤ longest)) × ((before ≤ longest) × (behind ≤ longest)))
-        × ((count ≡ ones (now bits) + behind) × ((behind ≤ t) × Reach (before + 1) t count (before + length (now bits) + 1 + behind))) ⌝ }
+        × ((count ≡ ones (now bits) + behind) × ((behind ≤ t)
+        × Reach (before + 1) t count (before + length (now bits) + 1 + behind))) ⌝ }
     ensures { λ p. ⌜ ((p .at ≤ length (now (bits .entry))) × (p .bit < 2))
         × ((before + p .at + 1) * p .bit + (ones (drop (p .at) (now (bits .entry))) + behind) ≡ t) ⌝ }
 {
@@ -377,7 +379,8 @@ fn find_place(bits: &[u8], before: usize, behind: usize, t: usize, count: usize)
 // A string with a bit put in at a place, at the start of a slice.
 fn put_in(bits: &[u8], at: usize, bit: u8, out: &mut [u8])
     requires { ⌜ (at ≤ length (now bits)) × (length (now bits) + 1 ≤ length (now out)) ⌝ }
-    ensures { λ _. ⌜ now (out .exit) ≡ take at (now (bits .entry)) ++ (bit ∷ drop at (now (bits .entry))) ++ drop (length (now (bits .entry)) + 1) (now (out .entry)) ⌝ }
+    ensures { λ _. ⌜ now (out .exit) ≡ take at (now (bits .entry)) ++ (bit ∷ drop at (now (bits .entry)))
+        ++ drop (length (now (bits .entry)) + 1) (now (out .entry)) ⌝ }
 {
     bits::copy_to(&bits[0..at], out, 0);
     out[at] = bit;
@@ -395,8 +398,10 @@ pub fn lacking(w: usize, s: usize, total: usize) -> usize
 
 // The string that the sum s and a string one bit short pick, one byte a bit, at the start of a slice.
 pub fn mend_bits(s: usize, bits: &[u8], out: &mut [u8])
-    requires { ⌜ (AllBits (now bits) × (length (now bits) < longest)) × ((s ≤ length (now bits) + 1) × (length (now bits) + 1 ≤ length (now out))) ⌝ }
-    ensures { λ _. ⌜ now (out .exit) ≡ mended (length (now (bits .entry)) + 1) s (now (bits .entry)) ++ drop (length (now (bits .entry)) + 1) (now (out .entry)) ⌝ }
+    requires { ⌜ (AllBits (now bits) × (length (now bits) < longest)) × ((s ≤ length (now bits) + 1)
+        × (length (now bits) + 1 ≤ length (now out))) ⌝ }
+    ensures { λ _. ⌜ now (out .exit) ≡ mended (length (now (bits .entry)) + 1) s (now (bits .entry))
+        ++ drop (length (now (bits .entry)) + 1) (now (out .entry)) ⌝ }
 {
     let w = weigh(bits);
     let t = lacking(bits.len() + 1, s, w.total);
@@ -442,7 +447,8 @@ struct Part {
 
 // The part of the first n of packed bits in which a bit that adds t has its place; count is the number of ones.
 fn find_part(weights: &[u16; 256], s: &[u8], n: usize, t: usize, count: usize) -> Part
-    requires { ⌜ ((now weights ≡ weightsOf) × ((fits n (now s) ≡ true) × (n < longest))) × ((count ≡ ones (unpack (now s))) × (t ≤ n + 1)) ⌝ }
+    requires { ⌜ ((now weights ≡ weightsOf) × ((fits n (now s) ≡ true) × (n < longest))) × ((count
+        ≡ ones (unpack (now s))) × (t ≤ n + 1)) ⌝ }
     ensures { λ p. ⌜ PartOf n t (unpack (now (s .entry))) (p .byte) (p .size) (p .ones) (p .behind) ⌝ }
 {
     let whole = n / 8;
@@ -474,8 +480,10 @@ fn find_part(weights: &[u16; 256], s: &[u8], n: usize, t: usize, count: usize) -
 
 // The place among the first n of packed bits, and the bit, that add t to their total; count is the number of ones.
 fn find_packed(weights: &[u16; 256], s: &[u8], n: usize, t: usize, count: usize) -> Place
-    requires { ⌜ ((now weights ≡ weightsOf) × ((fits n (now s) ≡ true) × (n < longest))) × ((count ≡ ones (unpack (now s))) × (t ≤ n + 1)) ⌝ }
-    ensures { λ p. ⌜ ((p .at ≤ n) × (p .bit < 2)) × ((p .at + 1) * p .bit + ones (drop (p .at) (unpack (now (s .entry)))) ≡ t) ⌝ }
+    requires { ⌜ ((now weights ≡ weightsOf) × ((fits n (now s) ≡ true) × (n < longest))) × ((count
+        ≡ ones (unpack (now s))) × (t ≤ n + 1)) ⌝ }
+    ensures { λ p. ⌜ ((p .at ≤ n) × (p .bit < 2))
+        × ((p .at + 1) * p .bit + ones (drop (p .at) (unpack (now (s .entry)))) ≡ t) ⌝ }
 {
     let part = find_part(weights, s, n, t, count);
     let byte = part.byte;
@@ -502,8 +510,10 @@ fn with_bit(b: usize, at: usize, bit: u8) -> u8
 
 // Packed bits moved on by one, from a byte on: so many bytes in all, at their places in a slice.
 fn move_on(s: &[u8], from: usize, count: usize, out: &mut [u8])
-    requires { ⌜ ((1 ≤ from) × ((from ≤ count) × (length (now s) ≤ count))) × ((count ≤ length (now s) + 1) × (count ≤ length (now out))) ⌝ }
-    ensures { λ _. ⌜ now (out .exit) ≡ take from (now (out .entry)) ++ drop from (bytes count (0 ∷ unpack (now (s .entry)))) ++ drop count (now (out .entry)) ⌝ }
+    requires { ⌜ ((1 ≤ from) × ((from ≤ count) × (length (now s) ≤ count))) × ((count ≤ length (now s) + 1)
+        × (count ≤ length (now out))) ⌝ }
+    ensures { λ _. ⌜ now (out .exit) ≡ take from (now (out .entry))
+        ++ drop from (bytes count (0 ∷ unpack (now (s .entry)))) ++ drop count (now (out .entry)) ⌝ }
 {
     let mut i = from;
     while i < s.len() {
@@ -517,8 +527,10 @@ fn move_on(s: &[u8], from: usize, count: usize, out: &mut [u8])
 
 // Packed bits with a bit put in at a place, in so many bytes at the start of a slice.
 fn put_packed(s: &[u8], at: usize, bit: u8, count: usize, out: &mut [u8])
-    requires { ⌜ ((at ≤ length (now s) * 8) × (bit < 2)) × (((at / 8 < count) × (length (now s) ≤ count)) × ((count ≤ length (now s) + 1) × (count ≤ length (now out)))) ⌝ }
-    ensures { λ _. ⌜ now (out .exit) ≡ bytes count (take at (unpack (now (s .entry))) ++ (bit ∷ drop at (unpack (now (s .entry))))) ++ drop count (now (out .entry)) ⌝ }
+    requires { ⌜ ((at ≤ length (now s) * 8) × (bit < 2)) × (((at / 8 < count) × (length (now s) ≤ count))
+        × ((count ≤ length (now s) + 1) × (count ≤ length (now out)))) ⌝ }
+    ensures { λ _. ⌜ now (out .exit) ≡ bytes count (take at (unpack (now (s .entry)))
+        ++ (bit ∷ drop at (unpack (now (s .entry))))) ++ drop count (now (out .entry)) ⌝ }
 {
     let first = at / 8;
     bits::copy_to(&s[0..first], out, 0);
@@ -528,8 +540,10 @@ fn put_packed(s: &[u8], at: usize, bit: u8, count: usize, out: &mut [u8])
 
 // The mended string of packed bits, packed, at the start of a slice.
 fn mend_packed(w: usize, s: usize, bits: &[u8], out: &mut [u8])
-    requires { ⌜ ((1 ≤ w) × (w ≤ longest)) × ((s ≤ w) × ((fits (w - 1) (now bits) ≡ true) × (bytesFor w ≤ length (now out)))) ⌝ }
-    ensures { λ _. ⌜ now (out .exit) ≡ pack (mended w s (take (w - 1) (unpack (now (bits .entry))))) ++ drop (bytesFor w) (now (out .entry)) ⌝ }
+    requires { ⌜ ((1 ≤ w) × (w ≤ longest)) × ((s ≤ w) × ((fits (w - 1) (now bits) ≡ true)
+        × (bytesFor w ≤ length (now out)))) ⌝ }
+    ensures { λ _. ⌜ now (out .exit) ≡ pack (mended w s (take (w - 1) (unpack (now (bits .entry)))))
+        ++ drop (bytesFor w) (now (out .entry)) ⌝ }
 {
     let table = weights();
     let weight = weigh_bytes(&table, bits);
@@ -540,7 +554,8 @@ fn mend_packed(w: usize, s: usize, bits: &[u8], out: &mut [u8])
 
 // The string of length w with the sum s from which the packed bits come by one deletion, packed, at the start of a slice.
 pub fn mend(w: usize, s: usize, bits: &[u8], out: &mut [u8]) -> Mended
-    ensures { λ r. ⌜ (answerOf r ≡ record { refusal = mendRefusal w s (now (bits .entry)) (length (now (out .entry))); value = 0 })
+    ensures { λ r. ⌜ (answerOf r
+        ≡ record { refusal = mendRefusal w s (now (bits .entry)) (length (now (out .entry))); value = 0 })
         × (now (out .exit) ≡ mendTarget w s (now (bits .entry)) (now (out .entry))) ⌝ }
 {
     let room = out.len();

@@ -142,7 +142,8 @@ pub fn can_lose_one(
     sum: usize,
 ) -> bool
     requires { ⌜ Source l (now y) (now totals) (now counts) block j × ((1 ≤ left) × (sum < modulus l)) ⌝ }
-    ensures { λ r. ⌜ ((v : ℕ) → v < 2 ^ (l .nc) → Readable (l .nc) (length (now (y .entry))) (startAt l block j left) end left (left - 1)
+    ensures { λ r. ⌜ ((v : ℕ) → v < 2 ^ (l .nc)
+        → Readable (l .nc) (length (now (y .entry))) (startAt l block j left) end left (left - 1)
         → losses (digits (l .nc) v) (drop (startAt l block j left - end) (now (y .entry))) ≡ 1
         → (rest + total (block * l .nc + 1) (digits (l .nc) v)) % modulus l ≡ sum → r ≡ true) ⌝ }
 {

@@ -28,7 +28,8 @@ pub fn fill(y: &[u8], totals: &mut [u32], counts: &mut [u16])
 
 // The sum of the next w bits of a string that starts at place p of a longer one.
 pub fn window_sum(y: &[u8], totals: &[u32], counts: &[u16], p: usize, w: usize) -> usize
-    requires { ⌜ AllBits (now y) × (Tables (now y) p (now totals) (now counts) × ((w ≤ length (now y)) × (p + w ≤ longest))) ⌝ }
+    requires { ⌜ AllBits (now y) × (Tables (now y) p (now totals) (now counts) × ((w ≤ length (now y))
+        × (p + w ≤ longest))) ⌝ }
     ensures { λ r. ⌜ r ≡ sum (take w (now (y .entry))) ⌝ }
 {
     let high = (totals[w] - totals[0]) as usize;
