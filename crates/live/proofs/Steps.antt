@@ -7,19 +7,18 @@ use mathlib.Core.Logic.{inl, inr, ⊎-elim}
 use mathlib.Core.List.{List}
 use native.Mathlib.Decide.{ℕ-discrete}
 use native.Mathlib.Omega.{arith}
-use lib.ListN.{length, getD, set, drop}
-use lib.Seq.{getD-set-same, getD-set-other}
+use lib.ListN.{getD, drop}
 use Rattle.bits.specs.Bits.{digits}
 use Rattle.message.specs.declared.Layout.{Layout}
 use Rattle.consistent.specs.Greedy.{losses}
-use Rattle.states.specs.States.{stride, state, each, stateOf}
+use Rattle.states.specs.States.{stride, each, stateOf}
 use Rattle.states.specs.declared.Shape.{Shape}
 use Rattle.states.proofs.States.{stride-pos, state-low, state-up, digitsOf, state-of, digits-most}
 use Rattle.column.specs.Column.{Crosses, chunkAt}
 use Rattle.column.specs.declared.Heavy.{Heavy}
 use Rattle.live.specs.Live.{many, Covers}
 use Rattle.steps.specs.Steps.{Above}
-use Rattle.live.specs.Passes.{Within, Digits, entryOf, Kept, Joined, Gains, SpreadBy, Gained, OneLess}
+use Rattle.live.specs.Passes.{Within, Digits, entryOf, Kept, Joined, Gains, SpreadBy, Gained}
 
 -- a higher mark covers as much
 pub covers-more : (a b n : ℕ) → a ≤ b → Covers a n → Covers b n
@@ -42,15 +41,6 @@ above-covers there a mark n u c =
     (λ h. (omega (arith, c .0), ⊎-elim (λ k. inl (omega arith)) (λ k. inr (omega arith)) (c .1)))
     (λ h. (omega arith, inr (omega arith)))
     u
-
--- a state with one loss less in block s, as a list of bytes has it
-pub one-less-set : (left : List ℕ) (next : ℕ → ℕ) (n s : ℕ) → s < length left → OneLess n (each left) next s
-    → (t : ℕ) → t < n → next t ≡ each (set left s (getD left s 0 - 1)) t
-one-less-set left next n s h one t k = go (ℕ-discrete t s)
-  where
-    go : Dec (t ≡ s) → next t ≡ each (set left s (getD left s 0 - 1)) t
-    go (yes e) = rw (e, getD-set-same left s (getD left s 0 - 1) 0 h) (omega (arith, one .0))
-    go (no e) = one .1 t k e ∙ sym (getD-set-other left s t (getD left s 0 - 1) 0 e)
 
 module _ (l : Layout) (y numbers : List ℕ) (heavy : Heavy) (row : List ℕ) (j : ℕ) (vs : List ℕ) where
   -- states with the same losses left cross a column alike

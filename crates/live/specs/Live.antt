@@ -6,7 +6,7 @@ use mathlib.Core.Logic.{_⊎_}
 use mathlib.Core.List.{List}
 use lib.ListN.{length, getD}
 use Rattle.message.specs.declared.Layout.{Layout}
-use Rattle.states.specs.States.{state, each, stateOf}
+use Rattle.states.specs.States.{stateOf}
 use Rattle.states.specs.declared.Shape.{Shape}
 use Rattle.column.specs.Column.{Crosses, apartIn}
 use Rattle.column.specs.declared.Heavy.{Heavy}

@@ -7,11 +7,11 @@ use mathlib.Core.List.{List}
 use lib.ListN.{length, getD}
 use Rattle.windows.specs.Windows.{Tables}
 use Rattle.message.specs.declared.Layout.{Layout}
-use Rattle.states.specs.States.{mostStates, lefts, state, each, Shaped, stateOf}
+use Rattle.states.specs.States.{mostStates, lefts, each, Shaped, stateOf}
 use Rattle.states.specs.declared.Shape.{Shape}
 use Rattle.column.specs.Column.{Fit, Light, Crosses, apartIn}
 use Rattle.column.specs.declared.Heavy.{Heavy}
-use Rattle.whole.specs.Whole.{entryAt, Readings, readSum}
+use Rattle.whole.specs.Whole.{entryAt, Readings}
 use Rattle.live.specs.Live.{Covers, Path, apartFrom, Through}
 
 -- all that is read to make the marks

@@ -25,6 +25,9 @@ ghost use Rattle.live.specs.Passes.{Gains, Spread, SpreadBy, Regained, G
 // One count more than states: of the marked states below each, and of all.
 const MOST_COUNTS: usize = 730;
 
+// The entries of a table of readings: thirteen for each of six blocks.
+const READINGS: usize = 78;
+
 // From here on a mark says nothing of a number.
 pub const MANY: u8 = 40;
 
@@ -1017,8 +1020,8 @@ fn far_level(
     requires { ⌜ (Sized columns shape (now before) × Sized columns shape (now after)) × ((j ≤ columns)
         × (Digits shape (now digits) × (q < shape .states))) ⌝ }
     ensures { λ r. ⌜ ((left : ℕ → ℕ) → Within shape left → stateOf shape left ≡ q
-        → room ≤ most columns (now (before .entry)) (now (after .entry)) (each (shape .size)) left j (shape .n) → r
-        ≡ level) ⌝ }
+        → room ≤ most columns (now (before .entry)) (now (after .entry)) (each (shape .size)) left j (shape .n)
+        → r ≡ level) ⌝ }
 {
     if level == 0 {
         return level;
@@ -1085,7 +1088,7 @@ fn complete_column(
     let states = shape.states;
     let strides = shape.stride;
     let size = shape.size;
-    let mut readings: [u16; 78] = [0; 78];
+    let mut readings: [u16; READINGS] = [0; READINGS];
     whole::fill(l, y, totals, counts, numbers, heavy, size, j, &mut readings);
     let mut levels: [u8; states::MOST_STATES] = [0; states::MOST_STATES];
     let mut highest: u8 = 0;

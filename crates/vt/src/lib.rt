@@ -447,8 +447,8 @@ struct Part {
 
 // The part of the first n of packed bits in which a bit that adds t has its place; count is the number of ones.
 fn find_part(weights: &[u16; 256], s: &[u8], n: usize, t: usize, count: usize) -> Part
-    requires { ⌜ ((now weights ≡ weightsOf) × ((fits n (now s) ≡ true) × (n < longest))) × ((count
-        ≡ ones (unpack (now s))) × (t ≤ n + 1)) ⌝ }
+    requires { ⌜ ((now weights ≡ weightsOf) × ((fits n (now s) ≡ true) × (n < longest)))
+        × ((count ≡ ones (unpack (now s))) × (t ≤ n + 1)) ⌝ }
     ensures { λ p. ⌜ PartOf n t (unpack (now (s .entry))) (p .byte) (p .size) (p .ones) (p .behind) ⌝ }
 {
     let whole = n / 8;
@@ -480,8 +480,8 @@ fn find_part(weights: &[u16; 256], s: &[u8], n: usize, t: usize, count: usize) -
 
 // The place among the first n of packed bits, and the bit, that add t to their total; count is the number of ones.
 fn find_packed(weights: &[u16; 256], s: &[u8], n: usize, t: usize, count: usize) -> Place
-    requires { ⌜ ((now weights ≡ weightsOf) × ((fits n (now s) ≡ true) × (n < longest))) × ((count
-        ≡ ones (unpack (now s))) × (t ≤ n + 1)) ⌝ }
+    requires { ⌜ ((now weights ≡ weightsOf) × ((fits n (now s) ≡ true) × (n < longest)))
+        × ((count ≡ ones (unpack (now s))) × (t ≤ n + 1)) ⌝ }
     ensures { λ p. ⌜ ((p .at ≤ n) × (p .bit < 2))
         × ((p .at + 1) * p .bit + ones (drop (p .at) (unpack (now (s .entry)))) ≡ t) ⌝ }
 {
