@@ -41,18 +41,27 @@ number-byte (v ∷ s) a (suc i) =
     let e : suc i * 8 ≡ length (digits 8 v) + i * 8 = omega (arith, length-digits 8 v) in
     rw (e, drop-append-add (digits 8 v) (unpack s) (i * 8)) (number-byte s (a .1) i)
 
--- three bytes in a row
-pub number-three : (s : List ℕ) → AllBytes s → (i : ℕ) → getD s i 0 * 65536 + getD s (i + 1) 0 * 256 + getD s (i + 2) 0 ≡ number 24 (drop (i * 8) (unpack s))
-number-three s a i =
+-- the bits from byte i on spell the byte, and then what those from the next byte on spell
+byte-then : (s : List ℕ) → AllBytes s → (i j k : ℕ) → j ≡ i + 1
+    → number (8 + k) (drop (i * 8) (unpack s)) ≡ getD s i 0 * 2 ^ k + number k (drop (j * 8) (unpack s))
+byte-then s a i j k e =
     let u : List ℕ = unpack s in
-    let x : List ℕ = drop (i * 8) u in
-    let p : i * 8 + 8 ≡ (i + 1) * 8 = omega arith in
-    let q : (i + 1) * 8 + 8 ≡ (i + 2) * 8 = omega arith in
-    let d : drop 8 x ≡ drop ((i + 1) * 8) u = drop-drop 8 (i * 8) u ∙ ap (λ (n : ℕ). drop n u) p in
-    let f : drop 8 (drop 8 x) ≡ drop ((i + 2) * 8) u = ap (drop 8) d ∙ drop-drop 8 ((i + 1) * 8) u ∙ ap (λ (n : ℕ). drop n u) q in
-    let g : number 8 (drop 8 x) ≡ getD s (i + 1) 0 = ap (number 8) d ∙ number-byte s a (i + 1) in
-    let h : number 8 (drop 8 (drop 8 x)) ≡ getD s (i + 2) 0 = ap (number 8) f ∙ number-byte s a (i + 2) in
-    omega (arith, number-byte s a i, number-add 8 16 x, number-add 8 8 (drop 8 x))
+    let p : i * 8 + 8 ≡ j * 8 = omega arith in
+    number-add 8 k (drop (i * 8) u)
+    ∙ ap₂ (λ (v w : ℕ). v * 2 ^ k + w) (number-byte s a i) (ap (number k) (drop-drop 8 (i * 8) u ∙ ap (λ (n : ℕ). drop n u) p))
+
+-- four bytes in a row
+pub number-four : (s : List ℕ) → AllBytes s → (i : ℕ)
+    → getD s i 0 * 16777216 + getD s (i + 1) 0 * 65536 + getD s (i + 2) 0 * 256 + getD s (i + 3) 0
+    ≡ number 32 (drop (i * 8) (unpack s))
+number-four s a i =
+    omega (
+      arith,
+      byte-then s a i (i + 1) 24 refl,
+      byte-then s a (i + 1) (i + 2) 16 (omega arith),
+      byte-then s a (i + 2) (i + 3) 8 (omega arith),
+      number-byte s a (i + 3),
+    )
 
 -- the first bits alone decide
 pub number-front : (k : ℕ) (x y : List ℕ) → k ≤ length x → number k (x ++ y) ≡ number k x

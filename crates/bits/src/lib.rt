@@ -184,16 +184,31 @@ pub fn byte_at(s: &[u8], i: usize) -> usize
     if i < s.len() { wide(s[i]) } else { 0 }
 }
 
-// Three bytes from a place on, as a number: a field of up to 16 bits lies in them, wherever its first bit stands in the
-// first.
-fn three_bytes(s: &[u8], i: usize) -> usize
+// Four bytes from a place on, as a number.
+fn four_bytes(s: &[u8], i: usize) -> usize
     requires { ⌜ i ≤ 4096 ⌝ }
-    ensures { λ r. ⌜ (r ≡ number 24 (drop (i * 8) (unpacked (now (s .entry))))) × (r < 2 ^ 24) ⌝ }
+    ensures { λ r. ⌜ (r ≡ number 32 (drop (i * 8) (unpacked (now (s .entry))))) × (r < 2 ^ 32) ⌝ }
 {
-    if i + 2 < s.len() {
-        return wide(s[i]) * 65536 + wide(s[i + 1]) * 256 + wide(s[i + 2]);
+    if i + 3 < s.len() {
+        return wide(s[i]) * 16777216
+            + wide(s[i + 1]) * 65536
+            + wide(s[i + 2]) * 256
+            + wide(s[i + 3]);
     }
-    byte_at(s, i) * 65536 + byte_at(s, i + 1) * 256 + byte_at(s, i + 2)
+    byte_at(s, i) * 16777216
+        + byte_at(s, i + 1) * 65536
+        + byte_at(s, i + 2) * 256
+        + byte_at(s, i + 3)
+}
+
+// The first of the four bytes that end where so many bits end, or the first byte of all: a field of up to 16 bits that ends
+// there lies in them.
+fn start_of(end: usize) -> usize
+    requires { ⌜ end ≤ 32768 ⌝ }
+    ensures { λ r. ⌜ r ≡ bytesFor end - 4 ⌝ }
+{
+    let n = (end + 7) / 8;
+    if 4 <= n { n - 4 } else { 0 }
 }
 
 // Bits on their way into packed bytes: so many bytes are whole, and the bits behind them are held as a number.
@@ -259,12 +274,14 @@ impl BitCursor {
             × (r .next .at ≡ self .at + k) ⌝ }
     {
         let at = self.at;
-        let held = three_bytes(s, at / 8);
-        let behind = 24 - at % 8 - k;
+        let end = at + k;
+        let i = start_of(end);
+        let held = four_bytes(s, i);
+        let behind = (i + 4) * 8 - end;
         let value = (held >> behind) % power(k);
         Field {
             value: value as u16,
-            next: BitCursor { at: at + k },
+            next: BitCursor { at: end },
         }
     }
 }
