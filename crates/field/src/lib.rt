@@ -550,16 +550,30 @@ fn reduce(nc: usize, e: usize) -> usize
     if e < n { e } else { e - n }
 }
 
-// Writes the log of each element but 0 at the element's place, and nothing else.
-pub fn fill_logs(nc: usize, logs: &mut [u8])
-    requires { ⌜ (3 ≤ nc) × (nc ≤ 8) × (2 ^ nc ≤ length (now logs)) ⌝ }
-    ensures { λ _. ⌜ (now (logs .exit) ≡ withLogs nc (2 ^ nc - 1) (now (logs .entry))) × Logs nc (now (logs .exit)) ⌝ }
+// The element that each exponent names, at the exponent's place.
+pub fn fill_elements(nc: usize, p: &mut [u8])
+    requires { ⌜ (3 ≤ nc) × (nc ≤ 8) × (2 ^ nc ≤ length (now p)) ⌝ }
+    ensures { λ _. ⌜ AllNamed nc (now (p .exit)) ⌝ }
 {
     let t = table();
     let n = order(nc);
     let mut e: usize = 0;
     while e < n {
-        let x = bits::wide(entry(&t, nc, e));
+        p[e] = entry(&t, nc, e);
+        e += 1;
+    }
+    p[n] = 0;
+}
+
+// Writes the log of each element but 0 at the element's place, and nothing else. p has the elements that exponents name.
+pub fn fill_logs(nc: usize, p: &[u8; 256], logs: &mut [u8])
+    requires { ⌜ (3 ≤ nc) × (nc ≤ 8) × AllNamed nc (now p) × (2 ^ nc ≤ length (now logs)) ⌝ }
+    ensures { λ _. ⌜ (now (logs .exit) ≡ withLogs nc (2 ^ nc - 1) (now (logs .entry))) × Logs nc (now (logs .exit)) ⌝ }
+{
+    let n = order(nc);
+    let mut e: usize = 0;
+    while e < n {
+        let x = bits::wide(p[e]);
         logs[x] = e as u8;
         e += 1;
     }
@@ -594,21 +608,6 @@ fn exponent_of(nc: usize, logs: &[u8], x: u8) -> u8
         return order(nc) as u8;
     }
     log_of(nc, logs, x) as u8
-}
-
-// The element that each exponent names, at the exponent's place.
-fn fill_elements(nc: usize, p: &mut [u8])
-    requires { ⌜ (3 ≤ nc) × (nc ≤ 8) × (2 ^ nc ≤ length (now p)) ⌝ }
-    ensures { λ _. ⌜ AllNamed nc (now (p .exit)) ⌝ }
-{
-    let t = table();
-    let n = order(nc);
-    let mut e: usize = 0;
-    while e < n {
-        p[e] = entry(&t, nc, e);
-        e += 1;
-    }
-    p[n] = 0;
 }
 
 // The exponent of 2 to the power c, times the element that e names. All bytes, so that a loop of it is done many at a time.
@@ -662,21 +661,22 @@ fn sum(p: &[u8; 256], places: &[u8]) -> u8
     s
 }
 
-// The first r checks of the chunks, at the start of a slice: the exponents of all terms of a check are made those of the next.
-pub fn checks(nc: usize, r: usize, logs: &[u8], chunks: &[u8], out: &mut [u8])
-    requires { ⌜ ((3 ≤ nc) × (nc ≤ 8) × Logs nc (now logs) × Elements nc (now chunks))
+// The first r checks of the chunks, at the start of a slice: the exponents of all terms of a check are made those of the next. p
+// has the elements that exponents name.
+pub fn checks(nc: usize, r: usize, p: &[u8; 256], logs: &[u8], chunks: &[u8], out: &mut [u8])
+    requires { ⌜ ((3 ≤ nc) × (nc ≤ 8) × AllNamed nc (now p) × Logs nc (now logs) × Elements nc (now chunks))
         × ((length (now chunks) < 2 ^ nc) × (r ≤ length (now out))) ⌝ }
     ensures { λ _. ⌜ Checks nc r (now (chunks .entry)) (now (out .exit)) ⌝ }
 {
     let n = chunks.len();
-    let mut p: [u8; 256] = [0; 256];
-    fill_elements(nc, &mut p);
     let mut es: [u8; 255] = [0; 255];
     fill_exponents(nc, logs, chunks, &mut es);
     let mut i: usize = 0;
     while i < r {
-        out[i] = sum(&p, &es[0..n]);
-        raise_all(nc, n, &mut es);
+        if 0 < i {
+            raise_all(nc, n, &mut es);
+        }
+        out[i] = sum(p, &es[0..n]);
         i += 1;
     }
 }

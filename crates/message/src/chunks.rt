@@ -120,7 +120,9 @@ pub fn fill_checks(l1: usize, l2: usize, nc: usize, r: usize, chunks: &[u8], out
     if r == 0 {
         return;
     }
+    let mut p: [u8; 256] = [0; 256];
+    field::fill_elements(nc, &mut p);
     let mut logs: [u8; 256] = [0; 256];
-    field::fill_logs(nc, &mut logs);
-    field::checks(nc, r, &logs, chunks, out);
+    field::fill_logs(nc, &p, &mut logs);
+    field::checks(nc, r, &p, &logs, chunks, out);
 }

@@ -9,6 +9,7 @@ ghost use mathlib.Core.List.{List};
 ghost use lib.ListN.{length, getD, take};
 ghost use Rattle.field.specs.Field.{Elements};
 ghost use Rattle.field.specs.Tables.{Logs};
+ghost use Rattle.field.specs.Exponents.{AllNamed};
 ghost use Rattle.message.specs.Layout.{legal as isLegal};
 ghost use Rattle.cells.specs.Cells.{chunkOf, Under};
 ghost use Rattle.found.specs.Found.{Given, Sent, InHand};
@@ -119,16 +120,23 @@ fn reduce(nc: usize, count: usize, row: [u8; 255]) -> [u8; 255]
 }
 
 // What is missing of each of the first n checks: the field sum of the check and that of the chunks.
-fn missing(l: Layout, n: usize, logs: &[u8], numbers: &[u16], chunks: &[u8]) -> [u8; 16]
-    requires { ⌜ ((isLegal l ≡ true) × (n ≤ l .r)) × ((Logs (l .nc) (now logs) × (length (now numbers)
-        ≡ l .l1 + l .l2 + l .r))
+fn missing(
+    l: Layout,
+    n: usize,
+    p: &[u8; 256],
+    logs: &[u8],
+    numbers: &[u16],
+    chunks: &[u8],
+) -> [u8; 16]
+    requires { ⌜ ((isLegal l ≡ true) × (n ≤ l .r)) × ((AllNamed (l .nc) (now p) × Logs (l .nc) (now logs)
+        × (length (now numbers) ≡ l .l1 + l .l2 + l .r))
         × (Elements (l .nc) (now chunks) × (length (now chunks) < 2 ^ l .nc))) ⌝ }
     ensures { λ r. ⌜ Elements (l .nc) r × Missing l n (now (numbers .entry)) (now (chunks .entry)) r ⌝ }
 {
     let size = field::order(l.nc) + 1;
     let first = l.l1 + l.l2;
     let mut own: [u8; 16] = [0; 16];
-    field::checks(l.nc, n, logs, chunks, &mut own);
+    field::checks(l.nc, n, p, logs, chunks, &mut own);
     let mut out: [u8; 16] = [0; 16];
     let mut i: usize = 0;
     while i < n {
@@ -147,12 +155,14 @@ pub fn recover(l: Layout, numbers: &[u16], e: Erased, row: &[u8; 255]) -> [u8; 2
         → Under l y cells (now (row .entry)) x → InHand l r x) ⌝ }
 {
     let nc = l.nc;
+    let mut p: [u8; 256] = [0; 256];
+    field::fill_elements(nc, &mut p);
     let mut logs: [u8; 256] = [0; 256];
-    field::fill_logs(nc, &mut logs);
+    field::fill_logs(nc, &p, &mut logs);
     let t = field::table();
     let count = l.l1 * l.l2;
     let base = reduce(nc, count, put(*row, e, [0; 12]));
-    let s = missing(l, e.n, &logs, numbers, &base[0..count]);
+    let s = missing(l, e.n, &p, &logs, numbers, &base[0..count]);
     let places = e.places;
     let contents = erasures::solve(&t, nc, &logs, places, e.n, 0, s);
     put(base, e, contents)

@@ -18,12 +18,12 @@ use Rattle.recover.proofs.missing.Statement.{statement}
 use Rattle.recover.proofs.missing.Tie as tie
 
 abbrev Inv-loop : tie.InvT-loop
-Inv-loop n logs numbers chunks size first own out₀ i₀ out i =
+Inv-loop n p logs numbers chunks size first own out₀ i₀ out i =
     ((i ≤ n) × (length out ≡ 16)) × (((k : ℕ) → getD out k 0 < size)
     × ((k : ℕ) → k < i → getD out k 0 ≡ bitXor (getD numbers (first + k) 0 % size) (getD own k 0)))
 
 abbrev μ-loop : tie.MeasureT-loop
-μ-loop n logs numbers chunks size first own out₀ i₀ out i = n - i
+μ-loop n p logs numbers chunks size first own out₀ i₀ out i = n - i
 
 bounds : (s : tie.Start Inv-loop μ-loop) → Bounds (s .args .l)
 bounds s = legal-bounds (s .args .l) (s .pre .0 .0)
@@ -69,7 +69,7 @@ checks-requires c κs =
     let s = entry (c .before .before) in
     let b = bounds s in
     let p = s .pre .1 in
-    ((b .nc-low, b .nc-high, p .0 .0, p .1 .0), (p .1 .1, omega (arith, s .pre .0 .1, b .r-high)))
+    ((b .nc-low, b .nc-high, p .0 .0, p .0 .1, p .1 .0), (p .1 .1, omega (arith, s .pre .0 .1, b .r-high)))
 
 loop-holds : tie.Need-loop-holds Inv-loop μ-loop
 loop-holds c =
@@ -84,7 +84,7 @@ mul-out : tie.Need-mul-out Inv-loop μ-loop
 mul-out c = search needs
 
 shared-slice-read-out : tie.Need-shared-slice-read-out Inv-loop μ-loop
-shared-slice-read-out c = let s = start (turn c) in omega (arith, s .pre .1 .0 .1, s .pre .0 .1, c .before .loop-test .taken)
+shared-slice-read-out c = let s = start (turn c) in omega (arith, s .pre .1 .0 .2, s .pre .0 .1, c .before .loop-test .taken)
 
 cast-out : tie.Need-cast-out Inv-loop μ-loop
 cast-out c =
@@ -121,7 +121,7 @@ loop-again c =
     let ns = s .args .numbers .now in
     let o = c .before .before .loop in
     let k = turn c .before in
-    let own = k .checks .last .1 .1 .1 .1 .0 in
+    let own = k .checks .last .1 .1 .1 .1 .1 .0 in
     let size : ℕ = turn c .before .before .before .before .order .result + 1 in
     let v : ℕ = bitXor (number c % size) (getD own (o .i) 0) in
     let b = bounds s in

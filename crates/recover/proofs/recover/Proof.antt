@@ -34,13 +34,26 @@ places s =
       apart = p .apart;
     }
 
--- where the function starts, seen from where `table` has answered
-abbrev entry : tie.After-table → tie.Start
-entry c = c .before .before .before .before .before
+-- where the elements are filled and where the function starts, seen from where the logs are made room for
+abbrev filled : tie.After-logs → tie.After-fill-elements
+filled c = c .before .before .before
 
--- where the row in hand is in the field: the function's start
+abbrev begun : tie.After-logs → tie.Start
+begun c = filled c .before .before .before
+
+-- where the logs are filled and where the function starts, seen from where `table` has answered
+abbrev logged : tie.After-table → tie.After-fill-logs
+logged c = c .before .before
+
+abbrev entry : tie.After-table → tie.Start
+entry c = begun (logged c .before)
+
+-- where the row in hand is in the field: where `table` has answered, and the function's start
+abbrev tabled : tie.After-reduce → tie.After-table
+tabled c = c .before .before .before .before
+
 abbrev start : tie.After-reduce → tie.Start
-start c = entry (c .before .before .before .before)
+start c = entry (tabled c)
 
 long : (c : tie.After-reduce) → 255 ≤ length (c .reduce .result)
 long c =
@@ -50,14 +63,23 @@ long c =
 elements : (c : tie.After-reduce) → Elements (start c .args .l .nc) (c .reduce .result)
 elements c = c .reduce .ensures .1
 
+slice-aggregate-fill-elements : tie.Need-slice-aggregate-fill-elements
+slice-aggregate-fill-elements c = search needs
+
+fill-elements-requires : tie.Need-fill-elements-requires
+fill-elements-requires c κs =
+    let s = c .before .before in
+    let b = bounds s in
+    (b .nc-low, b .nc-high, size-high (s .args .l .nc) (b .nc-high))
+
 slice-aggregate-fill-logs : tie.Need-slice-aggregate-fill-logs
 slice-aggregate-fill-logs c = search needs
 
 fill-logs-requires : tie.Need-fill-logs-requires
 fill-logs-requires c κs =
-    let s = c .before .before in
+    let s = begun c in
     let b = bounds s in
-    (b .nc-low, b .nc-high, size-high (s .args .l .nc) (b .nc-high))
+    (b .nc-low, b .nc-high, filled c .fill-elements .ensures, size-high (s .args .l .nc) (b .nc-high))
 
 table-requires : tie.Need-table-requires
 table-requires c κs = search needs
@@ -89,20 +111,24 @@ part-missing-start c = search needs
 
 part-missing-end : tie.Need-part-missing-end
 part-missing-end c =
-    let k = c .before .before in
+    let k = c .before .before .before in
     let s = start k in
     omega (arith, sizes (s .args .l) (bounds s) .chunks, long k)
 
 missing-requires : tie.Need-missing-requires
 missing-requires c κs =
-    let k = c .before .before .before in
+    let k = c .before .before .before .before in
+    let f = logged (tabled k) in
     let s = start k in
     let l = s .args .l in
     let b = bounds s in
     let n = elements-take (l .nc) (l .l1 * l .l2 - 0) (k .reduce .result) (elements k) in
     let low = size-low (l .nc) (b .nc-low) in (
       (s .pre .0, s .pre .1 .1 .1 .0),
-      ((k .before .before .before .before .before .before .fill-logs .ensures .1, s .pre .1 .0), (n .0, omega (arith, n .1, b .chunks-high, low))),
+      (
+        (filled (f .before) .fill-elements .ensures, f .fill-logs .ensures .1, s .pre .1 .0),
+        (n .0, omega (arith, n .1, b .chunks-high, low)),
+      ),
     )
 
 slice-aggregate-solve : tie.Need-slice-aggregate-solve
@@ -110,7 +136,7 @@ slice-aggregate-solve c = search needs
 
 -- where `reduce` has answered, seen from where `missing` has answered
 abbrev reduced : tie.After-missing → tie.After-reduce
-reduced c = c .before .before .before .before
+reduced c = c .before .before .before .before .before
 
 solve-requires : tie.Need-solve-requires
 solve-requires c κs =
@@ -118,7 +144,7 @@ solve-requires c κs =
     let k = reduced m in
     let s = start k in
     let b = bounds s in (
-      (k .before .before .before .before .table .ensures, b .nc-low, b .nc-high, k .before .before .before .before .before .before .fill-logs .ensures .1),
+      (tabled k .table .ensures, b .nc-low, b .nc-high, logged (tabled k) .fill-logs .ensures .1),
       (omega arith, s .pre .1 .1 .0, places s, m .missing .ensures .0),
     )
 
@@ -145,6 +171,8 @@ pub recover-spec : {M : Type 1} → statement M
 recover-spec =
     tie.close
     (tie.spec
+    slice-aggregate-fill-elements
+    fill-elements-requires
     slice-aggregate-fill-logs
     fill-logs-requires
     table-requires
