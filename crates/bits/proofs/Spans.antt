@@ -48,7 +48,8 @@ byte-then s a i j k e =
     let u : List ℕ = unpack s in
     let p : i * 8 + 8 ≡ j * 8 = omega arith in
     number-add 8 k (drop (i * 8) u)
-    ∙ ap₂ (λ (v w : ℕ). v * 2 ^ k + w) (number-byte s a i) (ap (number k) (drop-drop 8 (i * 8) u ∙ ap (λ (n : ℕ). drop n u) p))
+    ∙ ap₂ (λ (v w : ℕ). v * 2 ^ k + w) (number-byte s a i)
+    (ap (number k) (drop-drop 8 (i * 8) u ∙ ap (λ (n : ℕ). drop n u) p))
 
 -- four bytes in a row
 pub number-four : (s : List ℕ) → AllBytes s → (i : ℕ)

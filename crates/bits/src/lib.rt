@@ -2,7 +2,7 @@
 // field by field through a filler, both passed by value. Contracts cite specs/Bits.antt and specs/Filling.antt.
 ghost use mathlib.Core.Path.{_≡_};
 ghost use mathlib.Core.List.{_++_};
-ghost use Prim.Native.Nat.{_+_, _-_, _*_, _^_, _<_, _≤_};
+ghost use Prim.Native.Nat.{_+_, _-_, _*_, _/_, _^_, _<_, _≤_, min};
 ghost use lib.ListN.{length, take, drop, getD};
 ghost use Rattle.bits.specs.Filling.{filled, Ready, Goes};
 ghost use Rattle.bits.specs.Bits.{AllBits, longest, number, digits, bytes, bytesFor, pack as packed, unpack as unpacked, fits as fit};
@@ -184,12 +184,12 @@ pub fn byte_at(s: &[u8], i: usize) -> usize
     if i < s.len() { wide(s[i]) } else { 0 }
 }
 
-// Four bytes from a place on, as a number.
+// Four bytes from a place on, as a number, where there are so many; past the end of fewer stands 0.
 fn four_bytes(s: &[u8], i: usize) -> usize
-    requires { ⌜ i ≤ 4096 ⌝ }
+    requires { ⌜ i ≤ length (now s) - 4 ⌝ }
     ensures { λ r. ⌜ (r ≡ number 32 (drop (i * 8) (unpacked (now (s .entry))))) × (r < 2 ^ 32) ⌝ }
 {
-    if i + 3 < s.len() {
+    if 4 <= s.len() {
         return wide(s[i]) * 16777216
             + wide(s[i + 1]) * 65536
             + wide(s[i + 2]) * 256
@@ -201,14 +201,14 @@ fn four_bytes(s: &[u8], i: usize) -> usize
         + byte_at(s, i + 3)
 }
 
-// The first of the four bytes that end where so many bits end, or the first byte of all: a field of up to 16 bits that ends
-// there lies in them.
-fn start_of(end: usize) -> usize
-    requires { ⌜ end ≤ 32768 ⌝ }
-    ensures { λ r. ⌜ r ≡ bytesFor end - 4 ⌝ }
+// The first of the four bytes, of n, that a field of up to 16 bits is read from: the byte in which it starts, or the fourth
+// from the end where that comes first.
+fn start_of(n: usize, at: usize) -> usize
+    ensures { λ r. ⌜ r ≡ min (at / 8) (n - 4) ⌝ }
 {
-    let n = (end + 7) / 8;
-    if 4 <= n { n - 4 } else { 0 }
+    let first = at / 8;
+    let last = if 4 <= n { n - 4 } else { 0 };
+    if first < last { first } else { last }
 }
 
 // Bits on their way into packed bytes: so many bytes are whole, and the bits behind them are held as a number.
@@ -275,7 +275,7 @@ impl BitCursor {
     {
         let at = self.at;
         let end = at + k;
-        let i = start_of(end);
+        let i = start_of(s.len(), at);
         let held = four_bytes(s, i);
         let behind = (i + 4) * 8 - end;
         let value = (held >> behind) % power(k);

@@ -31,9 +31,6 @@ third c = second (c .before .before)
 abbrev fourth : tie.After-wide4 → tie.After-shared-slice-known
 fourth c = third (c .before .before)
 
-add-if1 : tie.Need-add-if1
-add-if1 c = search needs
-
 shared-slice-read-wide : tie.Need-shared-slice-read-wide
 shared-slice-read-wide c = search needs
 
@@ -41,7 +38,9 @@ wide-requires : tie.Need-wide-requires
 wide-requires c κs = search needs
 
 mul-result : tie.Need-mul-result
-mul-result c = record { fits = omega (arith, low (c .before .before .before) (c .before .before .before .before .args .i)) }
+mul-result c =
+    let k = c .before .before .before in
+    record { fits = omega (arith, low k (k .before .args .i)) }
 
 add-wide : tie.Need-add-wide
 add-wide c = search needs
@@ -146,7 +145,6 @@ pub four-bytes-spec : {M : Type 1} → statement M
 four-bytes-spec =
     tie.close
     (tie.spec
-    add-if1
     shared-slice-read-wide
     wide-requires
     mul-result

@@ -1,4 +1,4 @@
--- `bits::BitCursor::take` meets its contract: the field is a span of the four bytes that end with it. Assumes nothing.
+-- `bits::BitCursor::take` meets its contract: the field is a span of the four bytes that are read. Assumes nothing.
 use borrow.Author.Needs.{needs}
 use Prim.Native.Nat.{ℕ, _+_, _-_, _*_, _/_, _%_, _^_, _<_, _≤_}
 use mathlib.Core.Path.{_≡_, refl, ap, _∙_}
