@@ -1,5 +1,5 @@
 -- The laws of doubling in the fields. Assumes nothing.
-use Prim.Native.Nat.{ℕ, zero, suc, _*_, _/_, _%_, _^_, _<_, _≤_}
+use Prim.Native.Nat.{ℕ, zero, suc, _+_, _-_, _*_, _/_, _%_, _^_, _<_, _≤_}
 use mathlib.Core.Path.{_≡_, refl, sym, ap, ap₂, _∙_}
 use mathlib.Core.Bool.{Bool, cond}
 use native.Mathlib.Decide.{decLt}
@@ -8,7 +8,7 @@ use native.Mathlib.Omega.{arith}
 use borrow.Author.Tests.{lt-ltb, le-ltb}
 use lib.Bits.{bitXor, xor-lt, xor-shr, xor-zero-r, xor-self}
 use lib.Dec.{eqb}
-use lib.Pow.{pow-pos, pow-mono}
+use lib.Pow.{pow-pos, pow-mono, pow-add}
 use Rattle.field.specs.Field.{polynomial, Element, double, power}
 use Rattle.field.proofs.Xor.{digit, xor-twice, xor-cross, xor-same}
 
@@ -31,6 +31,10 @@ size-low nc lo = pow-mono {i = 3} {j = nc} lo
 
 pub size-high : (nc : ℕ) → nc ≤ 8 → 2 ^ nc ≤ 256
 size-high nc hi = pow-mono {i = nc} {j = 8} hi
+
+-- a multiple of 8
+pub size-eights : (nc : ℕ) → 3 ≤ nc → 2 ^ nc ≡ 8 * 2 ^ (nc - 3)
+size-eights nc lo = let e : nc ≡ 3 + (nc - 3) = omega arith in ap (λ (k : ℕ). 2 ^ k) e ∙ pow-add 2 3 (nc - 3)
 
 -- b for a digit 1, 0 for a digit 0
 abbrev pub pick : ℕ → ℕ → ℕ

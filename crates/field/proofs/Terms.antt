@@ -11,6 +11,7 @@ use native.Mathlib.Omega.{arith}
 use borrow.Author.Tests.{lt-ltb, le-ltb}
 use lib.Bits.{bitXor, xor-zero-r}
 use lib.ListN.{length, getD, set, take, drop}
+use lib.Pow.{pow-pos}
 use lib.Seq.{drop-cons, drop-length, getD-set-same, getD-set-other, getD-take, length-take-le}
 use Rattle.field.specs.Exponents.{named, AllNamed, Names, sumAt}
 use Rattle.field.specs.Field.{Elements, power, times, checkFrom, check}
@@ -46,6 +47,19 @@ names-next nc n es f q h v l e =
       low = entries-next (λ (c x : ℕ). x < 2 ^ nc) n es (q .low) h v l;
       name = entries-next (λ (c x : ℕ). named nc x ≡ f c) n es (q .name) h v e;
     }
+
+-- fewer of them
+pub names-fewer : (nc n m : ℕ) (es : List ℕ) (f : ℕ → ℕ) → n ≤ m → Names nc m es f → Names nc n es f
+names-fewer nc n m es f h q = record { low = λ c k. q .low c (omega arith); name = λ c k. q .name c (omega arith) }
+
+-- with zeros behind them, more than these are below 2 ^ nc
+pub low-rest : (nc n m : ℕ) (es : List ℕ) (f : ℕ → ℕ) → Names nc n es f → ((k : ℕ) → n ≤ k → k < m → getD es k 0 ≡ 0)
+    → (c : ℕ) → c < m → getD es c 0 < 2 ^ nc
+low-rest nc n m es f q z c h = go (decLt c n)
+  where
+    go : Dec (c < n) → getD es c 0 < 2 ^ nc
+    go (yes k) = q .low c k
+    go (no k) = rw (z c (omega arith) h) (pow-pos nc)
 
 -- the sum of those that are left, taken apart at the first
 pub sum-next : (p : List ℕ) (c s x : ℕ) (es : List ℕ) → c < length es → x ≡ getD p (getD es c 0) 0
@@ -112,7 +126,7 @@ module _ (nc : ℕ) (lo : 3 ≤ nc) (hi : nc ≤ 8) where
       named-power nc (e + c) h ∙ ap (power nc) (add-comm e c) ∙ sym (times-power nc lo hi c e)
       ∙ ap (times nc (power nc c)) (sym (named-power nc e (omega arith)))
 
-  pub raise-round : (e c k : ℕ) → e + 1 < 2 ^ nc → c + 1 < 2 ^ nc → 2 ^ nc - 1 + k ≡ c + e → named nc k ≡ times nc (power nc c) (named nc e)
+  pub raise-round : (e c k : ℕ) → e + 1 < 2 ^ nc → c < 2 ^ nc → 2 ^ nc - 1 + k ≡ c + e → named nc k ≡ times nc (power nc c) (named nc e)
   raise-round e c k h l s =
       named-power nc k (omega arith) ∙ sym (power-period nc lo hi k) ∙ ap (power nc) s ∙ sym (times-power nc lo hi c e)
       ∙ ap (times nc (power nc c)) (sym (named-power nc e h))

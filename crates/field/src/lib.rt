@@ -612,7 +612,7 @@ fn exponent_of(nc: usize, logs: &[u8], x: u8) -> u8
 
 // The exponent of 2 to the power c, times the element that e names. All bytes, so that a loop of it is done many at a time.
 fn raise(nc: usize, e: u8, c: u8) -> u8
-    requires { ⌜ (3 ≤ nc) × (nc ≤ 8) × (e < 2 ^ nc) × (c + 1 < 2 ^ nc) ⌝ }
+    requires { ⌜ (3 ≤ nc) × (nc ≤ 8) × (e < 2 ^ nc) × (c < 2 ^ nc) ⌝ }
     ensures { λ r. ⌜ (r < 2 ^ nc) × (named nc r ≡ times nc (power nc c) (named nc e)) ⌝ }
 {
     let n = order(nc) as u8;
@@ -623,10 +623,11 @@ fn raise(nc: usize, e: u8, c: u8) -> u8
     if e < d { e + c } else { e - d }
 }
 
-// The exponents of elements at the start of a slice.
+// The exponents of elements at the start of a slice; what stands behind them stays.
 fn fill_exponents(nc: usize, logs: &[u8], xs: &[u8], es: &mut [u8])
     requires { ⌜ (3 ≤ nc) × (nc ≤ 8) × Logs nc (now logs) × Elements nc (now xs) × (length (now xs) ≤ length (now es)) ⌝ }
-    ensures { λ _. ⌜ Names nc (length (now (xs .entry))) (now (es .exit)) (λ c. getD (now (xs .entry)) c 0) ⌝ }
+    ensures { λ _. ⌜ Names nc (length (now (xs .entry))) (now (es .exit)) (λ c. getD (now (xs .entry)) c 0)
+        × ((k : ℕ) → length (now (xs .entry)) ≤ k → getD (now (es .exit)) k 0 ≡ getD (now (es .entry)) k 0) ⌝ }
 {
     let mut c: usize = 0;
     while c < xs.len() {
@@ -637,7 +638,7 @@ fn fill_exponents(nc: usize, logs: &[u8], xs: &[u8], es: &mut [u8])
 
 // The first n exponents of one check's terms made those of the next check's.
 fn raise_all(nc: usize, n: usize, es: &mut [u8])
-    requires { ⌜ (3 ≤ nc) × (nc ≤ 8) × (n < 2 ^ nc) × (n ≤ length (now es)) × ((c : ℕ) → c < n
+    requires { ⌜ (3 ≤ nc) × (nc ≤ 8) × (n ≤ 2 ^ nc) × (n ≤ length (now es)) × ((c : ℕ) → c < n
         → getD (now es) c 0 < 2 ^ nc) ⌝ }
     ensures { λ _. ⌜ Names nc n (now (es .exit)) (λ c. times nc (power nc c) (named nc (getD (now (es .entry)) c 0))) ⌝ }
 {
@@ -661,6 +662,14 @@ fn sum(p: &[u8; 256], places: &[u8]) -> u8
     s
 }
 
+// n rounded up to a multiple of 8: so many exponents are raised eight at a time, with none left over.
+fn eights(nc: usize, n: usize) -> usize
+    requires { ⌜ (3 ≤ nc) × (nc ≤ 8) × (n ≤ 2 ^ nc) ⌝ }
+    ensures { λ r. ⌜ (n ≤ r) × (r ≤ 2 ^ nc) ⌝ }
+{
+    (n + 7) / 8 * 8
+}
+
 // The first r checks of the chunks, at the start of a slice: the exponents of all terms of a check are made those of the next. p
 // has the elements that exponents name.
 pub fn checks(nc: usize, r: usize, p: &[u8; 256], logs: &[u8], chunks: &[u8], out: &mut [u8])
@@ -669,12 +678,13 @@ pub fn checks(nc: usize, r: usize, p: &[u8; 256], logs: &[u8], chunks: &[u8], ou
     ensures { λ _. ⌜ Checks nc r (now (chunks .entry)) (now (out .exit)) ⌝ }
 {
     let n = chunks.len();
-    let mut es: [u8; 255] = [0; 255];
+    let m = eights(nc, n);
+    let mut es: [u8; 256] = [0; 256];
     fill_exponents(nc, logs, chunks, &mut es);
     let mut i: usize = 0;
     while i < r {
         if 0 < i {
-            raise_all(nc, n, &mut es);
+            raise_all(nc, m, &mut es);
         }
         out[i] = sum(p, &es[0..n]);
         i += 1;

@@ -1,16 +1,20 @@
--- `field::fill_exponents` meets its contract. The loop's invariant: the exponents of the first c elements are written.
+-- `field::fill_exponents` meets its contract. The loop's invariant: the exponents of the first c elements are written, and
+-- what stands behind all of them is as it was.
 use borrow.Author.Needs.{needs}
 use Prim.Native.Nat.{ℕ, _-_, _≤_}
-use mathlib.Core.Path.{_≡_}
+use mathlib.Core.Path.{_≡_, _∙_}
 use native.Mathlib.Omega.{arith}
 use lib.ListN.{length, getD, length-set}
+use lib.Seq.{getD-set-other}
 use Rattle.field.specs.Exponents.{Names}
 use Rattle.field.proofs.Terms.{names-next}
 use Rattle.field.proofs.fill_exponents.Statement.{statement}
 use Rattle.field.proofs.fill_exponents.Tie as tie
 
 abbrev Inv-loop : tie.InvT-loop
-Inv-loop nc logs xs es₀ c₀ es c = (length es ≡ length es₀) × (c ≤ length xs) × Names nc c es (λ (k : ℕ). getD xs k 0)
+Inv-loop nc logs xs es₀ c₀ es c =
+    (length es ≡ length es₀) × (c ≤ length xs) × Names nc c es (λ (k : ℕ). getD xs k 0)
+    × ((k : ℕ) → length xs ≤ k → getD es k 0 ≡ getD es₀ k 0)
 
 abbrev μ-loop : tie.MeasureT-loop
 μ-loop nc logs xs es₀ c₀ es c = length xs - c
@@ -44,7 +48,12 @@ loop-again c =
     let s = start (c .before .before .before) in
     let p = c .before .before .before .loop in
     let q = c .exponent-of .ensures in
-    (simp length-set (p .inv .0), omega arith, names-next (s .args .nc) (p .c) (p .es) (λ (k : ℕ). getD (s .args .xs .now) k 0) (p .inv .2) (omega arith) (c .exponent-of .result) (q .0) (q .1))
+    let f : ℕ → ℕ = λ k. getD (s .args .xs .now) k 0 in (
+      simp length-set (p .inv .0),
+      omega arith,
+      names-next (s .args .nc) (p .c) (p .es) f (p .inv .2) (omega arith) (c .exponent-of .result) (q .0) (q .1),
+      λ k h. getD-set-other (p .es) (p .c) k (c .exponent-of .result) 0 (λ e. omega arith) ∙ p .inv .3 k h,
+    )
 
 same-length : tie.Need-same-length Inv-loop μ-loop
 same-length c = search needs
@@ -54,7 +63,7 @@ returns c =
     let s = start (c .before) in
     let p = c .before .loop in
     let all : length (s .args .xs .now) ≡ p .c = omega arith in
-    rw all (p .inv .2)
+    (rw all (p .inv .2), p .inv .3)
 
 pub fill-exponents-spec : {M : Type 1} → statement M
 fill-exponents-spec =

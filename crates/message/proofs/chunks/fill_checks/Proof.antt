@@ -1,5 +1,5 @@
--- `message::chunks::fill_checks` meets its contract: there are no checks, or the elements and their logs, and the checks of the
--- chunks. Assumes nothing.
+-- `message::chunks::fill_checks` meets its contract: there are no checks, or the elements and their logs, and the checks
+-- of the chunks. Assumes nothing.
 use borrow.Author.Needs.{needs}
 use Prim.Native.Nat.{ℕ}
 use mathlib.Core.Path.{_≡_}
