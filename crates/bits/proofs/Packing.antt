@@ -1,15 +1,17 @@
 -- Packing and unpacking undo each other. Assumes nothing.
 use Prim.Native.Nat.{ℕ, zero, suc, _+_, _-_, _*_, _/_, _%_, _^_, _<_, _≤_}
 use mathlib.Core.Path.{_≡_, refl, sym, ap, ap₂, _∙_}
-use mathlib.Core.Bool.{Bool, true, false}
+use mathlib.Core.Bool.{Bool, true, false, _&&_}
 use mathlib.Core.Logic.{⊎-elim}
 use mathlib.Core.List.{List, [], _∷_, _++_, append-assoc}
-use native.Mathlib.Nat.{zero-div, mod-eq-of-lt, div-eq-of-lt, zero-add, suc-add}
+use native.Mathlib.Decide.{ℕ-discrete}
+use native.Mathlib.Nat.{zero-div, mod-eq-of-lt, div-eq-of-lt, zero-add, zero-mul, one-mul, suc-add}
 use native.Mathlib.Numerals.{add-one}
 use native.Mathlib.Omega.{arith}
 use borrow.Author.Tests.{eq-eqb, ne-eqb, eqb-true}
 use lib.Dec.{eqb}
 use lib.ListN.{length, getD, take, drop, set, List·getD-append, List·getD-eq-default, drop-of-length-le}
+use lib.Pow.{pow-pos}
 use lib.Seq.{drop-cons, set-at, append-snoc, getD-drop, getD-take, getD-append-add, drop-drop, drop-nil, drop-at, take-at, take-append-add, take-add, length-take-le}
 use Rattle.bits.specs.Bits.{AllBits, AllBytes, number, digits, bytes, bytesFor, pack, unpack, blank, fits}
 use Rattle.bits.proofs.Copy.{part-next}
@@ -194,18 +196,21 @@ bytes-blank n x z e = bytes-ext n (x ++ z) x (λ i. ⊎-elim (λ h. List·getD-a
         let k : i ≡ length x + (i - length x) = omega arith in
         ap (λ (n : ℕ). getD (x ++ z) n 0) k ∙ getD-append-add x z (i - length x) 0 ∙ blank-at z e (i - length x) ∙ sym (List·getD-eq-default x 0 h)
 
--- ---- looking at the spare bits one by one
-pub blank-next : (x : List ℕ) (i : ℕ) → i < length x → getD x i 0 ≡ 0 → blank (drop (i + 1) x) ≡ blank (drop i x)
-unfolding blank
-blank-next x i h e = rw (drop-cons x i 0 h, add-one i, eq-eqb (getD x i 0) 0 e) refl
-
-pub blank-stop : (x : List ℕ) (i : ℕ) → i < length x → (getD x i 0 ≡ 0 → ⊥) → blank (drop i x) ≡ false
-unfolding blank
-blank-stop x i h n = rw (drop-cons x i 0 h, ne-eqb (getD x i 0) 0 n) refl
-
-pub blank-end : (x : List ℕ) (i : ℕ) → length x ≤ i → blank (drop i x) ≡ true
-unfolding blank
-blank-end x i h = rw (drop-of-length-le x h) refl
+-- ---- the spare bits
+-- bits are all zero just where they spell 0
+pub blank-number : (k : ℕ) (x : List ℕ) → AllBits x → length x ≡ k → blank x ≡ eqb (number k x) 0
+unfolding blank number
+blank-number zero [] a e = refl
+blank-number (suc k) [] a e = absurd (omega arith)
+blank-number zero (b ∷ x) a e = absurd (omega arith)
+blank-number (suc k) (b ∷ x) a e = go (ℕ-discrete b 0) (blank-number k x (a .1) (omega arith))
+  where
+    go : Dec (b ≡ 0) → blank x ≡ eqb (number k x) 0 → eqb b 0 && blank x ≡ eqb (b * 2 ^ k + number k x) 0
+    go (yes q) r = rw (q, zero-mul, zero-add) r
+    go (no q) r =
+        let one : b ≡ 1 = omega (arith, a .0) in
+        let some : b * 2 ^ k + number k x ≡ 0 → ⊥ = λ h. omega (arith, pow-pos k, rw (one, one-mul) at h) in
+        rw (ne-eqb b 0 q, ne-eqb (b * 2 ^ k + number k x) 0 some) refl
 
 -- where the byte count is right, the spare bits decide
 pub fits-by : (w : ℕ) (s : List ℕ) (b : Bool) → length s ≡ bytesFor w → blank (drop w (unpack s)) ≡ b → b ≡ fits w s

@@ -167,14 +167,9 @@ pub fn fits(w: usize, s: &[u8]) -> bool
     if s.len() != n {
         return false;
     }
-    let mut i = w;
-    while i < n * 8 {
-        if bit_at(s, i) != 0 {
-            return false;
-        }
-        i += 1;
-    }
-    true
+    let end = BitCursor { at: w };
+    let spare = end.take(s, n * 8 - w);
+    spare.value == 0
 }
 
 // A byte of a slice; past the end stands 0.
