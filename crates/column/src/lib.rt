@@ -163,16 +163,33 @@ pub fn missing(whole: usize, part: usize, modulus: usize) -> usize
     whole + modulus - part
 }
 
+// The number that the nc bits from a place on spell. Blank and filled chunks, which are most, are known by their ones.
+fn read_number(nc: usize, y: &[u8], totals: &[u32], counts: &[u16], at: usize) -> u8
+    requires { ⌜ (nc ≤ 8) × ((AllBits (now y) × (length (now y) ≤ longest))
+        × (Tables (now y) 0 (now totals) (now counts) × (at + nc ≤ length (now y)))) ⌝ }
+    ensures { λ r. ⌜ r ≡ number nc (drop at (now (y .entry))) ⌝ }
+{
+    let seen = weigh::look(y, totals, counts, at, nc);
+    if seen.ones == 0 {
+        return 0;
+    }
+    if seen.ones == nc {
+        return (bits::power(nc) - 1) as u8;
+    }
+    message::chunks::number_at(y, at, nc)
+}
+
 // One where a chunk can be another than the number v: where it lost bits, and where it is read so.
-pub fn other(nc: usize, y: &[u8], at: usize, lost: u8, v: u8) -> u8
-    requires { ⌜ (nc ≤ 8) × (AllBits (now y) × (at + nc ≤ length (now y) + lost)) ⌝ }
+pub fn other(nc: usize, y: &[u8], totals: &[u32], counts: &[u16], at: usize, lost: u8, v: u8) -> u8
+    requires { ⌜ (nc ≤ 8) × ((AllBits (now y) × (length (now y) ≤ longest))
+        × (Tables (now y) 0 (now totals) (now counts) × (at + nc ≤ length (now y) + lost))) ⌝ }
     ensures { λ r. ⌜ ((u : ℕ) → (lost ≡ 0 → u ≡ number nc (drop at (now (y .entry)))) → cond (eqb u v) 0 1 ≤ r)
         × (r ≤ 1) ⌝ }
 {
     if 0 < lost {
         return 1;
     }
-    if message::chunks::number_at(y, at, nc) == v {
+    if read_number(nc, y, totals, counts, at) == v {
         return 0;
     }
     1
@@ -182,14 +199,16 @@ pub fn other(nc: usize, y: &[u8], at: usize, lost: u8, v: u8) -> u8
 fn others(
     l: Layout,
     y: &[u8],
+    totals: &[u32],
+    counts: &[u16],
     numbers: &[u16],
     heavy: Heavy,
     chunks: weigh::Chunks,
     z: &[u8],
     j: usize,
 ) -> u8
-    requires { ⌜ Fit l (now y) (now numbers) heavy × (Within l (length (now y)) heavy chunks
-        × ((j < l .l2) × (l .l1 * l .l2 ≤ length (now z)))) ⌝ }
+    requires { ⌜ (Fit l (now y) (now numbers) heavy × Tables (now y) 0 (now totals) (now counts))
+        × (Within l (length (now y)) heavy chunks × ((j < l .l2) × (l .l1 * l .l2 ≤ length (now z)))) ⌝ }
     ensures { λ r. ⌜ ((vs : List ℕ) → AsRead l (now (y .entry)) heavy chunks vs j (heavy .n)
         → apartIn l heavy (now (z .entry)) vs j (heavy .n) < r) × (r ≤ 7) ⌝ }
 {
@@ -199,7 +218,7 @@ fn others(
     let mut s: usize = 0;
     while s < n {
         let c = bits::wide(heavy.block[s]) * l.l2 + j;
-        r += other(nc, y, chunks.place[s], chunks.lost[s], z[c]);
+        r += other(nc, y, totals, counts, chunks.place[s], chunks.lost[s], z[c]);
         s += 1;
     }
     r
@@ -237,5 +256,5 @@ pub fn crossing(
     if !weigh::can_bring(l.nc, modulus, y, totals, counts, chunks, need) {
         return 0;
     }
-    others(l, y, numbers, heavy, chunks, z, j)
+    others(l, y, totals, counts, numbers, heavy, chunks, z, j)
 }

@@ -1,7 +1,8 @@
 // A guess of a likely row, before a search: where it is right, the search has its anchor from the start. Films are long
 // runs, so a lost bit mostly belongs to a run that is still there: the guess prolongs runs until the blocks have their
-// sums. It promises only that what it adds is consistent. Contracts cite specs/Tries.antt and found's specs/Found.antt;
-// strings of bits are unpacked, one byte a bit.
+// sums. Where a row repeats itself after as many bits as were lost, the guess repeats it once more. It promises only that
+// what it adds is consistent. Contracts cite specs/Tries.antt and found's specs/Found.antt; strings of bits are unpacked,
+// one byte a bit.
 use message::Layout;
 use rows::Kept;
 ghost use mathlib.Core.Path.{_≡_};
@@ -291,8 +292,68 @@ fn add_prolonged(
     found::add_bits(l, y, numbers, x, cap, list, kept)
 }
 
-// Adds a likely row, if it is consistent. Without checks there is no use for an anchor, and where runs are short no row
-// is likely.
+// Whether a string mostly repeats itself after k bits: at most one bit in eight is another than the one k places before it.
+fn repeats(y: &[u8], k: usize) -> bool
+    requires { ⌜ length (now y) ≤ longest ⌝ }
+{
+    let mut unlike: usize = 0;
+    let mut i = k;
+    while i < y.len() {
+        if y[i] != y[i - k] {
+            unlike += 1;
+        }
+        i += 1;
+    }
+    8 * unlike <= y.len()
+}
+
+// The place of a string that place j comes from, once the k bits before place q stand there again.
+fn again(j: usize, q: usize, k: usize) -> usize {
+    if j < q {
+        return j;
+    }
+    if j < k {
+        return j;
+    }
+    j - k
+}
+
+// The row x as the received row with the k bits before place q once more.
+fn repeat_at(y: &[u8], q: usize, k: usize, x: &mut [u8])
+    requires { ⌜ AllBits (now y) × AllBits (now x) ⌝ }
+    ensures { λ _. ⌜ AllBits (now (x .exit)) ⌝ }
+{
+    let mut j: usize = 0;
+    while j < x.len() {
+        x[j] = read_on(y, again(j, q, k));
+        j += 1;
+    }
+}
+
+// Adds the row in which the bits before the first block that has not its sum were sent twice, as many as were lost, if it
+// is consistent; it is made in a slice as long as a row.
+fn add_repeated(
+    l: Layout,
+    y: &[u8],
+    numbers: &[u16],
+    row: &mut [u8],
+    cap: usize,
+    list: &mut [u8],
+    kept: Kept,
+) -> Kept
+    requires { ⌜ Given l (now numbers) (now y) × (Hand l (now row)
+        × Holding l (now numbers) (now y) cap (now list) (kept .count) (kept .more)) ⌝ }
+    ensures { λ r. ⌜ Grown l (now (numbers .entry)) (now (y .entry)) cap (λ z. ⊥)
+        (now (list .entry)) (kept .count) (kept .more) (now (list .exit)) (r .count) (r .more) ⌝ }
+{
+    let start = Stand { i: 0, p: 0 };
+    let here = as_read(l, y, numbers, start, row);
+    repeat_at(y, here.p, row.len() - y.len(), row);
+    found::add_bits(l, y, numbers, row, cap, list, kept)
+}
+
+// Adds a likely row, if it is consistent. Without checks there is no use for an anchor, and where runs are short and
+// nothing repeats itself no row is likely.
 pub fn guess(l: Layout, y: &[u8], numbers: &[u16], cap: usize, list: &mut [u8], kept: Kept) -> Kept
     requires { ⌜ Given l (now numbers) (now y)
         × Holding l (now numbers) (now y) cap (now list) (kept .count) (kept .more) ⌝ }
@@ -302,10 +363,14 @@ pub fn guess(l: Layout, y: &[u8], numbers: &[u16], cap: usize, list: &mut [u8], 
     if l.r == 0 {
         return kept;
     }
-    if !few_runs(y) {
-        return kept;
-    }
-    let mut x: [u8; 2040] = [0; 2040];
     let n = l.l1 * l.l2 * l.nc;
-    add_prolonged(l, y, numbers, &mut x[0..n], cap, list, kept)
+    if few_runs(y) {
+        let mut x: [u8; 2040] = [0; 2040];
+        return add_prolonged(l, y, numbers, &mut x[0..n], cap, list, kept);
+    }
+    if repeats(y, n - y.len()) {
+        let mut x: [u8; 2040] = [0; 2040];
+        return add_repeated(l, y, numbers, &mut x[0..n], cap, list, kept);
+    }
+    kept
 }

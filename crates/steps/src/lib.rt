@@ -255,7 +255,7 @@ fn share(
         return;
     }
     let i = bits::wide(heavy.block[b]);
-    let more = apart + column::other(l.nc, y, v.at, a, z[i * l.l2 + j]);
+    let more = apart + column::other(l.nc, y, totals, counts, v.at, a, z[i * l.l2 + j]);
     let seen = v.seen;
     let last = v.last;
     let mut g = v.first;

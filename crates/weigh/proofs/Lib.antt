@@ -3,4 +3,4 @@ pub mod Weights
 pub mod Reach
 pub mod Windows
 pub mod Spans
-mod Runs
+pub mod Runs

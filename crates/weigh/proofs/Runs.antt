@@ -1,18 +1,19 @@
 -- Which bits are lost against a run: a lost bit is another than the next one received, so against zeros each lost bit is a one, and
 -- against ones a zero. Rests on Weights.antt and greedy matching. Assumes nothing.
-use Prim.Native.Nat.{ℕ, zero, suc, _+_, _-_, _<_, _≤_}
+use Prim.Native.Nat.{ℕ, zero, suc, _+_, _-_, _^_, _<_, _≤_}
 use mathlib.Core.Path.{_≡_, refl, sym, ap, _∙_}
 use mathlib.Core.Bool.{cond}
 use mathlib.Core.List.{List, [], _∷_}
 use native.Mathlib.Decide.{ℕ-discrete}
+use native.Mathlib.Nat.{pow-suc}
 use native.Mathlib.Numerals.{add-one}
 use native.Mathlib.Omega.{arith}
 use borrow.Author.Tests.{eq-eqb, ne-eqb}
 use lib.Dec.{eqb}
-use lib.ListN.{length, getD, take, drop, length-drop}
+use lib.ListN.{length, getD, take, drop, length-take, length-drop}
 use lib.Seq.{length-take-le, getD-take}
-use Rattle.bits.specs.Bits.{AllBits}
-use Rattle.bits.proofs.Laws.{bits-take, bits-drop}
+use Rattle.bits.specs.Bits.{AllBits, number}
+use Rattle.bits.proofs.Laws.{bits-take, bits-drop, number-none, number-take, number-ext}
 use Rattle.rows.proofs.Deletion.{strikes}
 use Rattle.vt.specs.Ones.{ones}
 use Rattle.vt.proofs.Totals.{ones-length}
@@ -85,6 +86,22 @@ unfolding ones
 all-ones [] a e i h = absurd (omega arith)
 all-ones (b ∷ x) a e zero h = omega (arith, a .0, ones-length x (a .1))
 all-ones (b ∷ x) a e (suc i) h = all-ones x (a .1) (omega (arith, a .0, ones-length x (a .1))) i (omega arith)
+
+-- the numbers that k bits spell without a one, and with ones only
+pub zeros-number : (k : ℕ) (x : List ℕ) → ones (take k x) ≡ 0 → number k x ≡ 0
+zeros-number k x e = sym (number-take k x) ∙ number-ext k (take k x) [] (no-ones (take k x) e) ∙ number-none k
+
+pub ones-number : (k : ℕ) (x : List ℕ) → AllBits x → ones (take k x) ≡ k → number k x + 1 ≡ 2 ^ k
+unfolding ones number
+ones-number zero x a e = omega arith
+ones-number (suc k) [] a e = absurd (omega arith)
+ones-number (suc k) (b ∷ x) a e =
+    let most = ones-length (take k x) (bits-take k x (a .1)) in
+    let short = length-take k x in
+    let rest : ones (take k x) ≡ k = omega (arith, a .0, most, short) in
+    let first : b ≡ 1 = omega (arith, a .0) in
+    let r = ones-number k x (a .1) rest in
+    rw (first, pow-suc 2 k) (omega (arith, r))
 
 -- one bit more
 one-more : (x : List ℕ) (w : ℕ) → w < length x → ones (take (suc w) x) ≡ ones (take w x) + getD x w 0

@@ -120,7 +120,7 @@ others-requires : tie.Need-others-requires
 others-requires c κs =
     let e = found (c .before .before .before) in
     let s = entry (e .before .before) in
-    (s .pre .0, (placed e .within, (s .pre .1 .1 .0, s .pre .1 .1 .1 .1)))
+    ((s .pre .0, s .pre .1 .0), (placed e .within, (s .pre .1 .1 .0, s .pre .1 .1 .1 .1)))
 
 returns-3 : tie.Need-returns-3
 returns-3 c =

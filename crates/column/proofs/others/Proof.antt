@@ -14,25 +14,29 @@ use Rattle.column.proofs.others.Statement.{statement}
 use Rattle.column.proofs.others.Tie as tie
 
 abbrev Inv-loop : tie.InvT-loop
-Inv-loop l y numbers z j heavy chunks n nc r₀ s₀ r s =
+Inv-loop l y totals counts numbers z j heavy chunks n nc r₀ s₀ r s =
     ((s ≤ n) × (r ≤ s + 1)) × ((vs : List ℕ) → AsRead l y heavy chunks vs j s → apartIn l heavy z vs j s < r)
 
 abbrev μ-loop : tie.MeasureT-loop
-μ-loop l y numbers z j heavy chunks n nc r₀ s₀ r s = n - s
+μ-loop l y totals counts numbers z j heavy chunks n nc r₀ s₀ r s = n - s
+
+-- where the function starts, seen from the loop
+abbrev start : tie.At-loop Inv-loop μ-loop → tie.Start Inv-loop μ-loop
+start p = p .before .before .before .before .before .before
 
 -- the chunk of a turn
 chunk-is : (c : tie.After-struct-known Inv-loop μ-loop) → let p = c .before .before .before .before in
-    let a = p .before .before .before .before .args in
+    let a = start p .args in
     let i = c .before .wide .result * a .l .l2 + a .j in
-    (i ≡ chunkAt (a .l) (a .t4) (a .j) (p .loop .s)) × ((i < 255) × (i < length (a .z .now)))
+    (i ≡ chunkAt (a .l) (a .t6) (a .j) (p .loop .s)) × ((i < 255) × (i < length (a .z .now)))
 chunk-is c =
     let p = c .before .before .before .before in
-    let s = p .before .before .before .before in
+    let s = start p in
     let a = s .args in
-    let f = s .pre .0 in
+    let f = s .pre .0 .0 in
     let e = ap (λ (v : ℕ). v * a .l .l2 + a .j) (c .before .wide .ensures) in
     let h = f .inside (p .loop .s) (c .before .before .before .loop-test .taken) in
-    let k = chunk-stands (a .l) (f .allowed) (getD (a .t4 .block) (p .loop .s) 0) (a .j) h (s .pre .1 .1 .0) in
+    let k = chunk-stands (a .l) (f .allowed) (getD (a .t6 .block) (p .loop .s) 0) (a .j) h (s .pre .1 .1 .0) in
     (e, (rw e (k .1 .0), rw e (omega (arith, k .0, s .pre .1 .1 .1))))
 
 loop-holds : tie.Need-loop-holds Inv-loop μ-loop
@@ -67,9 +71,11 @@ other-requires : tie.Need-other-requires Inv-loop μ-loop
 other-requires c κs =
     let w = c .before .before .before .before in
     let p = w .before .before .before in
-    let s = p .before .before .before .before in
-    let f = s .pre .0 in
-    (legal-bounds (s .args .l) (f .allowed) .nc-high, (f .bits, s .pre .1 .0 (p .loop .s) (omega arith)))
+    let s = start p in
+    let f = s .pre .0 .0 in (
+      legal-bounds (s .args .l) (f .allowed) .nc-high,
+      ((f .bits, f .short), (s .pre .0 .1, s .pre .1 .0 (p .loop .s) (omega arith))),
+    )
 
 add-r : tie.Need-add-r Inv-loop μ-loop
 add-r c = omega (arith, c .other .ensures .1)
@@ -85,11 +91,11 @@ unfolding apartIn
 loop-again c =
     let k = c .before .before .before .before in
     let p = k .before .before .before .before in
-    let a = p .before .before .before .before .args in
+    let a = start p .args in
     let s : ℕ = p .loop .s in (
       (omega arith, omega (arith, c .other .ensures .1)),
       λ vs read.
-          let u : ℕ = getD vs (chunkAt (a .l) (a .t4) (a .j) s) 0 in
+          let u : ℕ = getD vs (chunkAt (a .l) (a .t6) (a .j) s) 0 in
           let o = rw (chunk-is k .0) at (c .other .ensures .0 u (read s (omega arith))) in
           let h = p .loop .inv .1 vs (λ t m. read t (omega arith)) in
           rw (add-one s) (omega (arith, o, h)),
@@ -97,13 +103,14 @@ loop-again c =
 
 returns : tie.Need-returns Inv-loop μ-loop
 returns c =
-    let a = c .before .before .before .before .before .args in
+    let b = start (c .before) in
+    let a = b .args in
     let p = c .before .loop in
-    let k : p .s ≡ a .t4 .n = omega arith in
-    let most = c .before .before .before .before .before .pre .0 .few in (
+    let k : p .s ≡ a .t6 .n = omega arith in
+    let most = b .pre .0 .0 .few in (
       λ vs read.
           let h = p .inv .1 vs (λ s h. read s (omega arith)) in
-          omega (arith, h, ap (apartIn (a .l) (a .t4) (a .z .now) vs (a .j)) k),
+          omega (arith, h, ap (apartIn (a .l) (a .t6) (a .z .now) vs (a .j)) k),
       omega arith,
     )
 

@@ -266,7 +266,7 @@ share-other-requires t c κs =
     let e = c .before .before .before .before in
     let s = share-begin t e in
     let g = s .pre .1 .0 .seeable in
-    (legal-bounds (s .args .l) (g .allowed) .nc-high, (g .bits, viewed t e .there))
+    (legal-bounds (s .args .l) (g .allowed) .nc-high, ((g .bits, g .short), (g .tables, viewed t e .there)))
 
 share-add-more : (t : ℕ)
     → share-lts.Need-add-more (share-claims t) (share-at t) share.Post share-Inv-loop share-μ-loop
