@@ -64,7 +64,7 @@ pub fn add_row(
     ensures { λ r. ⌜ Grown l (now (numbers .entry)) (now (y .entry)) cap (InHand l row)
         (now (list .entry)) (kept .count) (kept .more) (now (list .exit)) (r .count) (r .more) ⌝ }
 {
-    let mut x: [u8; 2040] = [0; 2040];
+    let mut x: [u8; bits::LONGEST] = [0; bits::LONGEST];
     let count = l.l1 * l.l2;
     let n = count * l.nc;
     lines::spread(l.nc, 0, 1, count, &row, &mut x, 0);

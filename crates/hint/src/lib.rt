@@ -365,11 +365,11 @@ pub fn guess(l: Layout, y: &[u8], numbers: &[u16], cap: usize, list: &mut [u8], 
     }
     let n = l.l1 * l.l2 * l.nc;
     if few_runs(y) {
-        let mut x: [u8; 2040] = [0; 2040];
+        let mut x: [u8; bits::LONGEST] = [0; bits::LONGEST];
         return add_prolonged(l, y, numbers, &mut x[0..n], cap, list, kept);
     }
     if repeats(y, n - y.len()) {
-        let mut x: [u8; 2040] = [0; 2040];
+        let mut x: [u8; bits::LONGEST] = [0; bits::LONGEST];
         return add_repeated(l, y, numbers, &mut x[0..n], cap, list, kept);
     }
     kept

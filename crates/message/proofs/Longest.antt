@@ -95,7 +95,7 @@ after-head l s e n =
       all-fields = omega arith;
     }
 
--- and 255 blocks of one chunk of 8 bits with 16 checks take just that many
+-- 255 blocks of one chunk of 8 bits with 16 checks have a message of just that length
 message-longest : messageBytes (record { l1 = 255; l2 = 1; nc = 8; r = 16 }) ≡ 154
 unfolding messageBytes
 message-longest = refl

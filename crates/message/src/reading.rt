@@ -91,7 +91,8 @@ fn spare_blank(l1: usize, l2: usize, nc: usize, r: usize, s: &[u8]) -> bool
     bits::fits(used, &s[9..])
 }
 
-// The same from row 3 on, where the mark and the version are right and the head names this layout.
+// What a message is refused for by rows 3 to 6 of the table, where its mark and version are right and its head names this layout; the
+// layout where it is fit.
 fn check_layout(l1: usize, l2: usize, nc: usize, r: usize, s: &[u8]) -> Read
     requires { ⌜ (isMarked (now s) ≡ true) × ((versionOne (now s) ≡ true) × (layoutOf (now s) ≡ layout l1 l2 nc r)) ⌝ }
     ensures { λ a. ⌜ readOf a ≡ layoutAnswer (messageRefusal (now (s .entry))) (now (s .entry)) ⌝ }

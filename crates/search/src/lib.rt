@@ -98,7 +98,7 @@ fn mended_block(
     if has_sum(nb, s, rest, totals, counts, p) {
         return false;
     }
-    let mut bits: [u8; 2040] = [0; 2040];
+    let mut bits: [u8; bits::LONGEST] = [0; bits::LONGEST];
     vt::mend_bits(s, &rest[0..short], &mut bits);
     put_block(l.nc, l.l2, &bits[0..nb], row, i);
     true
@@ -310,11 +310,11 @@ fn one_pattern(
     )
 }
 
-// The rows under the first counts of a pattern: each count that block i can lose is tried in turn, and the later blocks share out what
-// is left; the last block takes all of it. The part of the received row that starts at block i is handed on, with its tables; those of the
-// whole received row serve the loss tables. Where no
-// row but the anchor can be under the first counts, or all rows under them come after the last row of a list that is full, nothing is
-// tried; once a row is held, it becomes the anchor.
+// The rows under the first counts of a pattern: each count that block i can lose is tried in turn, and the later blocks
+// share out what is left; the last block takes all of it. The part of the received row that starts at block i is handed
+// on, with its tables; those of the whole received row serve the loss tables. Where no row but the anchor can be under the
+// first counts, or all rows under them come after the last row of a list that is full, nothing is tried; once a row is
+// held, it becomes the anchor.
 fn patterns(
     l: Layout,
     y: &[u8],

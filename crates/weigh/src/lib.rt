@@ -105,7 +105,7 @@ pub fn more_ones(
 // A span with one chunk more, which has so many positions before it and g ones more than were received: least, the lost
 // ones stand in front of the received bits and the lost zeros behind; greatest, the other way round.
 pub fn widen(nc: usize, before: usize, lost: usize, seen: Seen, g: usize, span: Span) -> Span
-    requires { ⌜ ((nc ≤ 8) × (before ≤ 2040)) × (((seen .ones + lost ≤ nc) × ((seen .total ≤ 64) × (g ≤ lost)))
+    requires { ⌜ ((nc ≤ 8) × (before ≤ longest)) × (((seen .ones + lost ≤ nc) × ((seen .total ≤ 64) × (g ≤ lost)))
         × ((span .low ≤ 5 * chunkTop) × (span .high ≤ 5 * chunkTop))) ⌝ }
     ensures { λ r. ⌜ Wider nc before lost seen g span r ⌝ }
 {
