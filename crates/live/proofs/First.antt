@@ -9,14 +9,16 @@ use native.Mathlib.Omega.{arith}
 use lib.ListN.{length, getD, set, length-set}
 use lib.Seq.{getD-set-same, getD-set-other}
 use Rattle.message.specs.declared.Layout.{Layout}
-use Rattle.states.specs.States.{mostStates, stride, state, each, stateOf}
+use Rattle.states.specs.States.{mostStates, stride, each, stateOf}
 use Rattle.states.specs.declared.Shape.{Shape}
 use Rattle.states.proofs.States.{stride-pos, state-same, state-lowered}
 use Rattle.column.specs.declared.Heavy.{Heavy}
-use Rattle.live.specs.Passes.{Within, Kept, Remade, Goes, FirstMark}
-use Rattle.live.proofs.Columns.{remade-none, remade-set}
+use Rattle.marks.specs.Marks.{Kept, Remade}
+use Rattle.marks.specs.Digits.{Within}
+use Rattle.marks.proofs.Marks.{remade-none, remade-set}
+use Rattle.marks.proofs.Paths.{crosses-same}
+use Rattle.live.specs.Passes.{Goes, FirstMark}
 use Rattle.live.proofs.Levels.{Above, Levels, level-or, levels-next}
-use Rattle.live.proofs.Steps.{crosses-same}
 
 -- of a row, that it is not near is known of the states wide
 module _ (l : Layout) (y numbers : List ℕ) (heavy : Heavy) (known : List ℕ) (shape : Shape) (j at base : ℕ) (entry :

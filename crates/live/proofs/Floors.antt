@@ -9,9 +9,9 @@ use lib.Seq.{getD-set-same, getD-set-other}
 use Rattle.states.specs.States.{mostStates, stride, each}
 use Rattle.states.specs.declared.Shape.{Shape}
 use Rattle.states.proofs.States.{state-low}
-use Rattle.live.specs.Live.{many}
+use Rattle.marks.specs.Marks.{many}
+use Rattle.marks.specs.Digits.{Digits, entryOf}
 use Rattle.live.specs.Near.{mostAfter, Floors}
-use Rattle.live.specs.Passes.{Digits, entryOf}
 use Rattle.live.proofs.Near.{after-same}
 
 -- no floors are low

@@ -18,10 +18,9 @@ use Rattle.column.specs.Column.{chunkAt, Crosses, apartIn}
 use Rattle.column.specs.declared.Heavy.{Heavy}
 use Rattle.column.proofs.Rows.{no-loss}
 use Rattle.far.specs.Far.{Reads, readApart, Walk, stepAt, blockAt}
-use Rattle.live.specs.Live.{Path, apartBefore, apartFrom}
-use Rattle.live.specs.Passes.{Kept}
+use Rattle.marks.specs.Marks.{Path, apartBefore, apartFrom, Kept}
+use Rattle.marks.proofs.Paths.{own-within}
 use Rattle.live.specs.Near.{CountedIn, Counted, mostIn, most, mostAfter}
-use Rattle.live.proofs.Paths.{own-within}
 
 -- one at most
 one-most : (b : Bool) → cond b 0 1 ≤ 1

@@ -9,8 +9,8 @@ use Rattle.states.specs.States.{mostStates, lefts, each, stateOf}
 use Rattle.states.specs.declared.Shape.{Shape}
 use Rattle.column.specs.declared.Heavy.{Heavy}
 use Rattle.far.specs.Far.{Covered, stepAt, blockAt}
-use Rattle.live.specs.Live.{many}
-use Rattle.live.specs.Passes.{Within}
+use Rattle.marks.specs.Marks.{many}
+use Rattle.marks.specs.Digits.{Within}
 
 -- a table of what rows count in each heavy block: ahead, in the columns before each, by the losses used; otherwise from each on, by the
 -- losses left

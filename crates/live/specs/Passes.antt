@@ -2,17 +2,17 @@
 use Prim.Native.Nat.{ℕ, _+_, _-_, _*_, _<_, _≤_}
 use mathlib.Core.Path.{_≡_}
 use mathlib.Core.Bool.{Bool, true, false}
-use mathlib.Core.Logic.{_⊎_}
 use mathlib.Core.List.{List}
 use lib.ListN.{length, getD}
-use Rattle.windows.specs.Windows.{Tables}
 use Rattle.message.specs.declared.Layout.{Layout}
-use Rattle.states.specs.States.{mostStates, lefts, each, Shaped, stateOf}
+use Rattle.windows.specs.Windows.{Tables}
+use Rattle.states.specs.States.{lefts, each, stateOf}
 use Rattle.states.specs.declared.Shape.{Shape}
 use Rattle.column.specs.Column.{Fit, Light, Crosses, apartIn}
 use Rattle.column.specs.declared.Heavy.{Heavy}
 use Rattle.whole.specs.Whole.{entryAt, Readings}
-use Rattle.live.specs.Live.{Covers, Path, apartFrom, Through}
+use Rattle.marks.specs.Marks.{Covers, Path, apartFrom, Through, Kept}
+use Rattle.marks.specs.Digits.{Within, entryOf}
 
 -- all that is read to make the marks
 pub record Ready (l : Layout) (y totals counts numbers : List ℕ) (heavy : Heavy) (known z : List ℕ) : Type 0 where
@@ -20,32 +20,6 @@ pub record Ready (l : Layout) (y totals counts numbers : List ℕ) (heavy : Heav
   pub tables : Tables y 0 totals counts
   pub long : l .l2 ≤ length known
   pub all : l .l1 * l .l2 ≤ length z
-
--- each block of a state has at most its size left
-abbrev pub Within : Shape → (left : ℕ → ℕ) → Type 0
-Within shape left = (s : ℕ) → s < shape .n → left s ≤ each (shape .size) s
-
--- the losses left in state q in a table that has six entries a state
-abbrev pub entryOf : (digits : List ℕ) (q : ℕ) → ℕ → ℕ
-entryOf digits q s = getD digits (q * 6 + s) 0
-
--- a table of the losses left in each state
-pub record Digits (shape : Shape) (digits : List ℕ) : Type 0 where
-  pub long : shape .states * 6 ≤ length digits
-  pub entry : (left : ℕ → ℕ) → Within shape left → (s : ℕ) → s < shape .n
-      → entryOf digits (stateOf shape left) s ≡ left s
-
--- the losses left in state q are set in it; what comes before them is unchanged
-pub record PutAt (q : ℕ) (left entry exit : List ℕ) : Type 0 where
-  pub long : length exit ≡ length entry
-  pub before : (i : ℕ) → i < q * 6 → getD exit i 0 ≡ getD entry i 0
-  pub here : (s : ℕ) → s < 6 → getD exit (q * 6 + s) 0 ≡ getD left s 0
-
--- states of the heavy blocks that are few enough for their marks to be kept
-pub record Kept (heavy : Heavy) (shape : Shape) : Type 0 where
-  pub blocks : shape .n ≡ heavy .n
-  pub few : shape .states ≤ mostStates
-  pub shaped : Shaped (shape .n) (shape .size) (shape .stride) (shape .states)
 
 -- a column as it is read: the heavy blocks of a received row, and what their chunks there bring where they are read whole
 pub record Read (l : Layout) (y totals counts numbers : List ℕ) (heavy : Heavy) (shape : Shape) (readings : List ℕ) (j : ℕ) : Type 0
@@ -57,11 +31,6 @@ pub record Read (l : Layout) (y totals counts numbers : List ℕ) (heavy : Heavy
     pub few : (s : ℕ) → s < heavy .n → each (shape .size) s < lefts
     pub read : Readings l y heavy (shape .size) j readings
     pub long : entryAt (heavy .n) 0 ≤ length readings
-
--- the marks of one column, at a place, are made anew; nothing else is changed
-pub record Remade (states at : ℕ) (entry exit : List ℕ) : Type 0 where
-  pub long : length exit ≡ length entry
-  pub others : (i : ℕ) → (i < at) ⊎ (at + states ≤ i) → getD exit i 0 ≡ getD entry i 0
 
 -- a row with the chunks vs crosses column j between the states own and other: ahead from other to own, otherwise from
 -- own to other

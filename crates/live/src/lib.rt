@@ -1,12 +1,11 @@
-// Marks of loss states: which shares of the heavy blocks' losses can still be completed, as far as the chunk-strings'
-// sums tell, and in how many chunks a row that comes through them can differ from another one. Contracts cite
-// specs/Live.antt and specs/Passes.antt.
+// The marks of loss states as they are made, in passes over the columns: which shares of the heavy blocks' losses can still be completed, as
+// far as the chunk-strings' sums tell, and in how many chunks a row that comes through them can differ from another one. Contracts cite
+// specs/Passes.antt and specs/Near.antt.
 use column::Heavy;
 use message::Layout;
 use states::Shape;
 ghost use mathlib.Core.Path.{_≡_};
 ghost use mathlib.Core.Bool.{true, false};
-ghost use mathlib.Core.Logic.{_⊎_};
 ghost use mathlib.Core.List.{List};
 ghost use Prim.Native.Nat.{ℕ, _+_, _-_, _*_, _%_, _<_, _≤_};
 ghost use lib.ListN.{length, getD};
@@ -14,13 +13,14 @@ ghost use Rattle.bits.specs.Bits.{longest};
 ghost use Rattle.windows.specs.Windows.{Tables};
 ghost use Rattle.states.specs.States.{mostStates, lefts, each, Shaped, stateOf};
 ghost use Rattle.column.specs.Column.{Fit, Light, Crosses, apartIn};
-ghost use Rattle.live.specs.Live.{many, Path, apartBefore, apartFrom, Covers, Through};
-ghost use Rattle.live.specs.Passes.{Ready, Read, Within, PutAt, entryOf, Digits, Kept, Remade, Joined};
 ghost use Rattle.steps.specs.Steps.{Counts};
 ghost use Rattle.whole.specs.Whole.{modulus, readSum};
 ghost use Rattle.far.specs.Far.{blockAt};
+ghost use Rattle.marks.specs.Marks.{many, Path, apartBefore, apartFrom, Covers, Through, Kept, Remade};
+ghost use Rattle.marks.specs.Digits.{Within, entryOf, Digits};
+ghost use Rattle.live.specs.Passes.{Ready, Read, Gains, Spread, SpreadBy, Regained, Goes, OneLess, FirstMark};
+ghost use Rattle.live.specs.Passes.{Pass};
 ghost use Rattle.live.specs.Near.{CountedIn, Counted, Sized, mostIn, most, mostAfter, Floors};
-ghost use Rattle.live.specs.Passes.{Gains, Spread, SpreadBy, Regained, Goes, OneLess, FirstMark, Pass};
 
 // One count more than states: of the marked states below each, and of all.
 const MOST_COUNTS: usize = 730;
@@ -28,56 +28,12 @@ const MOST_COUNTS: usize = 730;
 // The entries of a table of readings: thirteen for each of six blocks.
 const READINGS: usize = 78;
 
-// From here on a mark says nothing of a number.
-pub const MANY: u8 = 40;
-
 // What is prepared: the shape of the loss states; whether their marks are kept; and whether no row comes through them but those near
 // another row.
 pub struct Prepared {
     pub shape: Shape,
     pub kept: bool,
     pub none: bool,
-}
-
-// Sets the losses left in state q.
-fn put_digits(digits: &mut [u8], q: usize, left: [u8; states::MOST_HEAVY])
-    requires { ⌜ q * 6 + 6 ≤ length (now digits) ⌝ }
-    ensures { λ _. ⌜ PutAt q left (now (digits .entry)) (now (digits .exit)) ⌝ }
-{
-    let mut s: usize = 0;
-    while s < states::MOST_HEAVY {
-        digits[q * states::MOST_HEAVY + s] = left[s];
-        s += 1;
-    }
-}
-
-// The table of the losses left in each state.
-fn fill_digits(shape: Shape, digits: &mut [u8])
-    requires { ⌜ (shape .n ≤ 6) × (Shaped (shape .n) (shape .size) (shape .stride) (shape .states)
-        × (shape .states * 6 ≤ length (now digits))) ⌝ }
-    ensures { λ _. ⌜ Digits shape (now (digits .exit)) ⌝ }
-{
-    let states = shape.states;
-    let mut q: usize = 0;
-    while q < states {
-        let left = states::losses_left(shape, q);
-        put_digits(digits, q, left);
-        q += 1;
-    }
-}
-
-// The losses left in state q.
-fn digits_of(digits: &[u8], q: usize) -> [u8; states::MOST_HEAVY]
-    requires { ⌜ q * 6 + 6 ≤ length (now digits) ⌝ }
-    ensures { λ r. ⌜ ((s : ℕ) → s < 6 → getD r s 0 ≡ getD (now (digits .entry)) (q * 6 + s) 0) ⌝ }
-{
-    let mut left: [u8; states::MOST_HEAVY] = [0; states::MOST_HEAVY];
-    let mut s: usize = 0;
-    while s < states::MOST_HEAVY {
-        left[s] = digits[q * states::MOST_HEAVY + s];
-        s += 1;
-    }
-    left
 }
 
 // Whether none of the first n blocks has more left in one state than in another.
@@ -93,16 +49,6 @@ fn no_more(n: usize, next: [u8; states::MOST_HEAVY], left: [u8; states::MOST_HEA
         s += 1;
     }
     true
-}
-
-// The greater of two marks.
-fn higher(a: u8, b: u8) -> u8
-    ensures { λ r. ⌜ (a ≤ r) × (b ≤ r) ⌝ }
-{
-    if a < b {
-        return b;
-    }
-    a
 }
 
 // Crossing column j from one state to another, where no block has more left afterwards; as crossing says.
@@ -180,7 +126,7 @@ fn reached_by(
     ensures { λ r. ⌜ Gains l (now (y .entry)) (now (numbers .entry)) heavy (now (known .entry)) (now
         (z .entry)) j false (entryOf (now (digits .entry)) q) (each other) there r ⌝ }
 {
-    let own = digits_of(digits, q);
+    let own = marks::digits_of(digits, q);
     carried(
         there,
         between(
@@ -274,7 +220,7 @@ fn spread_over(
 {
     let mut q = low;
     while q < high {
-        fresh[q] = higher(
+        fresh[q] = marks::higher(
             fresh[q],
             reached(
                 l,
@@ -330,7 +276,7 @@ fn spread(
     if there == 0 {
         return;
     }
-    let other = digits_of(digits, p);
+    let other = marks::digits_of(digits, p);
     if ahead {
         steps::raise(
             l,
@@ -398,7 +344,7 @@ fn put_column(states: usize, at: usize, floors: &[u8], fresh: &[u8], marks: &mut
     while p < states {
         let mark = above_floor(fresh[p], floors[p]);
         marks[at + p] = mark;
-        highest = higher(highest, mark);
+        highest = marks::higher(highest, mark);
         p += 1;
     }
     highest
@@ -466,20 +412,6 @@ fn remake(
     put_column(states, at, &floors, &fresh, marks)
 }
 
-// Gives one state of a column a mark, and the others none.
-fn only(states: usize, at: usize, q: usize, mark: u8, marks: &mut [u8])
-    requires { ⌜ (q < states) × (at + states ≤ length (now marks)) ⌝ }
-    ensures { λ _. ⌜ Remade states at (now (marks .entry)) (now (marks .exit))
-        × (getD (now (marks .exit)) (at + q) 0 ≡ mark) ⌝ }
-{
-    let mut p: usize = 0;
-    while p < states {
-        marks[at + p] = 0;
-        p += 1;
-    }
-    marks[at + q] = mark;
-}
-
 // What the second table says of all heavy blocks together from column j on, where at its start so many losses are left.
 fn most_after(
     columns: usize,
@@ -511,8 +443,8 @@ fn floor_by(room: usize, most: usize) -> u8
         return 0;
     }
     let floor = room - most;
-    if bits::wide(MANY) <= floor {
-        return MANY - 1;
+    if bits::wide(marks::MANY) <= floor {
+        return marks::MANY - 1;
     }
     floor as u8
 }
@@ -536,7 +468,7 @@ fn floor_of(
     if mark == 0 {
         return 0;
     }
-    let left = digits_of(digits, q);
+    let left = marks::digits_of(digits, q);
     floor_by(room, most_after(columns, shape, after, j, left))
 }
 
@@ -595,7 +527,7 @@ fn ahead(
 {
     let states = shape.states;
     let columns = l.l2;
-    only(states, 0, states - 1, 1, marks);
+    marks::only(states, 0, states - 1, 1, marks);
     let mut j: usize = 0;
     while j < columns {
         let at = (j + 1) * states;
@@ -648,7 +580,7 @@ fn back(
     let states = shape.states;
     let none: [u8; states::MOST_STATES] = [0; states::MOST_STATES];
     let mut j = l.l2;
-    only(states, j * states, 0, 1, marks);
+    marks::only(states, j * states, 0, 1, marks);
     while 0 < j {
         j -= 1;
         remake(
@@ -726,7 +658,7 @@ fn level_of(
     let mut level = one_if(next);
     let mut s: usize = 0;
     while s < n {
-        level = higher(
+        level = marks::higher(
             level,
             raised(levels, q, strides[s], digits[q * states::MOST_HEAVY + s]),
         );
@@ -882,7 +814,7 @@ fn tested_mark(
     ensures { λ r. ⌜ FirstMark l (now (y .entry)) (now (numbers .entry)) heavy (now (known .entry)) shape j (now
         (marks .entry)) base (entryOf (now (digits .entry)) q) q 1 r ⌝ }
 {
-    let left = digits_of(digits, q);
+    let left = marks::digits_of(digits, q);
     let part = known[j] as usize + whole::all(heavy.n, left, readings);
     if stays(l, numbers, j, part, marks[base + q]) {
         return 255;
@@ -1026,7 +958,7 @@ fn far_level(
     if level == 0 {
         return level;
     }
-    let left = digits_of(digits, q);
+    let left = marks::digits_of(digits, q);
     if most_apart(columns, shape, before, after, j, left) < room {
         return 0;
     }
@@ -1115,7 +1047,7 @@ fn complete_column(
         );
         levels[q] = level;
         marks[at + q] = mark;
-        highest = higher(highest, mark);
+        highest = marks::higher(highest, mark);
         q += 1;
     }
     highest
@@ -1152,7 +1084,7 @@ fn complete(
 {
     let states = shape.states;
     let mut j = l.l2;
-    only(states, j * states, 0, 255, marks);
+    marks::only(states, j * states, 0, 255, marks);
     while 0 < j {
         j -= 1;
         if complete_column(
@@ -1300,7 +1232,7 @@ fn make_marks(
         × (r .kept ≡ true → Through l shape (now (marks .exit)) own (apartFrom l heavy (now (z .entry)) vs))) ⌝ }
 {
     let mut digits: [u8; 4374] = [0; 4374];
-    fill_digits(shape, &mut digits);
+    marks::fill_digits(shape, &mut digits);
     if !complete(
         l,
         y,
@@ -1450,23 +1382,4 @@ pub fn prepare(
         room,
         marks,
     )
-}
-
-// The mark of a loss state in column j; where none is kept, it is 255.
-pub fn mark_at(shape: Shape, marks: &[u8], j: usize, q: usize) -> u8
-    requires { ⌜ j ≤ 255 ⌝ }
-    ensures { λ r. ⌜ (r ≡ 255) ⊎ ((j * shape .states + q < length (now (marks .entry)))
-        × (r ≡ getD (now (marks .entry)) (j * shape .states + q) 0)) ⌝ }
-{
-    if 4294967295 < shape.states {
-        return 255;
-    }
-    if marks.len() <= q {
-        return 255;
-    }
-    let at = j * shape.states;
-    if marks.len() - q <= at {
-        return 255;
-    }
-    marks[at + q]
 }

@@ -10,11 +10,12 @@ use borrow.Author.Tests.{lt-ltb}
 use lib.ListN.{length, getD}
 use Rattle.states.specs.States.{each, stateOf}
 use Rattle.column.specs.Column.{Light}
-use Rattle.live.specs.Live.{Path, markAt}
+use Rattle.marks.specs.Marks.{Path, markAt}
+use Rattle.marks.proofs.Marks.{two-columns}
+use Rattle.marks.proofs.Digits.{some-state}
+use Rattle.marks.proofs.Paths.{lets-through, own-first, own-low}
 use Rattle.live.specs.Near.{most}
-use Rattle.live.proofs.Columns.{two-columns}
-use Rattle.live.proofs.Paths.{first-next, last-let, lets-through, own-first, own-low}
-use Rattle.live.proofs.Steps.{some-state}
+use Rattle.live.proofs.Passes.{first-next, last-let}
 use Rattle.live.proofs.complete.Statement.{statement}
 use Rattle.live.proofs.complete.Tie as tie
 

@@ -5,9 +5,9 @@ use mathlib.Core.Path.{refl}
 use native.Mathlib.Omega.{arith}
 use borrow.Author.Needs.{needs}
 use Rattle.states.specs.States.{each}
+use Rattle.marks.specs.Digits.{entryOf}
+use Rattle.marks.proofs.Digits.{number-low, entry-is}
 use Rattle.live.specs.Near.{most}
-use Rattle.live.specs.Passes.{entryOf}
-use Rattle.live.proofs.Steps.{number-low, entry-is}
 use Rattle.live.proofs.First.{Completing, completing-starts, completing-next}
 use Rattle.live.proofs.complete_column.Statement.{statement}
 use Rattle.live.proofs.complete_column.Tie as tie

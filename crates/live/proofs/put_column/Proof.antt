@@ -7,8 +7,8 @@ use borrow.Author.Count.{below-more}
 use borrow.Author.Needs.{needs}
 use lib.ListN.{length, getD, set}
 use lib.Seq.{getD-set-same, getD-set-other}
-use Rattle.live.specs.Passes.{Remade}
-use Rattle.live.proofs.Columns.{remade-none, remade-set}
+use Rattle.marks.specs.Marks.{Remade}
+use Rattle.marks.proofs.Marks.{remade-none, remade-set}
 use Rattle.live.proofs.put_column.Statement.{statement}
 use Rattle.live.proofs.put_column.Tie as tie
 

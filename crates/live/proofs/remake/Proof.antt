@@ -6,7 +6,8 @@ use native.Mathlib.Omega.{arith}
 use borrow.Author.Needs.{needs}
 use lib.ListN.{length}
 use Rattle.states.specs.States.{mostStates}
-use Rattle.live.proofs.Steps.{covers-kept, number-low}
+use Rattle.marks.proofs.Marks.{covers-kept}
+use Rattle.marks.proofs.Digits.{number-low}
 use Rattle.live.proofs.Columns.{Remaking, remaking-starts, remaking-next}
 use Rattle.live.proofs.remake.Statement.{statement}
 use Rattle.live.proofs.remake.Tie as tie

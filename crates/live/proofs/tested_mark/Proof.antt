@@ -10,8 +10,9 @@ use Rattle.states.specs.States.{each}
 use Rattle.column.proofs.Rows.{string-high}
 use Rattle.whole.specs.Whole.{firsts, modulus, entryAt, readSum}
 use Rattle.whole.proofs.Whole.{firsts-same, weightOf, weights-sum, kept-legible, kept-read}
-use Rattle.live.specs.Passes.{entryOf}
-use Rattle.live.proofs.Steps.{crosses-same, entry-low}
+use Rattle.marks.specs.Digits.{entryOf}
+use Rattle.marks.proofs.Digits.{entry-low}
+use Rattle.marks.proofs.Paths.{crosses-same}
 use Rattle.live.proofs.tested_mark.Statement.{statement}
 use Rattle.live.proofs.tested_mark.Tie as tie
 

@@ -1,4 +1,4 @@
--- `live::digits_of` meets its contract. The loop's invariant: the losses of the blocks passed are those of the table.
+-- `marks::digits_of` meets its contract. The loop's invariant: the losses of the blocks passed are those of the table.
 -- The measure is what is left of the blocks. Assumes nothing.
 use Prim.Native.Nat.{ℕ, _+_, _-_, _*_, _<_, _≤_}
 use mathlib.Core.Path.{_≡_, _∙_}
@@ -7,8 +7,8 @@ use borrow.Author.Count.{below-more}
 use borrow.Author.Needs.{needs}
 use lib.ListN.{length, getD, length-set}
 use lib.Seq.{getD-set-same, getD-set-other}
-use Rattle.live.proofs.digits_of.Statement.{statement}
-use Rattle.live.proofs.digits_of.Tie as tie
+use Rattle.marks.proofs.digits_of.Statement.{statement}
+use Rattle.marks.proofs.digits_of.Tie as tie
 
 abbrev Inv-loop : tie.InvT-loop
 Inv-loop digits q left₀ s₀ left s =

@@ -1,4 +1,4 @@
--- `live::fill_digits` meets its contract. The loop's invariant: the table is right for the states passed. The measure
+-- `marks::fill_digits` meets its contract. The loop's invariant: the table is right for the states passed. The measure
 -- is what is left of the states. Assumes nothing.
 use Prim.Native.Nat.{_-_, _≤_}
 use mathlib.Core.Path.{_≡_, refl, _∙_}
@@ -7,9 +7,9 @@ use borrow.Author.Needs.{needs}
 use lib.ListN.{length}
 use Rattle.states.specs.States.{each}
 use Rattle.states.proofs.States.{state-low}
-use Rattle.live.proofs.Columns.{Tabled, table-next}
-use Rattle.live.proofs.fill_digits.Statement.{statement}
-use Rattle.live.proofs.fill_digits.Tie as tie
+use Rattle.marks.proofs.Digits.{Tabled, table-next}
+use Rattle.marks.proofs.fill_digits.Statement.{statement}
+use Rattle.marks.proofs.fill_digits.Tie as tie
 
 abbrev Inv-loop : tie.InvT-loop
 Inv-loop shape digits₀ states q₀ digits q =

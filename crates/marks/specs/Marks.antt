@@ -6,7 +6,7 @@ use mathlib.Core.Logic.{_⊎_}
 use mathlib.Core.List.{List}
 use lib.ListN.{length, getD}
 use Rattle.message.specs.declared.Layout.{Layout}
-use Rattle.states.specs.States.{stateOf}
+use Rattle.states.specs.States.{mostStates, Shaped, stateOf}
 use Rattle.states.specs.declared.Shape.{Shape}
 use Rattle.column.specs.Column.{Crosses, apartIn}
 use Rattle.column.specs.declared.Heavy.{Heavy}
@@ -44,3 +44,14 @@ apartFrom l heavy z vs j = apartBefore l heavy z vs (l .l2) - apartBefore l heav
 abbrev pub Through : Layout → Shape → (marks : List ℕ) (own : ℕ → ℕ → ℕ) (f : ℕ → ℕ) → Type 0
 Through l shape marks own f =
     (j : ℕ) → j ≤ l .l2 → markAt shape j (own j) < length marks → Covers (getD marks (markAt shape j (own j)) 0) (f j)
+
+-- states of the heavy blocks that are few enough for their marks to be kept
+pub record Kept (heavy : Heavy) (shape : Shape) : Type 0 where
+  pub blocks : shape .n ≡ heavy .n
+  pub few : shape .states ≤ mostStates
+  pub shaped : Shaped (shape .n) (shape .size) (shape .stride) (shape .states)
+
+-- the marks of one column, at a place, are made anew; nothing else is changed
+pub record Remade (states at : ℕ) (entry exit : List ℕ) : Type 0 where
+  pub long : length exit ≡ length entry
+  pub others : (i : ℕ) → (i < at) ⊎ (at + states ≤ i) → getD exit i 0 ≡ getD entry i 0

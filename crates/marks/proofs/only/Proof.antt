@@ -1,4 +1,4 @@
--- `live::only` meets its contract. The loop's invariant: nothing but the column is changed. The measure is what is left
+-- `marks::only` meets its contract. The loop's invariant: nothing but the column is changed. The measure is what is left
 -- of the states. Assumes nothing.
 use Prim.Native.Nat.{_+_, _-_, _≤_}
 use mathlib.Core.Path.{_∙_}
@@ -6,10 +6,10 @@ use native.Mathlib.Omega.{arith}
 use borrow.Author.Needs.{needs}
 use lib.ListN.{length-set}
 use lib.Seq.{getD-set-same}
-use Rattle.live.specs.Passes.{Remade}
-use Rattle.live.proofs.Columns.{remade-none, remade-set}
-use Rattle.live.proofs.only.Statement.{statement}
-use Rattle.live.proofs.only.Tie as tie
+use Rattle.marks.specs.Marks.{Remade}
+use Rattle.marks.proofs.Marks.{remade-none, remade-set}
+use Rattle.marks.proofs.only.Statement.{statement}
+use Rattle.marks.proofs.only.Tie as tie
 
 abbrev Inv-loop : tie.InvT-loop
 Inv-loop states at q mark marks₀ p₀ marks p = (p ≤ states) × Remade states at marks₀ marks

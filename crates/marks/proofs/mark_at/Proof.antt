@@ -1,11 +1,11 @@
--- `live::mark_at` meets its contract. Assumes nothing.
+-- `marks::mark_at` meets its contract. Assumes nothing.
 use mathlib.Core.Path.{refl}
 use mathlib.Core.Logic.{inl, inr}
 use native.Mathlib.Nat.{mul-le-mul}
 use native.Mathlib.Omega.{arith}
 use borrow.Author.Needs.{needs}
-use Rattle.live.proofs.mark_at.Statement.{statement}
-use Rattle.live.proofs.mark_at.Tie as tie
+use Rattle.marks.proofs.mark_at.Statement.{statement}
+use Rattle.marks.proofs.mark_at.Tie as tie
 
 returns : tie.Need-returns
 returns c = inl refl

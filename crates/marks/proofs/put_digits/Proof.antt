@@ -1,4 +1,4 @@
--- `live::put_digits` meets its contract. The loop's invariant: the losses of the blocks passed stand in the table, and
+-- `marks::put_digits` meets its contract. The loop's invariant: the losses of the blocks passed stand in the table, and
 -- what comes before the state is unchanged. The measure is what is left of the blocks. Assumes nothing.
 use Prim.Native.Nat.{ℕ, _+_, _-_, _*_, _<_, _≤_}
 use mathlib.Core.Path.{_≡_, refl, _∙_}
@@ -7,8 +7,8 @@ use borrow.Author.Count.{below-more}
 use borrow.Author.Needs.{needs}
 use lib.ListN.{length, getD, length-set}
 use lib.Seq.{getD-set-same, getD-set-other}
-use Rattle.live.proofs.put_digits.Statement.{statement}
-use Rattle.live.proofs.put_digits.Tie as tie
+use Rattle.marks.proofs.put_digits.Statement.{statement}
+use Rattle.marks.proofs.put_digits.Tie as tie
 
 abbrev Inv-loop : tie.InvT-loop
 Inv-loop digits₀ q left s₀ digits s =
