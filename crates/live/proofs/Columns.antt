@@ -1,4 +1,4 @@
--- The marks of one column, made anew state by state. Assumes nothing.
+-- Fresh marks of one column, raised state by state. Assumes nothing.
 use Prim.Native.Nat.{ℕ, _+_, _<_, _≤_}
 use mathlib.Core.Path.{_≡_, refl, _∙_}
 use mathlib.Core.Bool.{Bool, false}

@@ -10,15 +10,15 @@ use lib.ListN.{getD}
 use Rattle.message.specs.declared.Layout.{Layout}
 use Rattle.states.specs.States.{each, stateOf}
 use Rattle.states.specs.declared.Shape.{Shape}
-use Rattle.column.specs.Column.{Light, apartIn}
+use Rattle.column.specs.Column.{apartIn}
 use Rattle.column.specs.declared.Heavy.{Heavy}
 use Rattle.marks.specs.Marks.{Covers, markAt, Path, Through, Kept, Remade}
 use Rattle.marks.specs.Digits.{Within}
 use Rattle.marks.proofs.Marks.{other-column, covers-less}
-use Rattle.marks.proofs.Paths.{Lets, own-within, own-low, own-last}
-use Rattle.live.specs.Passes.{Joined, Regained, Goes, Pass}
+use Rattle.marks.proofs.Paths.{Lets, own-within, own-low}
+use Rattle.live.specs.Passes.{Joined, Regained, Pass}
 
--- and in the columns that are done they cover f
+-- the states own have marks in every column, and in the columns that are done these cover f
 pub record Passing (l : Layout) (shape : Shape) (marks : List ℕ) (own : ℕ → ℕ → ℕ) (f : ℕ → ℕ) (done : ℕ → Type 0) :
     Type 0 where
   pub lets : Lets l shape marks own
@@ -70,32 +70,6 @@ module _ (l : Layout) (y numbers : List ℕ) (heavy : Heavy) (row : List ℕ) (s
       covers-at i h o (yes e) = rw e here
       covers-at i h (inl e) (no n) = absurd (n e)
       covers-at i h (inr e) (no n) = rw (unchanged i h n) (p .covers i h e)
-
-  -- the first marks of one column more
-  pub first-next : (known : List ℕ) → Light l heavy row known → (j : ℕ) (entry marks : List ℕ) (wide : (ℕ → ℕ) → Type 0) → j < l .l2
-      → wide (own j) → Remade (shape .states) (j * shape .states) entry marks
-      → ((left : ℕ → ℕ) → Within shape left → wide left → Goes l y numbers heavy known shape j entry ((j + 1) * shape .states) left
-      (getD marks (j * shape .states + stateOf shape left) 0))
-      → ((i : ℕ) → j + 1 ≤ i → i ≤ l .l2 → 0 < getD entry (markAt shape i (own i)) 0)
-      → (i : ℕ) → j ≤ i → i ≤ l .l2 → 0 < getD marks (markAt shape i (own i)) 0
-  first-next known light j entry marks wide hj u r g t i lo hi = go (ℕ-discrete i j)
-    where
-      go : Dec (i ≡ j) → 0 < getD marks (markAt shape i (own i)) 0
-      go (yes e) =
-          rw e (g (own j) (within j (omega arith)) u row vs (own (j + 1)) light (path .crosses j hj)
-          (t (j + 1) (omega arith) (omega arith)))
-      go (no n) =
-          rw (other-column (shape .states) j (j * shape .states) entry marks refl r i (stateOf shape (own i)) n
-          (low-number i hi))
-          (t i (omega arith) hi)
-
-  -- the last state has a mark
-  pub last-let : (entry marks : List ℕ) → Remade (shape .states) (l .l2 * shape .states) entry marks → 0 < getD marks
-      (l .l2 * shape .states + 0) 0
-      → (i : ℕ) → l .l2 ≤ i → i ≤ l .l2 → 0 < getD marks (markAt shape i (own i)) 0
-  last-let entry marks r m i lo hi =
-      let e : i ≡ l .l2 = omega arith in
-      rw (e, own-last l y numbers heavy row shape vs own kept path) m
 
 -- ---- where a pass starts and ends
 module _ (l : Layout) (shape : Shape) (marks : List ℕ) (own : ℕ → ℕ → ℕ) (f : ℕ → ℕ) (done : ℕ → Type 0) where

@@ -1,5 +1,4 @@
--- Crossing a column: states with the same losses left cross it alike, and what the marks of the states say of it.
--- Assumes nothing.
+-- What the mark of a state gains by the marks of the states that a row joins it with across a column. Assumes nothing.
 use Prim.Native.Nat.{ℕ, _+_, _<_, _≤_}
 use mathlib.Core.Path.{_≡_, refl}
 use mathlib.Core.Bool.{Bool}
@@ -8,7 +7,6 @@ use mathlib.Core.List.{List}
 use native.Mathlib.Decide.{ℕ-discrete}
 use native.Mathlib.Omega.{arith}
 use lib.ListN.{getD}
-use Rattle.bits.specs.Bits.{digits}
 use Rattle.message.specs.declared.Layout.{Layout}
 use Rattle.states.specs.States.{stateOf}
 use Rattle.states.specs.declared.Shape.{Shape}

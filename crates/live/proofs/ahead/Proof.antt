@@ -21,9 +21,9 @@ use Rattle.marks.proofs.Digits.{some-state}
 use Rattle.marks.proofs.Paths.{Lets, only-lets, through-lets, own-first, own-last, own-low, own-within, before-next}
 use Rattle.marks.proofs.Paths.{before-none}
 use Rattle.live.specs.Passes.{Regained}
-use Rattle.live.specs.Near.{mostAfter}
+use Rattle.live.specs.Floors.{mostAfter}
 use Rattle.live.proofs.Passes.{Passing, passing-first, passing-next, passing-through, split-up}
-use Rattle.live.proofs.Near.{after-covers}
+use Rattle.live.proofs.Floors.{after-covers}
 use Rattle.live.proofs.ahead.Statement.{statement}
 use Rattle.live.proofs.ahead.Tie as tie
 

@@ -8,8 +8,8 @@ use native.Mathlib.Omega.{arith}
 use borrow.Author.Needs.{needs}
 use lib.ListN.{length, getD}
 use Rattle.states.specs.States.{each}
-use Rattle.live.specs.Near.{mostAfter}
-use Rattle.live.proofs.Near.{next-block}
+use Rattle.first.proofs.Near.{next-block}
+use Rattle.live.specs.Floors.{mostAfter}
 use Rattle.live.proofs.most_after.Statement.{statement}
 use Rattle.live.proofs.most_after.Tie as tie
 

@@ -1,7 +1,7 @@
--- `live::first_mark` meets its contract. Assumes nothing.
+-- `first::first_mark` meets its contract. Assumes nothing.
 use native.Mathlib.Omega.{arith}
-use Rattle.live.proofs.first_mark.Statement.{statement}
-use Rattle.live.proofs.first_mark.Tie as tie
+use Rattle.first.proofs.first_mark.Statement.{statement}
+use Rattle.first.proofs.first_mark.Tie as tie
 
 returns : tie.Need-returns
 returns c =

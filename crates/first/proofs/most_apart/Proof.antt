@@ -1,4 +1,4 @@
--- `live::most_apart` meets its contract. The loop's invariant: the blocks passed are summed up. The measure is what
+-- `first::most_apart` meets its contract. The loop's invariant: the blocks passed are summed up. The measure is what
 -- is left of the blocks. Assumes nothing.
 use Prim.Native.Nat.{ℕ, _+_, _-_, _*_, _<_, _≤_}
 use mathlib.Core.Path.{_≡_, refl, ap, _∙_}
@@ -7,10 +7,10 @@ use native.Mathlib.Omega.{arith}
 use borrow.Author.Needs.{needs}
 use lib.ListN.{getD}
 use Rattle.states.specs.States.{each}
-use Rattle.live.specs.Near.{most}
-use Rattle.live.proofs.Near.{next-block}
-use Rattle.live.proofs.most_apart.Statement.{statement}
-use Rattle.live.proofs.most_apart.Tie as tie
+use Rattle.first.specs.Near.{most}
+use Rattle.first.proofs.Near.{next-block}
+use Rattle.first.proofs.most_apart.Statement.{statement}
+use Rattle.first.proofs.most_apart.Tie as tie
 
 abbrev Inv-loop : tie.InvT-loop
 Inv-loop columns before after j left n size total₀ s₀ total s =

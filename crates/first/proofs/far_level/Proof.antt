@@ -1,13 +1,13 @@
--- `live::far_level` meets its contract. Assumes nothing.
+-- `first::far_level` meets its contract. Assumes nothing.
 use Prim.Native.Nat.{ℕ, _<_, _≤_}
 use mathlib.Core.Path.{_≡_, _∙_}
 use native.Mathlib.Omega.{arith}
 use borrow.Author.Needs.{needs}
 use lib.ListN.{getD}
 use Rattle.states.specs.States.{each}
-use Rattle.live.proofs.Near.{most-same}
-use Rattle.live.proofs.far_level.Statement.{statement}
-use Rattle.live.proofs.far_level.Tie as tie
+use Rattle.first.proofs.Near.{most-same}
+use Rattle.first.proofs.far_level.Statement.{statement}
+use Rattle.first.proofs.far_level.Tie as tie
 
 returns : tie.Need-returns
 returns c = search needs

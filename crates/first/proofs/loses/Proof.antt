@@ -1,4 +1,4 @@
--- `live::loses` meets its contract. The loop's invariant: no row loses its one bit in a block passed. The measure is
+-- `first::loses` meets its contract. The loop's invariant: no row loses its one bit in a block passed. The measure is
 -- what is left of the blocks. Assumes nothing.
 use Prim.Native.Nat.{ℕ, _+_, _-_, _<_, _≤_}
 use mathlib.Core.Path.{_≡_, sym, _∙_}
@@ -11,9 +11,9 @@ use lib.ListN.{getD}
 use Rattle.states.specs.States.{each}
 use Rattle.column.specs.Column.{Light, Crosses}
 use Rattle.whole.specs.Whole.{readSum}
-use Rattle.live.specs.Passes.{OneLess}
-use Rattle.live.proofs.loses.Statement.{statement}
-use Rattle.live.proofs.loses.Tie as tie
+use Rattle.first.specs.First.{OneLess}
+use Rattle.first.proofs.loses.Statement.{statement}
+use Rattle.first.proofs.loses.Tie as tie
 
 abbrev Inv-loop : tie.InvT-loop
 Inv-loop l y totals counts numbers heavy shape readings j left part q marks base n s₀ s =

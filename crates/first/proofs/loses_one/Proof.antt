@@ -1,4 +1,4 @@
--- `live::loses_one` meets its contract: each test that fails is one that the promise assumes. Assumes nothing.
+-- `first::loses_one` meets its contract: each test that fails is one that the promise assumes. Assumes nothing.
 use Prim.Native.Nat.{ℕ, _+_, _-_, _*_, _%_, _<_, _≤_}
 use mathlib.Core.Path.{_≡_, sym, ap, _∙_}
 use native.Mathlib.Nat.{mul-le-mul-right}
@@ -11,8 +11,8 @@ use Rattle.column.specs.Column.{valueAt}
 use Rattle.column.proofs.Rows.{crosses-readable}
 use Rattle.whole.specs.Whole.{firsts, modulus, entryAt, readSum}
 use Rattle.whole.proofs.Whole.{firsts-but, firsts-one, weightOf, weights-sum, kept-legible, kept-read}
-use Rattle.live.proofs.loses_one.Statement.{statement}
-use Rattle.live.proofs.loses_one.Tie as tie
+use Rattle.first.proofs.loses_one.Statement.{statement}
+use Rattle.first.proofs.loses_one.Tie as tie
 
 -- where the function starts, seen from where the slices are known, from the marks, and from where the reading is taken
 abbrev begin : tie.After-shared-slice-known6 → tie.Start

@@ -1,4 +1,4 @@
--- `live::tested_mark` meets its contract: where no chunk loses a bit, each brings what is read. Assumes nothing.
+-- `first::tested_mark` meets its contract: where no chunk loses a bit, each brings what is read. Assumes nothing.
 use Prim.Native.Nat.{ℕ, _+_, _*_, _%_, _<_, _≤_}
 use mathlib.Core.Path.{_≡_, refl, sym, ap, _∙_}
 use mathlib.Core.Bool.{false≢true}
@@ -13,8 +13,8 @@ use Rattle.whole.proofs.Whole.{firsts-same, weightOf, weights-sum, kept-legible
 use Rattle.marks.specs.Digits.{entryOf}
 use Rattle.marks.proofs.Digits.{entry-low}
 use Rattle.marks.proofs.Paths.{crosses-same}
-use Rattle.live.proofs.tested_mark.Statement.{statement}
-use Rattle.live.proofs.tested_mark.Tie as tie
+use Rattle.first.proofs.tested_mark.Statement.{statement}
+use Rattle.first.proofs.tested_mark.Tie as tie
 
 -- where the function starts, seen from where the slices are known, and from where the losses left are
 abbrev known-half : tie.After-shared-slice-known8 → tie.After-shared-slice-known4

@@ -5,12 +5,10 @@ use mathlib.Core.Bool.{Bool, true, false}
 use mathlib.Core.List.{List}
 use lib.ListN.{length, getD}
 use Rattle.message.specs.declared.Layout.{Layout}
-use Rattle.states.specs.States.{mostStates, lefts, each, stateOf}
+use Rattle.states.specs.States.{lefts, each}
 use Rattle.states.specs.declared.Shape.{Shape}
 use Rattle.column.specs.declared.Heavy.{Heavy}
 use Rattle.far.specs.Far.{Covered, stepAt, blockAt}
-use Rattle.marks.specs.Marks.{many}
-use Rattle.marks.specs.Digits.{Within}
 
 -- a table of what rows count in each heavy block: ahead, in the columns before each, by the losses used; otherwise from each on, by the
 -- losses left
@@ -41,16 +39,3 @@ unfoldable pub most : (columns : ℕ) (before after : List ℕ) (size left : ℕ
 most columns before after size left j zero = 0
 most columns before after size left j (suc s) =
     most columns before after size left j s + mostIn columns before after s (size s) (left s) j
-
--- what the second table says of the first n blocks from column j on, where at its start so many are left
-unfoldable pub mostAfter : (columns : ℕ) (after : List ℕ) (left : ℕ → ℕ) (j n : ℕ) → ℕ
-mostAfter columns after left j zero = 0
-mostAfter columns after left j (suc s) =
-    mostAfter columns after left j s + getD after (stepAt (blockAt columns s) (columns - j) + left s) 0
-
--- the floors of the states of column j: what a row that comes through a state counts before the column, at least, if it differs in room
--- chunks
-pub record Floors (columns : ℕ) (shape : Shape) (after : List ℕ) (room j : ℕ) (floors : List ℕ) : Type 0 where
-  pub low : (q : ℕ) → q < mostStates → getD floors q 0 < many
-  pub under : (left : ℕ → ℕ) → Within shape left → (n : ℕ) → room ≤ n + mostAfter columns after left j (shape .n)
-      → getD floors (stateOf shape left) 0 ≤ n

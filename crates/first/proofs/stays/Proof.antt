@@ -1,10 +1,10 @@
--- `live::stays` meets its contract. Assumes nothing.
+-- `first::stays` meets its contract. Assumes nothing.
 use Prim.Native.Nat.{_+_}
 use native.Mathlib.Omega.{arith}
 use borrow.Author.Needs.{needs}
 use borrow.Author.Tests.{eq-eqb}
-use Rattle.live.proofs.stays.Statement.{statement}
-use Rattle.live.proofs.stays.Tie as tie
+use Rattle.first.proofs.stays.Statement.{statement}
+use Rattle.first.proofs.stays.Tie as tie
 
 returns : tie.Need-returns
 returns c sum m = absurd (omega (arith, c .if1 .taken, m))

@@ -1,4 +1,4 @@
--- `live::complete_column` meets its contract. The loop's invariant: the states passed have their marks and levels. The
+-- `first::complete_column` meets its contract. The loop's invariant: the states passed have their marks and levels. The
 -- measure is what is left of the states. Assumes nothing.
 use Prim.Native.Nat.{_-_, _≤_}
 use mathlib.Core.Path.{refl}
@@ -7,10 +7,10 @@ use borrow.Author.Needs.{needs}
 use Rattle.states.specs.States.{each}
 use Rattle.marks.specs.Digits.{entryOf}
 use Rattle.marks.proofs.Digits.{number-low, entry-is}
-use Rattle.live.specs.Near.{most}
-use Rattle.live.proofs.First.{Completing, completing-starts, completing-next}
-use Rattle.live.proofs.complete_column.Statement.{statement}
-use Rattle.live.proofs.complete_column.Tie as tie
+use Rattle.first.specs.Near.{most}
+use Rattle.first.proofs.First.{Completing, completing-starts, completing-next}
+use Rattle.first.proofs.complete_column.Statement.{statement}
+use Rattle.first.proofs.complete_column.Tie as tie
 
 abbrev Inv-loop : tie.InvT-loop
 Inv-loop l y totals counts numbers heavy known shape digits before after room j at base marks₀ columns n states strides readings levels₀

@@ -1,6 +1,6 @@
 -- The first marks of one column, made state by state: a state is marked if a row can cross the column from it to a
 -- marked state. Assumes nothing.
-use Prim.Native.Nat.{ℕ, _+_, _-_, _<_, _≤_}
+use Prim.Native.Nat.{ℕ, _+_, _-_, _*_, _<_, _≤_}
 use mathlib.Core.Path.{_≡_, refl, _∙_}
 use mathlib.Core.Logic.{inr, ⊎-elim}
 use mathlib.Core.List.{List}
@@ -12,13 +12,14 @@ use Rattle.message.specs.declared.Layout.{Layout}
 use Rattle.states.specs.States.{mostStates, stride, each, stateOf}
 use Rattle.states.specs.declared.Shape.{Shape}
 use Rattle.states.proofs.States.{stride-pos, state-same, state-lowered}
+use Rattle.column.specs.Column.{Light}
 use Rattle.column.specs.declared.Heavy.{Heavy}
-use Rattle.marks.specs.Marks.{Kept, Remade}
+use Rattle.marks.specs.Marks.{markAt, Path, Kept, Remade}
 use Rattle.marks.specs.Digits.{Within}
-use Rattle.marks.proofs.Marks.{remade-none, remade-set}
-use Rattle.marks.proofs.Paths.{crosses-same}
-use Rattle.live.specs.Passes.{Goes, FirstMark}
-use Rattle.live.proofs.Levels.{Above, Levels, level-or, levels-next}
+use Rattle.marks.proofs.Marks.{remade-none, remade-set, other-column}
+use Rattle.marks.proofs.Paths.{crosses-same, own-within, own-low, own-last}
+use Rattle.first.specs.First.{Goes, FirstMark}
+use Rattle.first.proofs.Levels.{Above, Levels, level-or, levels-next}
 
 -- of a row, that it is not near is known of the states wide
 module _ (l : Layout) (y numbers : List ℕ) (heavy : Heavy) (known : List ℕ) (shape : Shape) (j at base : ℕ) (entry :
@@ -143,3 +144,38 @@ module _ (l : Layout) (y numbers : List ℕ) (heavy : Heavy) (known : List ℕ) 
         goes-at left w u i (no e) =
             rw (getD-set-other marks (at + q) (at + stateOf shape left) m 0 (λ d. e (omega arith))) (c .goes left w u
             (omega arith))
+
+-- ---- the first marks along the states of a row
+module _ (l : Layout) (y numbers : List ℕ) (heavy : Heavy) (row : List ℕ) (shape : Shape) (vs : List ℕ) (own : ℕ → ℕ → ℕ)
+    (kept : Kept heavy shape) (path : Path l y numbers heavy row (each (shape .size)) vs own) where
+  within : (j : ℕ) → j ≤ l .l2 → Within shape (own j)
+  within = own-within l y numbers heavy row shape vs own kept path
+
+  low-number : (j : ℕ) → j ≤ l .l2 → stateOf shape (own j) < shape .states
+  low-number = own-low l y numbers heavy row shape vs own kept path
+
+  -- the first marks of one column more
+  pub first-next : (known : List ℕ) → Light l heavy row known → (j : ℕ) (entry marks : List ℕ) (wide : (ℕ → ℕ) → Type 0) → j < l .l2
+      → wide (own j) → Remade (shape .states) (j * shape .states) entry marks
+      → ((left : ℕ → ℕ) → Within shape left → wide left → Goes l y numbers heavy known shape j entry ((j + 1) * shape .states) left
+      (getD marks (j * shape .states + stateOf shape left) 0))
+      → ((i : ℕ) → j + 1 ≤ i → i ≤ l .l2 → 0 < getD entry (markAt shape i (own i)) 0)
+      → (i : ℕ) → j ≤ i → i ≤ l .l2 → 0 < getD marks (markAt shape i (own i)) 0
+  first-next known light j entry marks wide hj u r g t i lo hi = go (ℕ-discrete i j)
+    where
+      go : Dec (i ≡ j) → 0 < getD marks (markAt shape i (own i)) 0
+      go (yes e) =
+          rw e (g (own j) (within j (omega arith)) u row vs (own (j + 1)) light (path .crosses j hj)
+          (t (j + 1) (omega arith) (omega arith)))
+      go (no n) =
+          rw (other-column (shape .states) j (j * shape .states) entry marks refl r i (stateOf shape (own i)) n
+          (low-number i hi))
+          (t i (omega arith) hi)
+
+  -- the last state has a mark
+  pub last-let : (entry marks : List ℕ) → Remade (shape .states) (l .l2 * shape .states) entry marks → 0 < getD marks
+      (l .l2 * shape .states + 0) 0
+      → (i : ℕ) → l .l2 ≤ i → i ≤ l .l2 → 0 < getD marks (markAt shape i (own i)) 0
+  last-let entry marks r m i lo hi =
+      let e : i ≡ l .l2 = omega arith in
+      rw (e, own-last l y numbers heavy row shape vs own kept path) m

@@ -1,4 +1,4 @@
--- `live::complete` meets its contract. The loop's invariant: from column j on the states along every row are marked.
+-- `first::complete` meets its contract. The loop's invariant: from column j on the states along every row are marked.
 -- The measure is j. Assumes nothing.
 use Prim.Native.Nat.{ℕ, _+_, _-_, _*_, _<_, _≤_}
 use mathlib.Core.Path.{_≡_, refl, _∙_}
@@ -14,10 +14,10 @@ use Rattle.marks.specs.Marks.{Path, markAt}
 use Rattle.marks.proofs.Marks.{two-columns}
 use Rattle.marks.proofs.Digits.{some-state}
 use Rattle.marks.proofs.Paths.{lets-through, own-first, own-low}
-use Rattle.live.specs.Near.{most}
-use Rattle.live.proofs.Passes.{first-next, last-let}
-use Rattle.live.proofs.complete.Statement.{statement}
-use Rattle.live.proofs.complete.Tie as tie
+use Rattle.first.specs.Near.{most}
+use Rattle.first.proofs.First.{first-next, last-let}
+use Rattle.first.proofs.complete.Statement.{statement}
+use Rattle.first.proofs.complete.Tie as tie
 
 abbrev Inv-loop : tie.InvT-loop
 Inv-loop l y totals counts numbers heavy known shape digits before after room marks₀ states j₀ marks j =

@@ -1,12 +1,12 @@
--- `live::level_of` meets its contract. The loop's invariant: the level is above those one loss below in the blocks
+-- `first::level_of` meets its contract. The loop's invariant: the level is above those one loss below in the blocks
 -- passed. The measure is what is left of the blocks. Assumes nothing.
 use Prim.Native.Nat.{ℕ, _+_, _-_, _*_, _<_, _≤_}
 use native.Mathlib.Omega.{arith}
 use borrow.Author.Count.{below-more}
 use borrow.Author.Needs.{needs}
 use lib.ListN.{getD}
-use Rattle.live.proofs.level_of.Statement.{statement}
-use Rattle.live.proofs.level_of.Tie as tie
+use Rattle.first.proofs.level_of.Statement.{statement}
+use Rattle.first.proofs.level_of.Tie as tie
 
 abbrev Inv-loop : tie.InvT-loop
 Inv-loop n strides digits q levels next level₀ s₀ level s =
