@@ -1,4 +1,3 @@
--- The laws of specs/, for the proofs of this crate and of the crates that stand on it.
-pub mod Near
+-- The laws of specs/, for the proofs of this crate.
 mod Levels
 mod First

@@ -1,5 +1,5 @@
-// The first pass over the marks of the loss states, from the last column to the first: from which states a row can still come to the end,
-// steps of none or one loss tested, that differs from another row in many chunks. Contracts cite specs/First.antt and specs/Near.antt.
+// The first pass over the marks of loss states, from the last column to the first: a state is marked if a row that is not near can still come
+// to the end from it, as far as steps of none or one loss tell. Contracts cite specs/First.antt.
 use column::Heavy;
 use message::Layout;
 use states::Shape;
@@ -10,14 +10,13 @@ ghost use Prim.Native.Nat.{ℕ, _+_, _-_, _*_, _%_, _<_, _≤_};
 ghost use lib.ListN.{length, getD};
 ghost use Rattle.bits.specs.Bits.{longest};
 ghost use Rattle.windows.specs.Windows.{Tables};
-ghost use Rattle.states.specs.States.{lefts, each, stateOf};
+ghost use Rattle.states.specs.States.{each, stateOf};
 ghost use Rattle.column.specs.Column.{Fit, Light, Crosses};
 ghost use Rattle.whole.specs.Whole.{modulus, readSum};
-ghost use Rattle.far.specs.Far.{blockAt};
 ghost use Rattle.marks.specs.Marks.{Path, Through, Kept, Remade};
 ghost use Rattle.marks.specs.Digits.{Within, entryOf, Digits};
+ghost use Rattle.near.specs.Near.{Sized, most};
 ghost use Rattle.first.specs.First.{Read, Goes, OneLess, FirstMark};
-ghost use Rattle.first.specs.Near.{Sized, mostIn, most};
 
 // The entries of a table of readings: thirteen for each of six blocks.
 const READINGS: usize = 78;
@@ -306,55 +305,6 @@ fn first_mark(
     )
 }
 
-// What the tables say of heavy block s, which has so many losses, where at column j so many are left: in how many of its chunks a row can
-// differ from z at most. Where the block cannot have so many left they say nothing.
-fn most_in(
-    columns: usize,
-    before: &[u8],
-    after: &[u8],
-    s: usize,
-    size: u8,
-    left: u8,
-    j: usize,
-) -> usize
-    requires { ⌜ ((columns ≤ 255) × ((s < 6) × ((j ≤ columns) × (size < lefts))))
-        × ((blockAt columns (s + 1) ≤ length (now before)) × (blockAt columns (s + 1) ≤ length (now after))) ⌝ }
-    ensures { λ r. ⌜ (left ≤ size → r ≡ mostIn columns (now (before .entry)) (now (after .entry)) s size left j)
-        × (r ≤ 510) ⌝ }
-{
-    if size < left {
-        return 510;
-    }
-    let at = s * ((columns + 1) * states::LEFTS);
-    let used = at + j * states::LEFTS + bits::wide(size - left);
-    let rest = at + (columns - j) * states::LEFTS + bits::wide(left);
-    bits::wide(before[used]) + bits::wide(after[rest])
-}
-
-// What they say of all heavy blocks together.
-fn most_apart(
-    columns: usize,
-    shape: Shape,
-    before: &[u8],
-    after: &[u8],
-    j: usize,
-    left: [u8; states::MOST_HEAVY],
-) -> usize
-    requires { ⌜ (Sized columns shape (now before) × Sized columns shape (now after)) × (j ≤ columns) ⌝ }
-    ensures { λ r. ⌜ (((s : ℕ) → s < shape .n → getD left s 0 ≤ getD (shape .size) s 0)
-        → r ≡ most columns (now (before .entry)) (now (after .entry)) (each (shape .size)) (each left) j (shape .n)) ⌝ }
-{
-    let n = shape.n;
-    let size = shape.size;
-    let mut total: usize = 0;
-    let mut s: usize = 0;
-    while s < n {
-        total += most_in(columns, before, after, s, size[s], left[s], j);
-        s += 1;
-    }
-    total
-}
-
 // The level of state q in column j, unless each row that comes through the state differs from z in fewer than room chunks.
 fn far_level(
     columns: usize,
@@ -377,7 +327,7 @@ fn far_level(
         return level;
     }
     let left = marks::digits_of(digits, q);
-    if most_apart(columns, shape, before, after, j, left) < room {
+    if near::most_apart(columns, shape, before, after, j, left) < room {
         return 0;
     }
     level

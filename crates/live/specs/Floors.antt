@@ -1,18 +1,12 @@
 -- What a row that is not near counts before a column, at least.
-use Prim.Native.Nat.{ℕ, zero, suc, _+_, _-_, _<_, _≤_}
+use Prim.Native.Nat.{ℕ, _+_, _<_, _≤_}
 use mathlib.Core.List.{List}
 use lib.ListN.{getD}
 use Rattle.states.specs.States.{mostStates, stateOf}
 use Rattle.states.specs.declared.Shape.{Shape}
-use Rattle.far.specs.Far.{stepAt, blockAt}
 use Rattle.marks.specs.Marks.{many}
 use Rattle.marks.specs.Digits.{Within}
-
--- what the second table says of the first n blocks from column j on, where at its start so many are left
-unfoldable pub mostAfter : (columns : ℕ) (after : List ℕ) (left : ℕ → ℕ) (j n : ℕ) → ℕ
-mostAfter columns after left j zero = 0
-mostAfter columns after left j (suc s) =
-    mostAfter columns after left j s + getD after (stepAt (blockAt columns s) (columns - j) + left s) 0
+use Rattle.near.specs.Near.{mostAfter}
 
 -- the floors of the states of column j: what a row that comes through a state counts before the column, at least, if it differs in room
 -- chunks

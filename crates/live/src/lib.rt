@@ -13,12 +13,11 @@ ghost use Rattle.windows.specs.Windows.{Tables};
 ghost use Rattle.states.specs.States.{mostStates, lefts, each, Shaped, stateOf};
 ghost use Rattle.column.specs.Column.{Fit, Light, Crosses, apartIn};
 ghost use Rattle.steps.specs.Steps.{Counts};
-ghost use Rattle.far.specs.Far.{blockAt};
 ghost use Rattle.marks.specs.Marks.{many, Path, apartBefore, apartFrom, Covers, Through, Kept, Remade};
 ghost use Rattle.marks.specs.Digits.{Within, entryOf, Digits};
-ghost use Rattle.first.specs.Near.{CountedIn, Counted, Sized};
+ghost use Rattle.near.specs.Near.{CountedIn, Counted, Sized, mostAfter};
 ghost use Rattle.live.specs.Passes.{Ready, Gains, Spread, SpreadBy, Regained, Pass};
-ghost use Rattle.live.specs.Floors.{mostAfter, Floors};
+ghost use Rattle.live.specs.Floors.{Floors};
 
 // One count more than states: of the marked states below each, and of all.
 const MOST_COUNTS: usize = 730;
@@ -407,29 +406,6 @@ fn remake(
     put_column(states, at, &floors, &fresh, marks)
 }
 
-// What the second table says of all heavy blocks together from column j on, where at its start so many losses are left.
-fn most_after(
-    columns: usize,
-    shape: Shape,
-    after: &[u8],
-    j: usize,
-    left: [u8; states::MOST_HEAVY],
-) -> usize
-    requires { ⌜ Sized columns shape (now after) × ((j ≤ columns) × ((s : ℕ) → s < shape .n → getD left s 0 < lefts)) ⌝ }
-    ensures { λ r. ⌜ r ≡ mostAfter columns (now (after .entry)) (each left) j (shape .n) ⌝ }
-{
-    let n = shape.n;
-    let stride = (columns + 1) * states::LEFTS;
-    let from = (columns - j) * states::LEFTS;
-    let mut most: usize = 0;
-    let mut s: usize = 0;
-    while s < n {
-        most += bits::wide(after[s * stride + from + bits::wide(left[s])]);
-        s += 1;
-    }
-    most
-}
-
 // What a row must count before a column, at least, where it can differ from z in so many chunks from there on and is not near.
 fn floor_by(room: usize, most: usize) -> u8
     ensures { λ r. ⌜ (r < many) × ((n : ℕ) → room ≤ n + most → r ≤ n) ⌝ }
@@ -464,7 +440,7 @@ fn floor_of(
         return 0;
     }
     let left = marks::digits_of(digits, q);
-    floor_by(room, most_after(columns, shape, after, j, left))
+    floor_by(room, near::most_after(columns, shape, after, j, left))
 }
 
 // The floors of the states of column j, whose marks stand at a place.
@@ -599,23 +575,6 @@ fn back(
     }
 }
 
-// Whether each heavy block has so few losses that tables of counts can be made.
-fn few_losses(shape: Shape) -> bool
-    requires { ⌜ shape .n ≤ 6 ⌝ }
-    ensures { λ r. ⌜ (r ≡ true → (s : ℕ) → s < shape .n → getD (shape .size) s 0 < lefts) ⌝ }
-{
-    let n = shape.n;
-    let size = shape.size;
-    let mut s: usize = 0;
-    while s < n {
-        if states::LEFTS <= bits::wide(size[s]) {
-            return false;
-        }
-        s += 1;
-    }
-    true
-}
-
 // The counts of marks that let every row through that is not near: from the first column on, and back if one comes to the end.
 fn count_marks(
     l: Layout,
@@ -681,32 +640,6 @@ fn count_marks(
         kept: true,
         none: false,
     }
-}
-
-// The tables of what rows count in each heavy block, where rows that differ in room chunks are asked for.
-fn count_blocks(
-    l: Layout,
-    y: &[u8],
-    numbers: &[u16],
-    heavy: Heavy,
-    z: &[u8],
-    size: [u8; states::MOST_HEAVY],
-    room: usize,
-    before: &mut [u8],
-    after: &mut [u8],
-)
-    requires { ⌜ (Fit l (now y) (now numbers) heavy × (l .l1 * l .l2 ≤ length (now z)))
-        × (((s : ℕ) → s < heavy .n → getD size s 0 < lefts)
-        × ((blockAt (l .l2) (heavy .n) ≤ length (now before)) × (blockAt (l .l2) (heavy .n) ≤ length (now after)))) ⌝ }
-    ensures { λ _. ⌜ ((length (now (before .exit)) ≡ length (now (before .entry)))
-        × (length (now (after .exit)) ≡ length (now (after .entry))))
-        × (0 < room → Counted l (now (y .entry)) heavy (now (z .entry)) size (now (before .exit)) (now (after .exit))) ⌝ }
-{
-    if room == 0 {
-        return;
-    }
-    far::fill(l, y, numbers, heavy, z, size, true, before);
-    far::fill(l, y, numbers, heavy, z, size, false, after);
 }
 
 // The marks of the loss states, in three passes, with the tables of what rows count in each heavy block.
@@ -798,7 +731,7 @@ fn fill_marks(
         → room ≤ apartFrom l heavy (now (z .entry)) vs 0 → (r .none ≡ true → ⊥)
         × (r .kept ≡ true → Through l shape (now (marks .exit)) own (apartFrom l heavy (now (z .entry)) vs))) ⌝ }
 {
-    if !few_losses(shape) {
+    if !near::few_losses(shape) {
         return Prepared {
             shape,
             kept: false,
@@ -815,7 +748,7 @@ fn fill_marks(
     let size = shape.size;
     let mut before: [u8; COUNTS] = [0; COUNTS];
     let mut after: [u8; COUNTS] = [0; COUNTS];
-    count_blocks(l, y, numbers, heavy, z, size, room, &mut before, &mut after);
+    near::count_blocks(l, y, numbers, heavy, z, size, room, &mut before, &mut after);
     make_marks(
         l,
         y,

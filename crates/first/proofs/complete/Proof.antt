@@ -14,7 +14,7 @@ use Rattle.marks.specs.Marks.{Path, markAt}
 use Rattle.marks.proofs.Marks.{two-columns}
 use Rattle.marks.proofs.Digits.{some-state}
 use Rattle.marks.proofs.Paths.{lets-through, own-first, own-low}
-use Rattle.first.specs.Near.{most}
+use Rattle.near.specs.Near.{most}
 use Rattle.first.proofs.First.{first-next, last-let}
 use Rattle.first.proofs.complete.Statement.{statement}
 use Rattle.first.proofs.complete.Tie as tie

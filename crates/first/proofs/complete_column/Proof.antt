@@ -7,7 +7,7 @@ use borrow.Author.Needs.{needs}
 use Rattle.states.specs.States.{each}
 use Rattle.marks.specs.Digits.{entryOf}
 use Rattle.marks.proofs.Digits.{number-low, entry-is}
-use Rattle.first.specs.Near.{most}
+use Rattle.near.specs.Near.{most}
 use Rattle.first.proofs.First.{Completing, completing-starts, completing-next}
 use Rattle.first.proofs.complete_column.Statement.{statement}
 use Rattle.first.proofs.complete_column.Tie as tie

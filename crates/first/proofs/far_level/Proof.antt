@@ -1,11 +1,11 @@
 -- `first::far_level` meets its contract. Assumes nothing.
-use Prim.Native.Nat.{ℕ, _<_, _≤_}
+use Prim.Native.Nat.{ℕ, _<_}
 use mathlib.Core.Path.{_≡_, _∙_}
 use native.Mathlib.Omega.{arith}
 use borrow.Author.Needs.{needs}
 use lib.ListN.{getD}
 use Rattle.states.specs.States.{each}
-use Rattle.first.proofs.Near.{most-same}
+use Rattle.near.proofs.Near.{most-same}
 use Rattle.first.proofs.far_level.Statement.{statement}
 use Rattle.first.proofs.far_level.Tie as tie
 

@@ -5,8 +5,6 @@ use native.Mathlib.Nat.{mul-le-mul-right}
 use native.Mathlib.Omega.{arith}
 use borrow.Author.Needs.{needs}
 use lib.ListN.{length, getD}
-use Rattle.message.proofs.Legal.{legal-bounds, sizes}
-use Rattle.states.specs.States.{each}
 use Rattle.column.specs.Column.{valueAt}
 use Rattle.column.proofs.Rows.{crosses-readable}
 use Rattle.whole.specs.Whole.{firsts, modulus, entryAt, readSum}

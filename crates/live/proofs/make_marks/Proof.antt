@@ -10,8 +10,8 @@ use borrow.Author.Tests.{not-true}
 use Rattle.bits.proofs.Laws.{lt-or-ge}
 use Rattle.states.specs.States.{each}
 use Rattle.marks.specs.Marks.{Path, apartFrom}
-use Rattle.first.specs.Near.{most}
-use Rattle.first.proofs.Near.{most-covers}
+use Rattle.near.specs.Near.{most}
+use Rattle.near.proofs.Near.{most-covers}
 use Rattle.live.proofs.make_marks.Statement.{statement}
 use Rattle.live.proofs.make_marks.Tie as tie
 

@@ -1,7 +1,7 @@
 -- `live::remake` meets its contract. The loop's invariant: the fresh marks gain by the other states passed. The measure
 -- is what is left of the states. Assumes nothing.
 use Prim.Native.Nat.{_-_, _≤_}
-use mathlib.Core.Path.{_≡_, refl, sym, _∙_}
+use mathlib.Core.Path.{_≡_, sym, _∙_}
 use native.Mathlib.Omega.{arith}
 use borrow.Author.Needs.{needs}
 use lib.ListN.{length}

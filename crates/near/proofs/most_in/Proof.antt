@@ -1,11 +1,11 @@
--- `first::most_in` meets its contract. Assumes nothing.
-use Prim.Native.Nat.{ℕ, _+_, _-_, _*_, _<_, _≤_}
+-- `near::most_in` meets its contract. Assumes nothing.
+use Prim.Native.Nat.{ℕ, _+_, _-_, _*_, _≤_}
 use mathlib.Core.Path.{_≡_, ap, _∙_}
 use native.Mathlib.Omega.{arith}
 use borrow.Author.Needs.{needs}
 use lib.ListN.{getD}
-use Rattle.first.proofs.most_in.Statement.{statement}
-use Rattle.first.proofs.most_in.Tie as tie
+use Rattle.near.proofs.most_in.Statement.{statement}
+use Rattle.near.proofs.most_in.Tie as tie
 
 -- where the function starts, seen from where the places in both tables are known
 abbrev start : tie.After-wide2 → tie.Start

@@ -1,4 +1,4 @@
--- `live::most_after` meets its contract. The loop's invariant: the blocks passed are summed up. The measure is what is
+-- `near::most_after` meets its contract. The loop's invariant: the blocks passed are summed up. The measure is what is
 -- left of the blocks. Assumes nothing.
 use Prim.Native.Nat.{ℕ, _+_, _-_, _*_, _<_, _≤_}
 use mathlib.Core.Path.{_≡_, refl, ap, _∙_}
@@ -8,10 +8,10 @@ use native.Mathlib.Omega.{arith}
 use borrow.Author.Needs.{needs}
 use lib.ListN.{length, getD}
 use Rattle.states.specs.States.{each}
-use Rattle.first.proofs.Near.{next-block}
-use Rattle.live.specs.Floors.{mostAfter}
-use Rattle.live.proofs.most_after.Statement.{statement}
-use Rattle.live.proofs.most_after.Tie as tie
+use Rattle.near.specs.Near.{mostAfter}
+use Rattle.near.proofs.Near.{next-block}
+use Rattle.near.proofs.most_after.Statement.{statement}
+use Rattle.near.proofs.most_after.Tie as tie
 
 abbrev Inv-loop : tie.InvT-loop
 Inv-loop columns after j left n stride from most₀ s₀ most s =

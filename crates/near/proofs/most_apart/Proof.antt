@@ -1,16 +1,16 @@
--- `first::most_apart` meets its contract. The loop's invariant: the blocks passed are summed up. The measure is what
+-- `near::most_apart` meets its contract. The loop's invariant: the blocks passed are summed up. The measure is what
 -- is left of the blocks. Assumes nothing.
-use Prim.Native.Nat.{ℕ, _+_, _-_, _*_, _<_, _≤_}
+use Prim.Native.Nat.{ℕ, _-_, _*_, _<_, _≤_}
 use mathlib.Core.Path.{_≡_, refl, ap, _∙_}
 use native.Mathlib.Numerals.{add-one}
 use native.Mathlib.Omega.{arith}
 use borrow.Author.Needs.{needs}
 use lib.ListN.{getD}
 use Rattle.states.specs.States.{each}
-use Rattle.first.specs.Near.{most}
-use Rattle.first.proofs.Near.{next-block}
-use Rattle.first.proofs.most_apart.Statement.{statement}
-use Rattle.first.proofs.most_apart.Tie as tie
+use Rattle.near.specs.Near.{most}
+use Rattle.near.proofs.Near.{next-block}
+use Rattle.near.proofs.most_apart.Statement.{statement}
+use Rattle.near.proofs.most_apart.Tie as tie
 
 abbrev Inv-loop : tie.InvT-loop
 Inv-loop columns before after j left n size total₀ s₀ total s =

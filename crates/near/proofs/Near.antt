@@ -17,10 +17,10 @@ use Rattle.states.specs.declared.Shape.{Shape}
 use Rattle.column.specs.Column.{chunkAt, Crosses, apartIn}
 use Rattle.column.specs.declared.Heavy.{Heavy}
 use Rattle.column.proofs.Rows.{no-loss}
-use Rattle.far.specs.Far.{Reads, readApart, Walk, blockAt}
+use Rattle.far.specs.Far.{Reads, readApart, Walk, stepAt, blockAt}
 use Rattle.marks.specs.Marks.{Path, apartBefore, apartFrom, Kept}
 use Rattle.marks.proofs.Paths.{own-within}
-use Rattle.first.specs.Near.{Counted, mostIn, most}
+use Rattle.near.specs.Near.{CountedIn, Counted, mostIn, most, mostAfter}
 
 -- one at most
 one-most : (b : Bool) → cond b 0 1 ≤ 1
@@ -29,7 +29,7 @@ one-most false = omega arith
 
 module _ (l : Layout) (heavy : Heavy) (z vs : List ℕ) where
   -- in how many of the first columns the chunk of block s is another than in z
-  unfoldable pub inBlock : (s k : ℕ) → ℕ
+  inBlock : (s k : ℕ) → ℕ
   inBlock s zero = 0
   inBlock s (suc j) = inBlock s j + unlike vs z (chunkAt l heavy j s)
 
@@ -38,7 +38,7 @@ module _ (l : Layout) (heavy : Heavy) (z vs : List ℕ) where
   in-next s j = rw (add-one j) refl
 
   -- the first n blocks together
-  unfoldable pub inBlocks : (k n : ℕ) → ℕ
+  inBlocks : (k n : ℕ) → ℕ
   inBlocks k zero = 0
   inBlocks k (suc s) = inBlocks k s + inBlock s k
 
@@ -53,7 +53,7 @@ module _ (l : Layout) (heavy : Heavy) (z vs : List ℕ) where
   in-column j (suc n) = omega (arith, in-column j n)
 
   -- counted by blocks or by columns, it is the same
-  pub by-blocks : (k : ℕ) → apartBefore l heavy z vs k ≡ inBlocks k (heavy .n)
+  by-blocks : (k : ℕ) → apartBefore l heavy z vs k ≡ inBlocks k (heavy .n)
   unfolding apartBefore
   by-blocks zero = sym (in-none (heavy .n))
   by-blocks (suc k) = omega (arith, by-blocks k, in-column k (heavy .n))
@@ -104,7 +104,7 @@ module _ (l : Layout) (y numbers : List ℕ) (heavy : Heavy) (row : List ℕ) (s
       back t k = omega (arith, within s h t (omega arith))
 
   -- back, counting the losses left
-  pub walks-back : (s : ℕ) → s < heavy .n
+  walks-back : (s : ℕ) → s < heavy .n
       → Walk l y heavy z s (size s) false (λ t. own (l .l2 - t) s)
       (λ t. inBlock l heavy z vs s (l .l2) - inBlock l heavy z vs s (l .l2 - t))
   walks-back s h =
@@ -158,6 +158,22 @@ module _ (l : Layout) (y numbers : List ℕ) (heavy : Heavy) (row : List ℕ) (s
         let e : shape .n ≡ heavy .n = kept .blocks in
         rw e (omega (arith, most-blocks (heavy .n) (omega arith), by-blocks l heavy z vs (l .l2)))
 
+  -- and of what it counts from a column on
+  module _ (after : List ℕ) (counted : CountedIn l y heavy z (shape .size) false after) (j : ℕ) (inside : j ≤ l .l2) where
+    after-blocks : (n : ℕ) → n ≤ heavy .n
+        → inBlocks l heavy z vs (l .l2) n ≤ inBlocks l heavy z vs j n + mostAfter (l .l2) after (own j) j n
+    unfolding inBlocks mostAfter
+    after-blocks zero h = omega arith
+    after-blocks (suc n) h =
+        let e : l .l2 - (l .l2 - j) ≡ j = omega arith in
+        let b = rw e at (counted n (omega arith) _ _ (walks-back n (omega arith)) (l .l2 - j) (omega arith)) in
+        omega (arith, after-blocks n (omega arith), b)
+
+    pub after-covers : apartFrom l heavy z vs j ≤ mostAfter (l .l2) after (own j) j (shape .n)
+    after-covers =
+        let e : shape .n ≡ heavy .n = kept .blocks in
+        rw e (omega (arith, after-blocks (heavy .n) (omega arith), by-blocks l heavy z vs (l .l2), by-blocks l heavy z vs j))
+
 -- the table of a block ends before that of the last
 pub next-block : (columns s n : ℕ) → s < n → blockAt columns (s + 1) ≤ blockAt columns n
 next-block columns s n h = mul-le-mul-right {m = s + 1} {n = n} ((columns + 1) * 13) (omega arith)
@@ -172,3 +188,11 @@ module _ (columns : ℕ) (before after : List ℕ) (size : ℕ → ℕ) where
   most-same a b j (suc n) h =
       let e = ap (λ (v : ℕ). mostIn columns before after n (size n) v j) (h n (omega arith)) in
       omega (arith, most-same a b j n (λ s k. h s (omega arith)), e)
+
+pub after-same : (columns : ℕ) (after : List ℕ) (a b : ℕ → ℕ) (j n : ℕ) → ((s : ℕ) → s < n → a s ≡ b s)
+    → mostAfter columns after a j n ≡ mostAfter columns after b j n
+unfolding mostAfter
+after-same columns after a b j zero h = refl
+after-same columns after a b j (suc n) h =
+    let e = ap (λ (v : ℕ). getD after (stepAt (blockAt columns n) (columns - j) + v) 0) (h n (omega arith)) in
+    omega (arith, after-same columns after a b j n (λ s k. h s (omega arith)), e)

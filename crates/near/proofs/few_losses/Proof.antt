@@ -1,4 +1,4 @@
--- `live::few_losses` meets its contract. The loop's invariant: each block passed has few losses. The measure is what
+-- `near::few_losses` meets its contract. The loop's invariant: each block passed has few losses. The measure is what
 -- is left of the blocks. Assumes nothing.
 use Prim.Native.Nat.{ℕ, _-_, _<_, _≤_}
 use mathlib.Core.Bool.{false≢true}
@@ -7,8 +7,8 @@ use borrow.Author.Count.{below-more}
 use borrow.Author.Needs.{needs}
 use lib.ListN.{getD}
 use Rattle.states.specs.States.{lefts}
-use Rattle.live.proofs.few_losses.Statement.{statement}
-use Rattle.live.proofs.few_losses.Tie as tie
+use Rattle.near.proofs.few_losses.Statement.{statement}
+use Rattle.near.proofs.few_losses.Tie as tie
 
 abbrev Inv-loop : tie.InvT-loop
 Inv-loop n size s₀ s = (s ≤ n) × ((k : ℕ) → k < s → getD size k 0 < lefts)

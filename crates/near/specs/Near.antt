@@ -39,3 +39,9 @@ unfoldable pub most : (columns : ℕ) (before after : List ℕ) (size left : ℕ
 most columns before after size left j zero = 0
 most columns before after size left j (suc s) =
     most columns before after size left j s + mostIn columns before after s (size s) (left s) j
+
+-- what the second table says of the first n blocks from column j on, where at its start so many are left
+unfoldable pub mostAfter : (columns : ℕ) (after : List ℕ) (left : ℕ → ℕ) (j n : ℕ) → ℕ
+mostAfter columns after left j zero = 0
+mostAfter columns after left j (suc s) =
+    mostAfter columns after left j s + getD after (stepAt (blockAt columns s) (columns - j) + left s) 0
