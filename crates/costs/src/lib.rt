@@ -10,7 +10,7 @@ ghost use lib.ListN.{length, getD};
 ghost use Rattle.windows.specs.Windows.{Tables};
 ghost use Rattle.states.specs.States.{each};
 ghost use Rattle.column.specs.Column.{Fit, Light};
-ghost use Rattle.live.specs.Live.{Path};
+ghost use Rattle.marks.specs.Marks.{Path};
 ghost use Rattle.whole.specs.Whole.{modulus, firsts, Source, Legible, brings, legibleIn, bringsIn};
 ghost use Rattle.costs.specs.Costs.{In, Grows, Moved};
 

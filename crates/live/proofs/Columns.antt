@@ -1,11 +1,9 @@
--- The marks of one column, made anew state by state. Assumes nothing.
-use Prim.Native.Nat.{ℕ, _+_, _*_, _<_, _≤_}
-use mathlib.Core.Path.{_≡_, refl, sym, _∙_}
+-- Fresh marks of one column, raised state by state. Assumes nothing.
+use Prim.Native.Nat.{ℕ, _+_, _<_, _≤_}
+use mathlib.Core.Path.{_≡_, refl, _∙_}
 use mathlib.Core.Bool.{Bool, false}
-use mathlib.Core.Logic.{_⊎_, inl, inr, ⊎-elim}
 use mathlib.Core.List.{List}
-use native.Mathlib.Decide.{ℕ-discrete, decLt}
-use native.Mathlib.Nat.{mul-le-mul-right}
+use native.Mathlib.Decide.{ℕ-discrete}
 use native.Mathlib.Omega.{arith}
 use lib.ListN.{length, getD, set, length-set}
 use lib.Seq.{getD-set-same, getD-set-other}
@@ -13,38 +11,10 @@ use Rattle.message.specs.declared.Layout.{Layout}
 use Rattle.states.specs.States.{stateOf}
 use Rattle.states.specs.declared.Shape.{Shape}
 use Rattle.column.specs.declared.Heavy.{Heavy}
-use Rattle.live.specs.Passes.{Within, entryOf, PutAt, Digits, Kept}
-use Rattle.live.specs.Passes.{Remade, Gains, Spread, SpreadBy, Gained}
+use Rattle.marks.specs.Marks.{Kept}
+use Rattle.marks.specs.Digits.{Within, entryOf, Digits}
+use Rattle.live.specs.Passes.{Gains, Spread, SpreadBy, Gained}
 use Rattle.live.proofs.Steps.{gained-next}
-
-module _ (states at : ℕ) (entry : List ℕ) where
-  pub remade-none : Remade states at entry entry
-  remade-none = record { long = refl; others = λ i h. refl }
-
-  -- one mark of the column more
-  pub remade-set : (marks : List ℕ) → Remade states at entry marks → (p v : ℕ) → p < states
-      → Remade states at entry (set marks (at + p) v)
-  remade-set marks r p v h =
-      record {
-        long = length-set marks (at + p) v ∙ r .long;
-        others = λ i o. getD-set-other marks (at + p) i v 0 (λ e. ⊎-elim (λ u. omega arith) (λ u. omega arith) o) ∙ r
-            .others i o;
-      }
-
--- the marks of another column are unchanged
-pub other-column : (states c at : ℕ) (entry marks : List ℕ) → at ≡ c * states → Remade states at entry marks
-    → (i p : ℕ) → (i ≡ c → ⊥) → p < states → getD marks (i * states + p) 0 ≡ getD entry (i * states + p) 0
-other-column states c at entry marks e r i p n h = r .others (i * states + p) (go (decLt i c))
-  where
-    go : Dec (i < c) → (i * states + p < at) ⊎ (at + states ≤ i * states + p)
-    go (yes d) = inl (omega (arith, mul-le-mul-right {m = i + 1} {n = c} states (omega arith)))
-    go (no d) = inr (omega (arith, mul-le-mul-right {m = c + 1} {n = i} states (omega arith)))
-
--- two columns, one after the other, stand in marks that have room for all
-pub two-columns : (states j columns : ℕ) (marks : List ℕ) → j < columns → (columns + 1) * states ≤ length marks
-    → (j + 1) * states + states ≤ length marks
-two-columns states j columns marks h room =
-    omega (arith, mul-le-mul-right {m = j + 2} {n = columns + 1} states (omega arith))
 
 -- ---- fresh marks of a column
 module _ (l : Layout) (y numbers : List ℕ) (heavy : Heavy) (known z digits : List ℕ) (j : ℕ) (other : ℕ → ℕ) (there : ℕ)
@@ -92,21 +62,3 @@ module _ (l : Layout) (y numbers : List ℕ) (heavy : Heavy) (known z : List ℕ
         gained = λ own w m.
             gained-next l y numbers heavy known z j ahead kept d marks base p at fresh more marks s own w m (r .gained own w m);
       }
-
--- ---- the table of the losses left, for the states below q
-pub record Tabled (shape : Shape) (q : ℕ) (table : List ℕ) : Type 0 where
-  pub entry : (left : ℕ → ℕ) → Within shape left → stateOf shape left < q → (s : ℕ) → s < shape .n
-      → getD table (stateOf shape left * 6 + s) 0 ≡ left s
-
-pub table-next : (shape : Shape) → shape .n ≤ 6 → (entry exit : List ℕ) (q : ℕ) (found : List ℕ) → Tabled shape q entry
-    → PutAt q found entry exit
-    → ((left : ℕ → ℕ) → Within shape left → q ≡ stateOf shape left → (s : ℕ) → s < shape .n → getD found s 0 ≡ left s)
-    → Tabled shape (q + 1) exit
-table-next shape few entry exit q found before put digits =
-    record { entry = λ left w h s k. go left w h s k (ℕ-discrete (stateOf shape left) q) }
-  where
-    go : (left : ℕ → ℕ) → Within shape left → stateOf shape left < q + 1 → (s : ℕ) → s < shape .n
-        → Dec (stateOf shape left ≡ q) → getD exit (stateOf shape left * 6 + s) 0 ≡ left s
-    go left w h s k (yes e) = rw e (put .here s (omega arith) ∙ digits left w (sym e) s k)
-    go left w h s k (no e) = put .before (stateOf shape left * 6 + s) (omega arith) ∙ before .entry left w (omega
-        arith) s k

@@ -9,10 +9,11 @@ use lib.Seq.{getD-set-same, getD-set-other}
 use Rattle.states.specs.States.{mostStates, stride, each}
 use Rattle.states.specs.declared.Shape.{Shape}
 use Rattle.states.proofs.States.{state-low}
-use Rattle.live.specs.Live.{many}
-use Rattle.live.specs.Near.{mostAfter, Floors}
-use Rattle.live.specs.Passes.{Digits, entryOf}
-use Rattle.live.proofs.Near.{after-same}
+use Rattle.marks.specs.Marks.{many}
+use Rattle.marks.specs.Digits.{Digits, entryOf}
+use Rattle.near.specs.Near.{mostAfter}
+use Rattle.near.proofs.Near.{after-same}
+use Rattle.live.specs.Floors.{Floors}
 
 -- no floors are low
 pub no-floors : (q : ℕ) → q < mostStates → getD (replicate mostStates 0) q 0 < many

@@ -1,8 +1,5 @@
--- The laws of specs/, for the proofs of this crate and of the crates that stand on it.
-pub mod Steps
+-- The laws of specs/, for the proofs of this crate.
+mod Steps
 mod Columns
-mod Levels
-mod First
-pub mod Paths
-mod Near
+mod Passes
 mod Floors

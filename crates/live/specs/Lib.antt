@@ -1,3 +1,2 @@
-pub mod Live
 pub mod Passes
-pub mod Near
+pub mod Floors

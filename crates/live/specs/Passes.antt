@@ -1,18 +1,17 @@
--- How the marks of loss states are made, column by column.
-use Prim.Native.Nat.{ℕ, _+_, _-_, _*_, _<_, _≤_}
+-- How the marks that count chunks are made, column by column.
+use Prim.Native.Nat.{ℕ, _+_, _*_, _<_, _≤_}
 use mathlib.Core.Path.{_≡_}
 use mathlib.Core.Bool.{Bool, true, false}
-use mathlib.Core.Logic.{_⊎_}
 use mathlib.Core.List.{List}
 use lib.ListN.{length, getD}
-use Rattle.windows.specs.Windows.{Tables}
 use Rattle.message.specs.declared.Layout.{Layout}
-use Rattle.states.specs.States.{mostStates, lefts, each, Shaped, stateOf}
+use Rattle.windows.specs.Windows.{Tables}
+use Rattle.states.specs.States.{each, stateOf}
 use Rattle.states.specs.declared.Shape.{Shape}
 use Rattle.column.specs.Column.{Fit, Light, Crosses, apartIn}
 use Rattle.column.specs.declared.Heavy.{Heavy}
-use Rattle.whole.specs.Whole.{entryAt, Readings}
-use Rattle.live.specs.Live.{Covers, Path, apartFrom, Through}
+use Rattle.marks.specs.Marks.{Covers, Path, apartFrom, Through}
+use Rattle.marks.specs.Digits.{Within, entryOf}
 
 -- all that is read to make the marks
 pub record Ready (l : Layout) (y totals counts numbers : List ℕ) (heavy : Heavy) (known z : List ℕ) : Type 0 where
@@ -20,48 +19,6 @@ pub record Ready (l : Layout) (y totals counts numbers : List ℕ) (heavy : Heav
   pub tables : Tables y 0 totals counts
   pub long : l .l2 ≤ length known
   pub all : l .l1 * l .l2 ≤ length z
-
--- each block of a state has at most its size left
-abbrev pub Within : Shape → (left : ℕ → ℕ) → Type 0
-Within shape left = (s : ℕ) → s < shape .n → left s ≤ each (shape .size) s
-
--- the losses left in state q in a table that has six entries a state
-abbrev pub entryOf : (digits : List ℕ) (q : ℕ) → ℕ → ℕ
-entryOf digits q s = getD digits (q * 6 + s) 0
-
--- a table of the losses left in each state
-pub record Digits (shape : Shape) (digits : List ℕ) : Type 0 where
-  pub long : shape .states * 6 ≤ length digits
-  pub entry : (left : ℕ → ℕ) → Within shape left → (s : ℕ) → s < shape .n
-      → entryOf digits (stateOf shape left) s ≡ left s
-
--- the losses left in state q are set in it; what comes before them is unchanged
-pub record PutAt (q : ℕ) (left entry exit : List ℕ) : Type 0 where
-  pub long : length exit ≡ length entry
-  pub before : (i : ℕ) → i < q * 6 → getD exit i 0 ≡ getD entry i 0
-  pub here : (s : ℕ) → s < 6 → getD exit (q * 6 + s) 0 ≡ getD left s 0
-
--- states of the heavy blocks that are few enough for their marks to be kept
-pub record Kept (heavy : Heavy) (shape : Shape) : Type 0 where
-  pub blocks : shape .n ≡ heavy .n
-  pub few : shape .states ≤ mostStates
-  pub shaped : Shaped (shape .n) (shape .size) (shape .stride) (shape .states)
-
--- a column as it is read: the heavy blocks of a received row, and what their chunks there bring where they are read whole
-pub record Read (l : Layout) (y totals counts numbers : List ℕ) (heavy : Heavy) (shape : Shape) (readings : List ℕ) (j : ℕ) : Type 0
-  where
-    pub fit : Fit l y numbers heavy
-    pub tables : Tables y 0 totals counts
-    pub column : j < l .l2
-    pub kept : Kept heavy shape
-    pub few : (s : ℕ) → s < heavy .n → each (shape .size) s < lefts
-    pub read : Readings l y heavy (shape .size) j readings
-    pub long : entryAt (heavy .n) 0 ≤ length readings
-
--- the marks of one column, at a place, are made anew; nothing else is changed
-pub record Remade (states at : ℕ) (entry exit : List ℕ) : Type 0 where
-  pub long : length exit ≡ length entry
-  pub others : (i : ℕ) → (i < at) ⊎ (at + states ≤ i) → getD exit i 0 ≡ getD entry i 0
 
 -- a row with the chunks vs crosses column j between the states own and other: ahead from other to own, otherwise from
 -- own to other
@@ -116,30 +73,6 @@ Regained l y numbers heavy known z shape j ahead marks base floor own mark =
     → Covers (getD marks (base + stateOf shape other) 0) m → floor ≤ m + apartIn l heavy z vs j (heavy .n)
     → Covers mark (m + apartIn l heavy z vs j (heavy .n))
 
--- the state left is marked if a row crosses column j from it to a marked state
-abbrev pub Goes : Layout → (y numbers : List ℕ) → Heavy → (known : List ℕ) → Shape → (j : ℕ) (marks : List ℕ) (base : ℕ)
-    (left : ℕ → ℕ) (mark : ℕ) → Type 0
-Goes l y numbers heavy known shape j marks base left mark =
-    (row vs : List ℕ) (next : ℕ → ℕ) → Light l heavy row known → Crosses l y numbers heavy row j left next vs
-    → 0 < getD marks (base + stateOf shape next) 0 → 0 < mark
-
--- a state with one loss less in block s, of n blocks
-abbrev pub OneLess : (n : ℕ) (left next : ℕ → ℕ) (s : ℕ) → Type 0
-OneLess n left next s = (next s + 1 ≡ left s) × ((t : ℕ) → t < n → (t ≡ s → ⊥) → next t ≡ left t)
-
--- the mark of the state left, number q: it is marked if its level is high, and, unless that is zero, if a row crosses
--- column j from it with no loss or with one to a marked state
-pub record FirstMark (l : Layout) (y numbers : List ℕ) (heavy : Heavy) (known : List ℕ) (shape : Shape) (j : ℕ) (marks
-    : List ℕ)
-    (base : ℕ) (left : ℕ → ℕ) (q level mark : ℕ) : Type 0 where
-  pub high : 2 < level → 0 < mark
-  pub same : (row vs : List ℕ) (next : ℕ → ℕ) → Light l heavy row known → Crosses l y numbers heavy row j left next vs
-      → ((s : ℕ) → s < heavy .n → next s ≡ left s) → 0 < level → 0 < getD marks (base + q) 0 → 0 < mark
-  pub one : (row vs : List ℕ) (next : ℕ → ℕ) (s : ℕ) → s < heavy .n → Light l heavy row known
-      → Crosses l y numbers heavy row j left next vs → OneLess (heavy .n) left next s → getD (shape .stride) s 0 ≤ q
-      → 0 < level → 0 < getD marks (base + (q - getD (shape .stride) s 0)) 0 → 0 < mark
-
--- a pass over the marks: every row that they let through at entry and that differs from z in room chunks of the heavy blocks they let
 -- through at exit, and cover the number f of it
 pub record Pass (l : Layout) (y numbers : List ℕ) (heavy : Heavy) (known z : List ℕ) (shape : Shape) (room : ℕ) (f : List ℕ → ℕ → ℕ)
     (entry exit : List ℕ) : Type 0 where

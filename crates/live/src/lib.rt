@@ -1,35 +1,26 @@
-// Marks of loss states: which shares of the heavy blocks' losses can still be completed, as far as the chunk-strings'
-// sums tell, and in how many chunks a row that comes through them can differ from another one. Contracts cite
-// specs/Live.antt and specs/Passes.antt.
+// The marks of the loss states of the heavy blocks, made in three passes: after the first one, two that count in how many chunks a row that
+// comes through a state can differ from another one, before its column and from it on. Contracts cite specs/Passes.antt and
+// specs/Floors.antt.
 use column::Heavy;
 use message::Layout;
 use states::Shape;
 ghost use mathlib.Core.Path.{_≡_};
 ghost use mathlib.Core.Bool.{true, false};
-ghost use mathlib.Core.Logic.{_⊎_};
 ghost use mathlib.Core.List.{List};
-ghost use Prim.Native.Nat.{ℕ, _+_, _-_, _*_, _%_, _<_, _≤_};
+ghost use Prim.Native.Nat.{ℕ, _+_, _*_, _<_, _≤_};
 ghost use lib.ListN.{length, getD};
-ghost use Rattle.bits.specs.Bits.{longest};
 ghost use Rattle.windows.specs.Windows.{Tables};
 ghost use Rattle.states.specs.States.{mostStates, lefts, each, Shaped, stateOf};
 ghost use Rattle.column.specs.Column.{Fit, Light, Crosses, apartIn};
-ghost use Rattle.live.specs.Live.{many, Path, apartBefore, apartFrom, Covers, Through};
-ghost use Rattle.live.specs.Passes.{Ready, Read, Within, PutAt, entryOf, Digits, Kept, Remade, Joined};
 ghost use Rattle.steps.specs.Steps.{Counts};
-ghost use Rattle.whole.specs.Whole.{modulus, readSum};
-ghost use Rattle.far.specs.Far.{blockAt};
-ghost use Rattle.live.specs.Near.{CountedIn, Counted, Sized, mostIn, most, mostAfter, Floors};
-ghost use Rattle.live.specs.Passes.{Gains, Spread, SpreadBy, Regained, Goes, OneLess, FirstMark, Pass};
+ghost use Rattle.marks.specs.Marks.{many, Path, apartBefore, apartFrom, Covers, Through, Kept, Remade};
+ghost use Rattle.marks.specs.Digits.{Within, entryOf, Digits};
+ghost use Rattle.near.specs.Near.{CountedIn, Counted, Sized, mostAfter};
+ghost use Rattle.live.specs.Passes.{Ready, Gains, Spread, SpreadBy, Regained, Pass};
+ghost use Rattle.live.specs.Floors.{Floors};
 
 // One count more than states: of the marked states below each, and of all.
 const MOST_COUNTS: usize = 730;
-
-// The entries of a table of readings: thirteen for each of six blocks.
-const READINGS: usize = 78;
-
-// From here on a mark says nothing of a number.
-pub const MANY: u8 = 40;
 
 // What is prepared: the shape of the loss states; whether their marks are kept; and whether no row comes through them but those near
 // another row.
@@ -37,47 +28,6 @@ pub struct Prepared {
     pub shape: Shape,
     pub kept: bool,
     pub none: bool,
-}
-
-// Sets the losses left in state q.
-fn put_digits(digits: &mut [u8], q: usize, left: [u8; states::MOST_HEAVY])
-    requires { ⌜ q * 6 + 6 ≤ length (now digits) ⌝ }
-    ensures { λ _. ⌜ PutAt q left (now (digits .entry)) (now (digits .exit)) ⌝ }
-{
-    let mut s: usize = 0;
-    while s < states::MOST_HEAVY {
-        digits[q * states::MOST_HEAVY + s] = left[s];
-        s += 1;
-    }
-}
-
-// The table of the losses left in each state.
-fn fill_digits(shape: Shape, digits: &mut [u8])
-    requires { ⌜ (shape .n ≤ 6) × (Shaped (shape .n) (shape .size) (shape .stride) (shape .states)
-        × (shape .states * 6 ≤ length (now digits))) ⌝ }
-    ensures { λ _. ⌜ Digits shape (now (digits .exit)) ⌝ }
-{
-    let states = shape.states;
-    let mut q: usize = 0;
-    while q < states {
-        let left = states::losses_left(shape, q);
-        put_digits(digits, q, left);
-        q += 1;
-    }
-}
-
-// The losses left in state q.
-fn digits_of(digits: &[u8], q: usize) -> [u8; states::MOST_HEAVY]
-    requires { ⌜ q * 6 + 6 ≤ length (now digits) ⌝ }
-    ensures { λ r. ⌜ ((s : ℕ) → s < 6 → getD r s 0 ≡ getD (now (digits .entry)) (q * 6 + s) 0) ⌝ }
-{
-    let mut left: [u8; states::MOST_HEAVY] = [0; states::MOST_HEAVY];
-    let mut s: usize = 0;
-    while s < states::MOST_HEAVY {
-        left[s] = digits[q * states::MOST_HEAVY + s];
-        s += 1;
-    }
-    left
 }
 
 // Whether none of the first n blocks has more left in one state than in another.
@@ -93,16 +43,6 @@ fn no_more(n: usize, next: [u8; states::MOST_HEAVY], left: [u8; states::MOST_HEA
         s += 1;
     }
     true
-}
-
-// The greater of two marks.
-fn higher(a: u8, b: u8) -> u8
-    ensures { λ r. ⌜ (a ≤ r) × (b ≤ r) ⌝ }
-{
-    if a < b {
-        return b;
-    }
-    a
 }
 
 // Crossing column j from one state to another, where no block has more left afterwards; as crossing says.
@@ -180,7 +120,7 @@ fn reached_by(
     ensures { λ r. ⌜ Gains l (now (y .entry)) (now (numbers .entry)) heavy (now (known .entry)) (now
         (z .entry)) j false (entryOf (now (digits .entry)) q) (each other) there r ⌝ }
 {
-    let own = digits_of(digits, q);
+    let own = marks::digits_of(digits, q);
     carried(
         there,
         between(
@@ -274,7 +214,7 @@ fn spread_over(
 {
     let mut q = low;
     while q < high {
-        fresh[q] = higher(
+        fresh[q] = marks::higher(
             fresh[q],
             reached(
                 l,
@@ -330,7 +270,7 @@ fn spread(
     if there == 0 {
         return;
     }
-    let other = digits_of(digits, p);
+    let other = marks::digits_of(digits, p);
     if ahead {
         steps::raise(
             l,
@@ -398,7 +338,7 @@ fn put_column(states: usize, at: usize, floors: &[u8], fresh: &[u8], marks: &mut
     while p < states {
         let mark = above_floor(fresh[p], floors[p]);
         marks[at + p] = mark;
-        highest = higher(highest, mark);
+        highest = marks::higher(highest, mark);
         p += 1;
     }
     highest
@@ -466,43 +406,6 @@ fn remake(
     put_column(states, at, &floors, &fresh, marks)
 }
 
-// Gives one state of a column a mark, and the others none.
-fn only(states: usize, at: usize, q: usize, mark: u8, marks: &mut [u8])
-    requires { ⌜ (q < states) × (at + states ≤ length (now marks)) ⌝ }
-    ensures { λ _. ⌜ Remade states at (now (marks .entry)) (now (marks .exit))
-        × (getD (now (marks .exit)) (at + q) 0 ≡ mark) ⌝ }
-{
-    let mut p: usize = 0;
-    while p < states {
-        marks[at + p] = 0;
-        p += 1;
-    }
-    marks[at + q] = mark;
-}
-
-// What the second table says of all heavy blocks together from column j on, where at its start so many losses are left.
-fn most_after(
-    columns: usize,
-    shape: Shape,
-    after: &[u8],
-    j: usize,
-    left: [u8; states::MOST_HEAVY],
-) -> usize
-    requires { ⌜ Sized columns shape (now after) × ((j ≤ columns) × ((s : ℕ) → s < shape .n → getD left s 0 < lefts)) ⌝ }
-    ensures { λ r. ⌜ r ≡ mostAfter columns (now (after .entry)) (each left) j (shape .n) ⌝ }
-{
-    let n = shape.n;
-    let stride = (columns + 1) * states::LEFTS;
-    let from = (columns - j) * states::LEFTS;
-    let mut most: usize = 0;
-    let mut s: usize = 0;
-    while s < n {
-        most += bits::wide(after[s * stride + from + bits::wide(left[s])]);
-        s += 1;
-    }
-    most
-}
-
 // What a row must count before a column, at least, where it can differ from z in so many chunks from there on and is not near.
 fn floor_by(room: usize, most: usize) -> u8
     ensures { λ r. ⌜ (r < many) × ((n : ℕ) → room ≤ n + most → r ≤ n) ⌝ }
@@ -511,8 +414,8 @@ fn floor_by(room: usize, most: usize) -> u8
         return 0;
     }
     let floor = room - most;
-    if bits::wide(MANY) <= floor {
-        return MANY - 1;
+    if bits::wide(marks::MANY) <= floor {
+        return marks::MANY - 1;
     }
     floor as u8
 }
@@ -536,8 +439,8 @@ fn floor_of(
     if mark == 0 {
         return 0;
     }
-    let left = digits_of(digits, q);
-    floor_by(room, most_after(columns, shape, after, j, left))
+    let left = marks::digits_of(digits, q);
+    floor_by(room, near::most_after(columns, shape, after, j, left))
 }
 
 // The floors of the states of column j, whose marks stand at a place.
@@ -595,7 +498,7 @@ fn ahead(
 {
     let states = shape.states;
     let columns = l.l2;
-    only(states, 0, states - 1, 1, marks);
+    marks::only(states, 0, states - 1, 1, marks);
     let mut j: usize = 0;
     while j < columns {
         let at = (j + 1) * states;
@@ -648,7 +551,7 @@ fn back(
     let states = shape.states;
     let none: [u8; states::MOST_STATES] = [0; states::MOST_STATES];
     let mut j = l.l2;
-    only(states, j * states, 0, 1, marks);
+    marks::only(states, j * states, 0, 1, marks);
     while 0 < j {
         j -= 1;
         remake(
@@ -670,515 +573,6 @@ fn back(
             marks,
         );
     }
-}
-
-// One more than the level of the state that lies down lower, for a block that has losses left; at most three.
-fn raised(levels: &[u8], q: usize, down: usize, left: u8) -> u8
-    requires { ⌜ q ≤ length (now levels) ⌝ }
-    ensures { λ r. ⌜ ((v : ℕ) → 0 < left → 0 < down → down ≤ q → 0 < v → v < 3
-        → v ≤ getD (now (levels .entry)) (q - down) 0
-        → v + 1 ≤ r) ⌝ }
-{
-    if left == 0 {
-        return 0;
-    }
-    if down == 0 {
-        return 0;
-    }
-    if q < down {
-        return 0;
-    }
-    let level = levels[q - down];
-    if level == 0 {
-        return 0;
-    }
-    if 2 < level {
-        return 3;
-    }
-    level + 1
-}
-
-// One for a mark, zero for none.
-fn one_if(mark: u8) -> u8
-    ensures { λ r. ⌜ (0 < mark → 0 < r) ⌝ }
-{
-    if mark == 0 {
-        return 0;
-    }
-    1
-}
-
-// The level of state q: one more than the losses that it has above a state that is marked in the next column, up to two
-// losses.
-fn level_of(
-    n: usize,
-    strides: &[usize; states::MOST_HEAVY],
-    digits: &[u8],
-    q: usize,
-    levels: &[u8; states::MOST_STATES],
-    next: u8,
-) -> u8
-    requires { ⌜ (n ≤ 6) × ((q * 6 + 6 ≤ length (now digits)) × (q < 729)) ⌝ }
-    ensures { λ r. ⌜ (0 < next → 0 < r) × ((s v : ℕ) → s < n → 0 < getD (now (digits .entry)) (q * 6 + s) 0
-        → 0 < getD (now (strides .entry)) s 0 → getD (now (strides .entry)) s 0 ≤ q → 0 < v → v < 3
-        → v ≤ getD (now (levels .entry)) (q - getD (now (strides .entry)) s 0) 0 → v + 1 ≤ r) ⌝ }
-{
-    let mut level = one_if(next);
-    let mut s: usize = 0;
-    while s < n {
-        level = higher(
-            level,
-            raised(levels, q, strides[s], digits[q * states::MOST_HEAVY + s]),
-        );
-        if 2 < level {
-            return level;
-        }
-        s += 1;
-    }
-    level
-}
-
-// Whether a state is marked after column j and the column has its sum where no chunk of a heavy block loses a bit there; part is what all
-// chunks of the column bring then.
-fn stays(l: Layout, numbers: &[u16], j: usize, part: usize, mark: u8) -> bool
-    requires { ⌜ (l .l1 * l .nc ≤ longest) × ((j < l .l2) × ((l .l1 ≤ 255) × (l .l1 + l .l2 ≤ length (now numbers)))) ⌝ }
-    ensures { λ r. ⌜ (part % modulus l ≡ getD (now (numbers .entry)) (l .l1 + j) 0 → 0 < mark → r ≡ true) ⌝ }
-{
-    if mark == 0 {
-        return false;
-    }
-    part % (l.l1 * l.nc + 1) == numbers[l.l1 + j] as usize
-}
-
-// Whether a row can cross column j from state q with one loss in heavy block s, to a marked state; the marks of the
-// next column stand at base. Part is what all chunks of the column bring where they are read whole.
-fn loses_one(
-    l: Layout,
-    y: &[u8],
-    totals: &[u32],
-    counts: &[u16],
-    numbers: &[u16],
-    heavy: Heavy,
-    shape: Shape,
-    readings: &[u16],
-    j: usize,
-    left: [u8; states::MOST_HEAVY],
-    part: usize,
-    q: usize,
-    s: usize,
-    marks: &[u8],
-    base: usize,
-) -> bool
-    requires { ⌜ (Read l (now y) (now totals) (now counts) (now numbers) heavy shape (now readings) j
-        × (((t : ℕ) → t < heavy .n → getD left t 0 ≤ each (shape .size) t)
-        × (readSum (now readings) left (heavy .n) ≤ part)))
-        × ((q < shape .states) × ((s < heavy .n) × (base + shape .states ≤ length (now marks)))) ⌝ }
-    ensures { λ r. ⌜ ((row vs known : List ℕ) (next : ℕ → ℕ) → Light l heavy row known
-        → part ≡ getD known j 0 + readSum (now (readings .entry)) left (heavy .n)
-        → Crosses l (now (y .entry)) (now (numbers .entry)) heavy row j (each left) next vs
-        → OneLess (heavy .n) (each left) next s → getD (shape .stride) s 0 ≤ q
-        → 0 < getD (now (marks .entry)) (base + (q - getD (shape .stride) s 0)) 0 → r ≡ true) ⌝ }
-{
-    let down = shape.stride[s];
-    let own = left[s];
-    if own == 0 {
-        return false;
-    }
-    if q < down {
-        return false;
-    }
-    if marks[base + (q - down)] == 0 {
-        return false;
-    }
-    let reading = readings[s * states::LEFTS + bits::wide(own)] as usize;
-    whole::can_lose_one(
-        l,
-        y,
-        totals,
-        counts,
-        heavy.block[s],
-        heavy.end[s],
-        j,
-        own,
-        part - reading,
-        numbers[l.l1 + j] as usize,
-    )
-}
-
-// Whether a row can cross column j from state q with one loss, to a marked state.
-fn loses(
-    l: Layout,
-    y: &[u8],
-    totals: &[u32],
-    counts: &[u16],
-    numbers: &[u16],
-    heavy: Heavy,
-    shape: Shape,
-    readings: &[u16],
-    j: usize,
-    left: [u8; states::MOST_HEAVY],
-    part: usize,
-    q: usize,
-    marks: &[u8],
-    base: usize,
-) -> bool
-    requires { ⌜ (Read l (now y) (now totals) (now counts) (now numbers) heavy shape (now readings) j
-        × (((t : ℕ) → t < heavy .n → getD left t 0 ≤ each (shape .size) t)
-        × (readSum (now readings) left (heavy .n) ≤ part)))
-        × ((q < shape .states) × (base + shape .states ≤ length (now marks))) ⌝ }
-    ensures { λ r. ⌜ ((row vs known : List ℕ) (next : ℕ → ℕ) (s : ℕ) → s < heavy .n → Light l heavy row known
-        → part ≡ getD known j 0 + readSum (now (readings .entry)) left (heavy .n)
-        → Crosses l (now (y .entry)) (now (numbers .entry)) heavy row j (each left) next vs
-        → OneLess (heavy .n) (each left) next s → getD (shape .stride) s 0 ≤ q
-        → 0 < getD (now (marks .entry)) (base + (q - getD (shape .stride) s 0)) 0 → r ≡ true) ⌝ }
-{
-    let n = heavy.n;
-    let mut s: usize = 0;
-    while s < n {
-        if loses_one(
-            l,
-            y,
-            totals,
-            counts,
-            numbers,
-            heavy,
-            shape,
-            readings,
-            j,
-            left,
-            part,
-            q,
-            s,
-            marks,
-            base,
-        ) {
-            return true;
-        }
-        s += 1;
-    }
-    false
-}
-
-// The mark of state q by the marks of the next column, which stand at base, where no loss or one is lost in the column.
-fn tested_mark(
-    l: Layout,
-    y: &[u8],
-    totals: &[u32],
-    counts: &[u16],
-    numbers: &[u16],
-    heavy: Heavy,
-    known: &[u16],
-    shape: Shape,
-    digits: &[u8],
-    readings: &[u16],
-    j: usize,
-    q: usize,
-    marks: &[u8],
-    base: usize,
-) -> u8
-    requires { ⌜ (Read l (now y) (now totals) (now counts) (now numbers) heavy shape (now readings) j
-        × ((l .l2 ≤ length (now known)) × Digits shape (now digits)))
-        × ((q < shape .states) × (base + shape .states ≤ length (now marks))) ⌝ }
-    ensures { λ r. ⌜ FirstMark l (now (y .entry)) (now (numbers .entry)) heavy (now (known .entry)) shape j (now
-        (marks .entry)) base (entryOf (now (digits .entry)) q) q 1 r ⌝ }
-{
-    let left = digits_of(digits, q);
-    let part = known[j] as usize + whole::all(heavy.n, left, readings);
-    if stays(l, numbers, j, part, marks[base + q]) {
-        return 255;
-    }
-    if loses(
-        l,
-        y,
-        totals,
-        counts,
-        numbers,
-        heavy,
-        shape,
-        readings,
-        j,
-        left,
-        part,
-        q,
-        marks,
-        base,
-    ) {
-        return 255;
-    }
-    0
-}
-
-// The mark of state q, from its level and by the marks of the next column, which stand at base.
-fn first_mark(
-    l: Layout,
-    y: &[u8],
-    totals: &[u32],
-    counts: &[u16],
-    numbers: &[u16],
-    heavy: Heavy,
-    known: &[u16],
-    shape: Shape,
-    digits: &[u8],
-    readings: &[u16],
-    j: usize,
-    q: usize,
-    level: u8,
-    marks: &[u8],
-    base: usize,
-) -> u8
-    requires { ⌜ (Read l (now y) (now totals) (now counts) (now numbers) heavy shape (now readings) j
-        × ((l .l2 ≤ length (now known)) × Digits shape (now digits)))
-        × ((q < shape .states) × (base + shape .states ≤ length (now marks))) ⌝ }
-    ensures { λ r. ⌜ FirstMark l (now (y .entry)) (now (numbers .entry)) heavy (now (known .entry)) shape j (now
-        (marks .entry)) base (entryOf (now (digits .entry)) q) q level r ⌝ }
-{
-    if 2 < level {
-        return 255;
-    }
-    if level == 0 {
-        return 0;
-    }
-    tested_mark(
-        l,
-        y,
-        totals,
-        counts,
-        numbers,
-        heavy,
-        known,
-        shape,
-        digits,
-        readings,
-        j,
-        q,
-        marks,
-        base,
-    )
-}
-
-// What the tables say of heavy block s, which has so many losses, where at column j so many are left: in how many of its chunks a row can
-// differ from z at most. Where the block cannot have so many left they say nothing.
-fn most_in(
-    columns: usize,
-    before: &[u8],
-    after: &[u8],
-    s: usize,
-    size: u8,
-    left: u8,
-    j: usize,
-) -> usize
-    requires { ⌜ ((columns ≤ 255) × ((s < 6) × ((j ≤ columns) × (size < lefts))))
-        × ((blockAt columns (s + 1) ≤ length (now before)) × (blockAt columns (s + 1) ≤ length (now after))) ⌝ }
-    ensures { λ r. ⌜ (left ≤ size → r ≡ mostIn columns (now (before .entry)) (now (after .entry)) s size left j)
-        × (r ≤ 510) ⌝ }
-{
-    if size < left {
-        return 510;
-    }
-    let at = s * ((columns + 1) * states::LEFTS);
-    let used = at + j * states::LEFTS + bits::wide(size - left);
-    let rest = at + (columns - j) * states::LEFTS + bits::wide(left);
-    bits::wide(before[used]) + bits::wide(after[rest])
-}
-
-// What they say of all heavy blocks together.
-fn most_apart(
-    columns: usize,
-    shape: Shape,
-    before: &[u8],
-    after: &[u8],
-    j: usize,
-    left: [u8; states::MOST_HEAVY],
-) -> usize
-    requires { ⌜ (Sized columns shape (now before) × Sized columns shape (now after)) × (j ≤ columns) ⌝ }
-    ensures { λ r. ⌜ (((s : ℕ) → s < shape .n → getD left s 0 ≤ getD (shape .size) s 0)
-        → r ≡ most columns (now (before .entry)) (now (after .entry)) (each (shape .size)) (each left) j (shape .n)) ⌝ }
-{
-    let n = shape.n;
-    let size = shape.size;
-    let mut total: usize = 0;
-    let mut s: usize = 0;
-    while s < n {
-        total += most_in(columns, before, after, s, size[s], left[s], j);
-        s += 1;
-    }
-    total
-}
-
-// The level of state q in column j, unless each row that comes through the state differs from z in fewer than room chunks.
-fn far_level(
-    columns: usize,
-    shape: Shape,
-    digits: &[u8],
-    before: &[u8],
-    after: &[u8],
-    room: usize,
-    j: usize,
-    q: usize,
-    level: u8,
-) -> u8
-    requires { ⌜ (Sized columns shape (now before) × Sized columns shape (now after)) × ((j ≤ columns)
-        × (Digits shape (now digits) × (q < shape .states))) ⌝ }
-    ensures { λ r. ⌜ ((left : ℕ → ℕ) → Within shape left → stateOf shape left ≡ q
-        → room ≤ most columns (now (before .entry)) (now (after .entry)) (each (shape .size)) left j (shape .n)
-        → r ≡ level) ⌝ }
-{
-    if level == 0 {
-        return level;
-    }
-    let left = digits_of(digits, q);
-    if most_apart(columns, shape, before, after, j, left) < room {
-        return 0;
-    }
-    level
-}
-
-// Whether each heavy block has so few losses that tables of counts can be made.
-fn few_losses(shape: Shape) -> bool
-    requires { ⌜ shape .n ≤ 6 ⌝ }
-    ensures { λ r. ⌜ (r ≡ true → (s : ℕ) → s < shape .n → getD (shape .size) s 0 < lefts) ⌝ }
-{
-    let n = shape.n;
-    let size = shape.size;
-    let mut s: usize = 0;
-    while s < n {
-        if states::LEFTS <= bits::wide(size[s]) {
-            return false;
-        }
-        s += 1;
-    }
-    true
-}
-
-// The first marks of a column, at a place, by those of the next column, at base: whether a row can cross it to a marked
-// state, and is not near. It answers the greatest.
-fn complete_column(
-    l: Layout,
-    y: &[u8],
-    totals: &[u32],
-    counts: &[u16],
-    numbers: &[u16],
-    heavy: Heavy,
-    known: &[u16],
-    shape: Shape,
-    digits: &[u8],
-    before: &[u8],
-    after: &[u8],
-    room: usize,
-    j: usize,
-    at: usize,
-    base: usize,
-    marks: &mut [u8],
-) -> u8
-    requires { ⌜ (Fit l (now y) (now numbers) heavy × (Tables (now y) 0 (now totals) (now counts)
-        × (l .l2 ≤ length (now known)))) × ((j < l .l2)
-        × (Kept heavy shape × (Digits shape (now digits) × ((Sized (l .l2) shape (now before)
-        × Sized (l .l2) shape (now after))
-        × ((at + shape .states ≤ base) × (base + shape .states ≤ length (now marks))))))) ⌝ }
-    ensures { λ r. ⌜ Remade (shape .states) at (now (marks .entry)) (now (marks .exit))
-        × (((p : ℕ) → p < shape .states → getD (now (marks .exit)) (at + p) 0 ≤ r)
-        × ((left : ℕ → ℕ) → Within shape left
-        → room ≤ most (l .l2) (now (before .entry)) (now (after .entry)) (each (shape .size)) left j (shape .n)
-        → Goes l (now (y .entry)) (now (numbers .entry)) heavy (now (known .entry)) shape j (now
-        (marks .entry)) base left
-        (getD (now (marks .exit)) (at + stateOf shape left) 0))) ⌝ }
-{
-    let columns = l.l2;
-    let n = shape.n;
-    let states = shape.states;
-    let strides = shape.stride;
-    let size = shape.size;
-    let mut readings: [u16; READINGS] = [0; READINGS];
-    whole::fill(l, y, totals, counts, numbers, heavy, size, j, &mut readings);
-    let mut levels: [u8; states::MOST_STATES] = [0; states::MOST_STATES];
-    let mut highest: u8 = 0;
-    let mut q: usize = 0;
-    while q < states {
-        let level = level_of(n, &strides, digits, q, &levels, marks[base + q]);
-        let tested = far_level(columns, shape, digits, before, after, room, j, q, level);
-        let mark = first_mark(
-            l,
-            y,
-            totals,
-            counts,
-            numbers,
-            heavy,
-            known,
-            shape,
-            digits,
-            &readings,
-            j,
-            q,
-            tested,
-            marks,
-            base,
-        );
-        levels[q] = level;
-        marks[at + q] = mark;
-        highest = higher(highest, mark);
-        q += 1;
-    }
-    highest
-}
-
-// The first marks of all columns, from the last to the first: where a row can still come to the end. It answers whether
-// one can.
-fn complete(
-    l: Layout,
-    y: &[u8],
-    totals: &[u32],
-    counts: &[u16],
-    numbers: &[u16],
-    heavy: Heavy,
-    known: &[u16],
-    shape: Shape,
-    digits: &[u8],
-    before: &[u8],
-    after: &[u8],
-    room: usize,
-    marks: &mut [u8],
-) -> bool
-    requires { ⌜ (Fit l (now y) (now numbers) heavy × (Tables (now y) 0 (now totals) (now counts)
-        × (l .l2 ≤ length (now known))))
-        × (Kept heavy shape × (Digits shape (now digits) × ((Sized (l .l2) shape (now before)
-        × Sized (l .l2) shape (now after))
-        × ((l .l2 + 1) * shape .states ≤ length (now marks))))) ⌝ }
-    ensures { λ r. ⌜ (length (now (marks .exit)) ≡ length (now (marks .entry)))
-        × ((row vs : List ℕ) (own : ℕ → ℕ → ℕ) → Light l heavy row (now (known .entry))
-        → Path l (now (y .entry)) (now (numbers .entry)) heavy row (each (shape .size)) vs own
-        → ((i : ℕ) → i ≤ l .l2
-        → room ≤ most (l .l2) (now (before .entry)) (now (after .entry)) (each (shape .size)) (own i) i (shape .n))
-        → (r ≡ true) × Through l shape (now (marks .exit)) own (λ j. 0)) ⌝ }
-{
-    let states = shape.states;
-    let mut j = l.l2;
-    only(states, j * states, 0, 255, marks);
-    while 0 < j {
-        j -= 1;
-        if complete_column(
-            l,
-            y,
-            totals,
-            counts,
-            numbers,
-            heavy,
-            known,
-            shape,
-            digits,
-            before,
-            after,
-            room,
-            j,
-            j * states,
-            (j + 1) * states,
-            marks,
-        )
-            == 0
-        {
-            return false;
-        }
-    }
-    0 < marks[states - 1]
 }
 
 // The counts of marks that let every row through that is not near: from the first column on, and back if one comes to the end.
@@ -1248,32 +642,6 @@ fn count_marks(
     }
 }
 
-// The tables of what rows count in each heavy block, where rows that differ in room chunks are asked for.
-fn count_blocks(
-    l: Layout,
-    y: &[u8],
-    numbers: &[u16],
-    heavy: Heavy,
-    z: &[u8],
-    size: [u8; states::MOST_HEAVY],
-    room: usize,
-    before: &mut [u8],
-    after: &mut [u8],
-)
-    requires { ⌜ (Fit l (now y) (now numbers) heavy × (l .l1 * l .l2 ≤ length (now z)))
-        × (((s : ℕ) → s < heavy .n → getD size s 0 < lefts)
-        × ((blockAt (l .l2) (heavy .n) ≤ length (now before)) × (blockAt (l .l2) (heavy .n) ≤ length (now after)))) ⌝ }
-    ensures { λ _. ⌜ ((length (now (before .exit)) ≡ length (now (before .entry)))
-        × (length (now (after .exit)) ≡ length (now (after .entry))))
-        × (0 < room → Counted l (now (y .entry)) heavy (now (z .entry)) size (now (before .exit)) (now (after .exit))) ⌝ }
-{
-    if room == 0 {
-        return;
-    }
-    far::fill(l, y, numbers, heavy, z, size, true, before);
-    far::fill(l, y, numbers, heavy, z, size, false, after);
-}
-
 // The marks of the loss states, in three passes, with the tables of what rows count in each heavy block.
 fn make_marks(
     l: Layout,
@@ -1300,8 +668,8 @@ fn make_marks(
         × (r .kept ≡ true → Through l shape (now (marks .exit)) own (apartFrom l heavy (now (z .entry)) vs))) ⌝ }
 {
     let mut digits: [u8; 4374] = [0; 4374];
-    fill_digits(shape, &mut digits);
-    if !complete(
+    marks::fill_digits(shape, &mut digits);
+    if !first::complete(
         l,
         y,
         totals,
@@ -1363,7 +731,7 @@ fn fill_marks(
         → room ≤ apartFrom l heavy (now (z .entry)) vs 0 → (r .none ≡ true → ⊥)
         × (r .kept ≡ true → Through l shape (now (marks .exit)) own (apartFrom l heavy (now (z .entry)) vs))) ⌝ }
 {
-    if !few_losses(shape) {
+    if !near::few_losses(shape) {
         return Prepared {
             shape,
             kept: false,
@@ -1380,7 +748,7 @@ fn fill_marks(
     let size = shape.size;
     let mut before: [u8; COUNTS] = [0; COUNTS];
     let mut after: [u8; COUNTS] = [0; COUNTS];
-    count_blocks(l, y, numbers, heavy, z, size, room, &mut before, &mut after);
+    near::count_blocks(l, y, numbers, heavy, z, size, room, &mut before, &mut after);
     make_marks(
         l,
         y,
@@ -1450,23 +818,4 @@ pub fn prepare(
         room,
         marks,
     )
-}
-
-// The mark of a loss state in column j; where none is kept, it is 255.
-pub fn mark_at(shape: Shape, marks: &[u8], j: usize, q: usize) -> u8
-    requires { ⌜ j ≤ 255 ⌝ }
-    ensures { λ r. ⌜ (r ≡ 255) ⊎ ((j * shape .states + q < length (now (marks .entry)))
-        × (r ≡ getD (now (marks .entry)) (j * shape .states + q) 0)) ⌝ }
-{
-    if 4294967295 < shape.states {
-        return 255;
-    }
-    if marks.len() <= q {
-        return 255;
-    }
-    let at = j * shape.states;
-    if marks.len() - q <= at {
-        return 255;
-    }
-    marks[at + q]
 }

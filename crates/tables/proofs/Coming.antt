@@ -25,9 +25,8 @@ use Rattle.states.specs.declared.Shape.{Shape}
 use Rattle.states.proofs.States.{state-low, state-same, state-up, state-only, digitsOf, state-of, digits-most}
 use Rattle.column.specs.Column.{Fit, Light, Crosses, apartIn}
 use Rattle.column.specs.declared.Heavy.{Heavy}
-use Rattle.live.specs.Live.{Covers, apartFrom}
-use Rattle.live.proofs.Paths.{apart-next, path-most}
-use Rattle.live.proofs.Steps.{crosses-same}
+use Rattle.marks.specs.Marks.{Covers, apartFrom}
+use Rattle.marks.proofs.Paths.{apart-next, path-most, crosses-same}
 use Rattle.tables.specs.Tables.{Sound, Under, ownLeft, ShapeOf, IsMark, Looked, apart, NearKnown, Comes}
 use Rattle.tables.specs.Tables.{UnderMarks, Stepped}
 use Rattle.tables.specs.declared.Table.{Table}

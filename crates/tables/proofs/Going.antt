@@ -18,7 +18,7 @@ use Rattle.states.specs.declared.Shape.{Shape}
 use Rattle.states.proofs.States.{state-same}
 use Rattle.column.specs.Column.{Light, Crosses, apartIn}
 use Rattle.column.specs.declared.Heavy.{Heavy}
-use Rattle.live.specs.Live.{Covers}
+use Rattle.marks.specs.Marks.{Covers}
 use Rattle.tables.specs.Tables.{Sound, Whole, ownLeft, ShapeOf, IsMark, Looked, NearKnown, UnderMarks}
 use Rattle.tables.specs.Tables.{Stepped}
 use Rattle.tables.specs.declared.Table.{Table}

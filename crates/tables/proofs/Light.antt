@@ -16,7 +16,7 @@ use Rattle.anchor.specs.Anchor.{over}
 use Rattle.anchor.proofs.Over.{over-none, over-next, over-front, over-same}
 use Rattle.column.specs.Column.{chunkAt, apartIn}
 use Rattle.column.specs.declared.Heavy.{Heavy}
-use Rattle.live.specs.Live.{apartBefore, apartFrom}
+use Rattle.marks.specs.Marks.{apartBefore, apartFrom}
 use Rattle.tables.specs.Tables.{HeavyOf, LightIn}
 
 module _ (l : Layout) (heavy : Heavy) (z vs : List ℕ) where

@@ -16,7 +16,7 @@ use Rattle.found.proofs.Found.{sent-parts}
 use Rattle.states.specs.States.{each}
 use Rattle.column.specs.Column.{chunkAt, readFrom, Crosses}
 use Rattle.column.specs.declared.Heavy.{Heavy}
-use Rattle.live.specs.Live.{Path}
+use Rattle.marks.specs.Marks.{Path}
 use Rattle.tables.specs.Tables.{lostBefore, Loses, Sound, Under, ownLeft, LightIn}
 use Rattle.tables.specs.declared.Table.{Table}
 use Rattle.tables.proofs.Chunk.{chunk-inside, lost-grows, lost-before, chunk-few, chunk-there, chunk-loses}

@@ -23,7 +23,7 @@ use Rattle.states.specs.States.{state, each, Shaped}
 use Rattle.states.specs.declared.Shape.{Shape}
 use Rattle.column.specs.Column.{chunkAt, Light}
 use Rattle.column.specs.declared.Heavy.{Heavy}
-use Rattle.live.specs.Live.{Path, Through, apartFrom}
+use Rattle.marks.specs.Marks.{Path, Through, apartFrom}
 use Rattle.tables.specs.declared.Table.{Table}
 
 -- the column that heavy block s has come to, where in column j the first h heavy blocks have their share

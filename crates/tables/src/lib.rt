@@ -13,7 +13,7 @@ ghost use Rattle.found.specs.Found.{Given, Sent, Holding, Grown};
 ghost use Rattle.anchor.specs.Anchor.{over};
 ghost use Rattle.cells.specs.Cells.{NoSingle, Placed};
 ghost use Rattle.states.specs.States.{each, stateOf};
-ghost use Rattle.live.specs.Live.{Covers, apartFrom};
+ghost use Rattle.marks.specs.Marks.{Covers, apartFrom};
 ghost use Rattle.tables.specs.Tables.{
   pushed,
   withChunk,
@@ -287,7 +287,7 @@ fn hopeful(mark: u8, differ: usize, room: usize) -> bool
     if mark == 0 {
         return false;
     }
-    if live::MANY <= mark {
+    if marks::MANY <= mark {
         return true;
     }
     room < differ + bits::wide(mark)
@@ -331,7 +331,7 @@ fn columns(
     while c < l.l2 {
         let left = now.left;
         let q = states::number_of(shape, left);
-        let mark = live::mark_at(shape, marks, c, q);
+        let mark = marks::mark_at(shape, marks, c, q);
         if !hopeful(mark, apart, room) {
             return k;
         }
@@ -417,7 +417,7 @@ fn losses_here(
     let mut k = kept;
     let mut to: usize = 0;
     while to < q {
-        let mark = live::mark_at(shape, marks, j + 1, to);
+        let mark = marks::mark_at(shape, marks, j + 1, to);
         if mark != 0 {
             k = losses_to(
                 l,

@@ -13,7 +13,7 @@ use Rattle.message.proofs.Legal.{legal-bounds, sizes}
 use Rattle.states.specs.States.{each}
 use Rattle.column.specs.Column.{Light}
 use Rattle.column.proofs.Rows.{string-high}
-use Rattle.live.specs.Live.{Path}
+use Rattle.marks.specs.Marks.{Path}
 use Rattle.whole.specs.Whole.{firsts}
 use Rattle.whole.proofs.Whole.{kept-legible}
 use Rattle.costs.proofs.Costs.{firsts-fall, kept-sum, costs-one}

@@ -14,14 +14,16 @@ use Rattle.bits.proofs.Laws.{lt-or-ge}
 use Rattle.message.proofs.Legal.{legal-bounds, sizes}
 use Rattle.states.specs.States.{each, stateOf}
 use Rattle.column.specs.Column.{Light, apartIn}
-use Rattle.live.specs.Live.{Path, markAt, apartBefore, apartFrom, Through}
-use Rattle.live.specs.Near.{mostAfter}
-use Rattle.live.specs.Passes.{Within, Remade, Regained}
-use Rattle.live.proofs.Columns.{two-columns}
-use Rattle.live.proofs.Near.{after-covers}
-use Rattle.live.proofs.Paths.{Lets, Passing, passing-first, passing-next, passing-through, split-up}
-use Rattle.live.proofs.Paths.{only-lets, through-lets, own-first, own-last, own-low, own-within, before-next, before-none}
-use Rattle.live.proofs.Steps.{some-state}
+use Rattle.marks.specs.Marks.{Path, markAt, apartBefore, apartFrom, Through, Remade}
+use Rattle.marks.specs.Digits.{Within}
+use Rattle.marks.proofs.Marks.{two-columns}
+use Rattle.marks.proofs.Digits.{some-state}
+use Rattle.marks.proofs.Paths.{Lets, only-lets, through-lets, own-first, own-last, own-low, own-within, before-next}
+use Rattle.marks.proofs.Paths.{before-none}
+use Rattle.near.specs.Near.{mostAfter}
+use Rattle.near.proofs.Near.{after-covers}
+use Rattle.live.specs.Passes.{Regained}
+use Rattle.live.proofs.Passes.{Passing, passing-first, passing-next, passing-through, split-up}
 use Rattle.live.proofs.ahead.Statement.{statement}
 use Rattle.live.proofs.ahead.Tie as tie
 

@@ -9,12 +9,12 @@ use borrow.Author.Needs.{needs}
 use lib.ListN.{length, replicate, getD-replicate}
 use Rattle.states.specs.States.{mostStates, each, stateOf}
 use Rattle.column.specs.Column.{Light}
-use Rattle.live.specs.Live.{Path, apartFrom}
-use Rattle.live.proofs.Columns.{two-columns}
+use Rattle.marks.specs.Marks.{Path, apartFrom}
+use Rattle.marks.proofs.Marks.{two-columns}
+use Rattle.marks.proofs.Digits.{some-state}
+use Rattle.marks.proofs.Paths.{Lets, only-lets, through-lets, own-last, own-low, before-next}
+use Rattle.live.proofs.Passes.{Passing, passing-first, passing-next, passing-through, split-down}
 use Rattle.live.proofs.Floors.{no-floors}
-use Rattle.live.proofs.Paths.{Lets, Passing, passing-first, passing-next, passing-through, split-down}
-use Rattle.live.proofs.Paths.{only-lets, through-lets, own-last, own-low, before-next}
-use Rattle.live.proofs.Steps.{some-state}
 use Rattle.live.proofs.back.Statement.{statement}
 use Rattle.live.proofs.back.Tie as tie
 

@@ -4,8 +4,8 @@ use mathlib.Core.Bool.{false≢true}
 use native.Mathlib.Omega.{arith}
 use borrow.Author.Needs.{needs}
 use borrow.Author.Tests.{not-true}
-use Rattle.live.specs.Live.{apartBefore, apartFrom}
-use Rattle.live.proofs.Paths.{pass-then}
+use Rattle.marks.specs.Marks.{apartBefore, apartFrom}
+use Rattle.live.proofs.Passes.{pass-then}
 use Rattle.live.proofs.count_marks.Statement.{statement}
 use Rattle.live.proofs.count_marks.Tie as tie
 

@@ -1,10 +1,9 @@
 -- `live::floor_of` meets its contract. Assumes nothing.
-use mathlib.Core.Path.{_∙_}
 use native.Mathlib.Omega.{arith}
 use borrow.Author.Needs.{needs}
 use Rattle.states.specs.States.{each}
-use Rattle.live.specs.Passes.{entryOf}
-use Rattle.live.proofs.Near.{after-same}
+use Rattle.marks.specs.Digits.{entryOf}
+use Rattle.near.proofs.Near.{after-same}
 use Rattle.live.proofs.floor_of.Statement.{statement}
 use Rattle.live.proofs.floor_of.Tie as tie
 

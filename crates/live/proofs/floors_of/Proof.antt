@@ -3,8 +3,8 @@
 use Prim.Native.Nat.{_-_, _<_, _≤_}
 use native.Mathlib.Omega.{arith}
 use borrow.Author.Needs.{needs}
+use Rattle.marks.proofs.Digits.{entry-low}
 use Rattle.live.proofs.Floors.{Flooring, flooring-starts, flooring-next, flooring-all}
-use Rattle.live.proofs.Steps.{entry-low}
 use Rattle.live.proofs.floors_of.Statement.{statement}
 use Rattle.live.proofs.floors_of.Tie as tie
 

@@ -9,9 +9,9 @@ use borrow.Author.Needs.{needs}
 use borrow.Author.Tests.{not-true}
 use Rattle.bits.proofs.Laws.{lt-or-ge}
 use Rattle.states.specs.States.{each}
-use Rattle.live.specs.Live.{Path, apartFrom}
-use Rattle.live.specs.Near.{most}
-use Rattle.live.proofs.Near.{most-covers}
+use Rattle.marks.specs.Marks.{Path, apartFrom}
+use Rattle.near.specs.Near.{most}
+use Rattle.near.proofs.Near.{most-covers}
 use Rattle.live.proofs.make_marks.Statement.{statement}
 use Rattle.live.proofs.make_marks.Tie as tie
 

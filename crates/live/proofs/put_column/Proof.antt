@@ -1,14 +1,14 @@
 -- `live::put_column` meets its contract. The loop's invariant: the marks of the states passed are set. The measure is
 -- what is left of the states. Assumes nothing.
 use Prim.Native.Nat.{ℕ, _+_, _-_, _<_, _≤_}
-use mathlib.Core.Path.{_≡_, sym, _∙_}
+use mathlib.Core.Path.{_≡_, _∙_}
 use native.Mathlib.Omega.{arith}
 use borrow.Author.Count.{below-more}
 use borrow.Author.Needs.{needs}
 use lib.ListN.{length, getD, set}
 use lib.Seq.{getD-set-same, getD-set-other}
-use Rattle.live.specs.Passes.{Remade}
-use Rattle.live.proofs.Columns.{remade-none, remade-set}
+use Rattle.marks.specs.Marks.{Remade}
+use Rattle.marks.proofs.Marks.{remade-none, remade-set}
 use Rattle.live.proofs.put_column.Statement.{statement}
 use Rattle.live.proofs.put_column.Tie as tie
 

@@ -4,8 +4,8 @@ use mathlib.Core.Path.{_≡_, refl, sym}
 use native.Mathlib.Omega.{arith}
 use borrow.Author.Needs.{needs}
 use Rattle.states.specs.States.{each}
-use Rattle.live.specs.Passes.{entryOf}
-use Rattle.live.proofs.Steps.{crosses-same}
+use Rattle.marks.specs.Digits.{entryOf}
+use Rattle.marks.proofs.Paths.{crosses-same}
 use Rattle.live.proofs.reached_by.Statement.{statement}
 use Rattle.live.proofs.reached_by.Tie as tie
 

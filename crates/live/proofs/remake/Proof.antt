@@ -1,12 +1,13 @@
 -- `live::remake` meets its contract. The loop's invariant: the fresh marks gain by the other states passed. The measure
 -- is what is left of the states. Assumes nothing.
 use Prim.Native.Nat.{_-_, _≤_}
-use mathlib.Core.Path.{_≡_, refl, sym, _∙_}
+use mathlib.Core.Path.{_≡_, sym, _∙_}
 use native.Mathlib.Omega.{arith}
 use borrow.Author.Needs.{needs}
 use lib.ListN.{length}
 use Rattle.states.specs.States.{mostStates}
-use Rattle.live.proofs.Steps.{covers-kept, number-low}
+use Rattle.marks.proofs.Marks.{covers-kept}
+use Rattle.marks.proofs.Digits.{number-low}
 use Rattle.live.proofs.Columns.{Remaking, remaking-starts, remaking-next}
 use Rattle.live.proofs.remake.Statement.{statement}
 use Rattle.live.proofs.remake.Tie as tie

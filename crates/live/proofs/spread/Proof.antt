@@ -7,8 +7,11 @@ use native.Mathlib.Omega.{arith}
 use lib.ListN.{getD}
 use Rattle.states.specs.States.{each, stateOf}
 use Rattle.column.specs.Column.{apartIn}
-use Rattle.live.specs.Passes.{entryOf, Gains}
-use Rattle.live.proofs.Steps.{gains-same, entry-is, entry-low, crosses-same, above-covers, number-low}
+use Rattle.marks.specs.Digits.{entryOf}
+use Rattle.marks.proofs.Digits.{entry-is, entry-low, number-low}
+use Rattle.marks.proofs.Paths.{crosses-same}
+use Rattle.live.specs.Passes.{Gains}
+use Rattle.live.proofs.Steps.{gains-same, above-covers}
 use Rattle.live.proofs.spread.Statement.{statement}
 use Rattle.live.proofs.spread.Tie as tie
 

@@ -5,9 +5,10 @@ use Prim.Native.Nat.{_-_, _≤_}
 use native.Mathlib.Omega.{arith}
 use borrow.Author.Needs.{needs}
 use Rattle.states.specs.States.{each}
-use Rattle.live.specs.Passes.{entryOf, Spread}
-use Rattle.live.proofs.Columns.{spread-none, spread-next}
+use Rattle.marks.specs.Digits.{entryOf}
+use Rattle.live.specs.Passes.{Spread}
 use Rattle.live.proofs.Steps.{gains-more}
+use Rattle.live.proofs.Columns.{spread-none, spread-next}
 use Rattle.live.proofs.spread_over.Statement.{statement}
 use Rattle.live.proofs.spread_over.Tie as tie
 

@@ -33,7 +33,7 @@ use Rattle.tables.proofs.losses_to.Kinds as losses-to-kinds
 use Rattle.tables.proofs.+columns+losses_here+losses_to.Lts-losses_to as losses-to-lts
 use Rattle.bits.proofs.wide.Reads as wide-reads
 use Rattle.column.proofs.crossing.Reads as crossing-reads
-use Rattle.live.proofs.mark_at.Reads as mark-at-reads
+use Rattle.marks.proofs.mark_at.Reads as mark-at-reads
 use Rattle.states.proofs.losses_left.Reads as losses-left-reads
 use Rattle.states.proofs.number_of.Reads as number-of-reads
 use Rattle.tables.proofs.all_end.Reads as all-end-reads

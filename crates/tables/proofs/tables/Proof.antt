@@ -18,7 +18,7 @@ use Rattle.rows.specs.Slice.{rowsIn}
 use Rattle.message.specs.Layout.{rowBits}
 use Rattle.found.proofs.Found.{grown-weaken, grown-none, grown-nothing, grown-then}
 use Rattle.states.specs.States.{each}
-use Rattle.live.specs.Live.{Path, Through, apartFrom}
+use Rattle.marks.specs.Marks.{Path, Through, apartFrom}
 use Rattle.tables.specs.Tables.{Under, ownLeft, ShapeOf, Looked, Comes, apart}
 use Rattle.tables.proofs.Coming.{fits}
 use Rattle.tables.proofs.Own.{in-hand, own-path}

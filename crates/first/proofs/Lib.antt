@@ -1,0 +1,3 @@
+-- The laws of specs/, for the proofs of this crate.
+mod Levels
+mod First

@@ -1,0 +1,4 @@
+-- The laws of specs/, for the proofs of this crate and of the crates that stand on it.
+pub mod Marks
+pub mod Digits
+pub mod Paths
