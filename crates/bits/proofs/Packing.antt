@@ -1,18 +1,17 @@
 -- Packing and unpacking undo each other. Assumes nothing.
 use Prim.Native.Nat.{ℕ, zero, suc, _+_, _-_, _*_, _/_, _%_, _^_, _<_, _≤_}
 use mathlib.Core.Path.{_≡_, refl, sym, ap, ap₂, _∙_}
-use mathlib.Core.Bool.{Bool, true, false, _&&_}
+use mathlib.Core.Bool.{Bool, true, _&&_}
 use mathlib.Core.Logic.{⊎-elim}
 use mathlib.Core.List.{List, [], _∷_, _++_, append-assoc}
 use native.Mathlib.Decide.{ℕ-discrete}
 use native.Mathlib.Nat.{zero-div, mod-eq-of-lt, div-eq-of-lt, zero-add, zero-mul, one-mul, suc-add}
-use native.Mathlib.Numerals.{add-one}
 use native.Mathlib.Omega.{arith}
 use borrow.Author.Tests.{eq-eqb, ne-eqb, eqb-true}
 use lib.Dec.{eqb}
-use lib.ListN.{length, getD, take, drop, set, List·getD-append, List·getD-eq-default, drop-of-length-le}
+use lib.ListN.{length, getD, take, drop, set, List·getD-append, List·getD-eq-default}
 use lib.Pow.{pow-pos}
-use lib.Seq.{drop-cons, set-at, append-snoc, getD-drop, getD-take, getD-append-add, drop-drop, drop-nil, drop-at, take-at, take-append-add, take-add, length-take-le}
+use lib.Seq.{drop-append-add, drop-cons, set-at, append-snoc, getD-drop, getD-take, getD-append-add, drop-drop, drop-nil, drop-at, take-at, take-append-add, take-add, length-take-le}
 use Rattle.bits.specs.Bits.{AllBits, AllBytes, number, digits, bytes, bytesFor, pack, unpack, blank, fits}
 use Rattle.bits.proofs.Copy.{part-next}
 use Rattle.bits.proofs.Laws.{lt-or-ge, both-left, both-right, bits-drop, number-ext, number-digits, digits-number, digits-at, length-digits, length-unpack, fill}
@@ -195,6 +194,15 @@ bytes-blank n x z e = bytes-ext n (x ++ z) x (λ i. ⊎-elim (λ h. List·getD-a
     beyond i h =
         let k : i ≡ length x + (i - length x) = omega arith in
         ap (λ (n : ℕ). getD (x ++ z) n 0) k ∙ getD-append-add x z (i - length x) 0 ∙ blank-at z e (i - length x) ∙ sym (List·getD-eq-default x 0 h)
+
+-- the bits from byte n on
+pub unpack-drop : (n : ℕ) (s : List ℕ) → unpack (drop n s) ≡ drop (n * 8) (unpack s)
+unfolding unpack
+unpack-drop zero s = refl
+unpack-drop (suc n) [] = rw (drop-nil (suc n * 8)) refl
+unpack-drop (suc n) (v ∷ s) =
+    let e : suc n * 8 ≡ length (digits 8 v) + n * 8 = omega (arith, length-digits 8 v) in
+    rw (e, drop-append-add (digits 8 v) (unpack s) (n * 8)) (unpack-drop n s)
 
 -- ---- the spare bits
 -- bits are all zero just where they spell 0

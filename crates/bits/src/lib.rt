@@ -2,7 +2,7 @@
 // field by field through a filler, both passed by value. Contracts cite specs/Bits.antt and specs/Filling.antt.
 ghost use mathlib.Core.Path.{_≡_};
 ghost use mathlib.Core.List.{_++_};
-ghost use Prim.Native.Nat.{_+_, _-_, _*_, _/_, _^_, _<_, _≤_, min};
+ghost use Prim.Native.Nat.{_+_, _-_, _*_, _/_, _%_, _^_, _<_, _≤_, min};
 ghost use lib.ListN.{length, take, drop, getD};
 ghost use Rattle.bits.specs.Filling.{filled, Ready, Goes};
 ghost use Rattle.bits.specs.Bits.{AllBits, longest, number, digits, bytes, bytesFor, pack as packed, unpack as unpacked, fits as fit};
@@ -179,30 +179,29 @@ pub fn byte_at(s: &[u8], i: usize) -> usize
     if i < s.len() { wide(s[i]) } else { 0 }
 }
 
-// Four bytes from a place on, as a number, where there are so many; past the end of fewer stands 0.
+// Four bytes from a place on, as a number.
 fn four_bytes(s: &[u8], i: usize) -> usize
-    requires { ⌜ i ≤ length (now s) - 4 ⌝ }
+    requires { ⌜ i + 4 ≤ length (now s) ⌝ }
     ensures { λ r. ⌜ (r ≡ number 32 (drop (i * 8) (unpacked (now (s .entry))))) × (r < 2 ^ 32) ⌝ }
 {
-    if 4 <= s.len() {
-        return wide(s[i]) * 16777216
-            + wide(s[i + 1]) * 65536
-            + wide(s[i + 2]) * 256
-            + wide(s[i + 3]);
-    }
-    byte_at(s, i) * 16777216
-        + byte_at(s, i + 1) * 65536
-        + byte_at(s, i + 2) * 256
-        + byte_at(s, i + 3)
+    wide(s[i]) * 16777216 + wide(s[i + 1]) * 65536 + wide(s[i + 2]) * 256 + wide(s[i + 3])
 }
 
-// The first of the four bytes, of n, that a field of up to 16 bits is read from: the byte in which it starts, or the fourth
-// from the end where that comes first.
+// The first four bytes as a number; past the end stands 0.
+fn first_bytes(s: &[u8]) -> usize
+    ensures { λ r. ⌜ (r ≡ number 32 (unpacked (now (s .entry)))) × (r < 2 ^ 32) ⌝ }
+{
+    byte_at(s, 0) * 16777216 + byte_at(s, 1) * 65536 + byte_at(s, 2) * 256 + byte_at(s, 3)
+}
+
+// The first of the four bytes in which a field lies: the field's own first byte, or the fourth from the end where that comes
+// first. There are n bytes.
 fn start_of(n: usize, at: usize) -> usize
+    requires { ⌜ 4 ≤ n ⌝ }
     ensures { λ r. ⌜ r ≡ min (at / 8) (n - 4) ⌝ }
 {
     let first = at / 8;
-    let last = if 4 <= n { n - 4 } else { 0 };
+    let last = n - 4;
     if first < last { first } else { last }
 }
 
@@ -261,22 +260,41 @@ pub struct Field {
     pub next: BitCursor,
 }
 
+// The field of k bits that has so many bits behind it in four bytes, and the cursor at its end.
+fn cut(held: usize, behind: usize, k: usize, end: usize) -> Field
+    requires { ⌜ (k ≤ 16) × (behind ≤ 32) ⌝ }
+    ensures { λ r. ⌜ (r .value ≡ held / 2 ^ behind % 2 ^ k) × (r .next .at ≡ end) ⌝ }
+{
+    let value = (held >> behind) % power(k);
+    Field {
+        value: value as u16,
+        next: BitCursor { at: end },
+    }
+}
+
 impl BitCursor {
-    // The next k bits of packed bytes as a number, and the cursor after them.
-    pub fn take(self, s: &[u8], k: usize) -> Field
-        requires { ⌜ (k ≤ 16) × ((length (now s) ≤ 4096) × (self .at + k ≤ length (now s) * 8)) ⌝ }
+    // The next k bits of packed bytes, at least four bytes, as a number, and the cursor after them.
+    pub fn take_long(self, s: &[u8], k: usize) -> Field
+        requires { ⌜ ((k ≤ 16) × (4 ≤ length (now s))) × ((length (now s) ≤ 4096) × (self .at + k ≤ length (now s) * 8)) ⌝ }
         ensures { λ r. ⌜ (r .value ≡ number k (drop (self .at) (unpacked (now (s .entry)))))
             × (r .next .at ≡ self .at + k) ⌝ }
     {
         let at = self.at;
         let end = at + k;
         let i = start_of(s.len(), at);
-        let held = four_bytes(s, i);
-        let behind = (i + 4) * 8 - end;
-        let value = (held >> behind) % power(k);
-        Field {
-            value: value as u16,
-            next: BitCursor { at: end },
+        cut(four_bytes(s, i), (i + 4) * 8 - end, k, end)
+    }
+
+    // The same of any packed bytes.
+    pub fn take(self, s: &[u8], k: usize) -> Field
+        requires { ⌜ (k ≤ 16) × ((length (now s) ≤ 4096) × (self .at + k ≤ length (now s) * 8)) ⌝ }
+        ensures { λ r. ⌜ (r .value ≡ number k (drop (self .at) (unpacked (now (s .entry)))))
+            × (r .next .at ≡ self .at + k) ⌝ }
+    {
+        if 4 <= s.len() {
+            return self.take_long(s, k);
         }
+        let end = self.at + k;
+        cut(first_bytes(s), 32 - end, k, end)
     }
 }

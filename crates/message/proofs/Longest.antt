@@ -66,6 +66,7 @@ message-high l e = omega (arith, fields-high l e)
 -- what stands after the head of a message that is as long as it should be
 pub record Rest (l : Layout) (s : List ℕ) : Type 0 where
   pub long : 9 ≤ length s
+  pub whole : length s ≡ 9 + length (drop 9 s)
   pub bytes : length (drop 9 s) ≡ bytesFor (fieldsLength l)
   pub few : length (drop 9 s) ≤ 145
   pub bits : fieldsLength l ≤ length (drop 9 s) * 8
@@ -84,6 +85,7 @@ after-head l s e n =
     let z : Sizes l = sizes l (legal-bounds l e) in
     record {
       long = omega arith;
+      whole = omega arith;
       bytes = omega arith;
       few = omega arith;
       bits = omega arith;

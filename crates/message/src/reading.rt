@@ -9,7 +9,7 @@ ghost use mathlib.Core.Bool.{true, _||_};
 ghost use mathlib.Core.List.{_++_};
 ghost use Prim.Native.Nat.{_+_, _*_, _≤_};
 ghost use lib.ListN.{length, take, drop};
-ghost use Rattle.bits.specs.Bits.{longest, unpack as unpacked, blank};
+ghost use Rattle.bits.specs.Bits.{unpack as unpacked, blank};
 ghost use Rattle.message.specs.Layout.{layout, legal as isLegal, blockBits, stringBits};
 ghost use Rattle.message.specs.Message.{fieldsLength, messageBytes};
 ghost use Rattle.message.specs.Read.{marked as isMarked, versionOne, layoutOf, fields, body, readBlockSums, readStringSums, readChecks, someAbove, messageRefusal, readRefusal, readOf, layoutAnswer, readTarget};
@@ -47,15 +47,18 @@ fn version_one(s: &[u8]) -> bool
     true
 }
 
-// Whether one of n fields of k bits, the first at bit at of packed bytes, is above a limit.
+// The bits of the head of a message.
+const HEAD_BITS: usize = 72;
+
+// Whether one of n fields of k bits, the first at bit at of packed bytes, at least four, is above a limit.
 fn some_above(s: &[u8], at: usize, n: usize, k: usize, limit: usize) -> bool
-    requires { ⌜ (k ≤ 16) × ((length (now s) ≤ 4096) × (at + n * k ≤ length (now s) * 8)) ⌝ }
+    requires { ⌜ ((k ≤ 16) × (4 ≤ length (now s))) × ((length (now s) ≤ 4096) × (at + n * k ≤ length (now s) * 8)) ⌝ }
     ensures { λ r. ⌜ r ≡ someAbove limit (fields n k (drop at (unpacked (now (s .entry))))) ⌝ }
 {
     let mut c = BitCursor { at };
     let mut i: usize = 0;
     while i < n {
-        let field = c.take(s, k);
+        let field = c.take_long(s, k);
         let value = field.value as usize;
         if limit < value {
             return true;
@@ -73,13 +76,12 @@ fn sum_high(l1: usize, l2: usize, nc: usize, r: usize, s: &[u8]) -> bool
     ensures { λ b. ⌜ b ≡ (someAbove (blockBits (layout l1 l2 nc r)) (readBlockSums (layout l1 l2 nc r) (now (s .entry)))
         || someAbove (stringBits (layout l1 l2 nc r)) (readStringSums (layout l1 l2 nc r) (now (s .entry)))) ⌝ }
 {
-    let rest = &s[9..];
     let block = layouts::width(l2 * nc);
-    if some_above(rest, 0, l1, block, l2 * nc) {
+    if some_above(s, HEAD_BITS, l1, block, l2 * nc) {
         return true;
     }
     let string = layouts::width(nc * l1);
-    some_above(rest, l1 * block, l2, string, nc * l1)
+    some_above(s, HEAD_BITS + l1 * block, l2, string, nc * l1)
 }
 
 // Whether no spare bit of a message is 1.
@@ -131,9 +133,9 @@ pub fn check(s: &[u8]) -> Read
     )
 }
 
-// n fields of k bits, the first at bit at of packed bytes, written to a slice from an entry on.
+// n fields of k bits, the first at bit at of packed bytes, at least four, written to a slice from an entry on.
 fn read_fields(s: &[u8], at: usize, n: usize, k: usize, out: &mut [u16], from: usize)
-    requires { ⌜ (k ≤ 16)
+    requires { ⌜ ((k ≤ 16) × (4 ≤ length (now s)))
         × ((length (now s) ≤ 4096) × ((at + n * k ≤ length (now s) * 8) × (from + n ≤ length (now out)))) ⌝ }
     ensures { λ _. ⌜ now (out .exit)
         ≡ take from (now (out .entry)) ++ fields n k (drop at (unpacked (now (s .entry))))
@@ -142,7 +144,7 @@ fn read_fields(s: &[u8], at: usize, n: usize, k: usize, out: &mut [u16], from: u
     let mut c = BitCursor { at };
     let mut i: usize = 0;
     while i < n {
-        let field = c.take(s, k);
+        let field = c.take_long(s, k);
         out[from + i] = field.value;
         let next = field.next;
         c = next;
@@ -158,14 +160,13 @@ fn read_numbers(l1: usize, l2: usize, nc: usize, r: usize, s: &[u8], out: &mut [
         ≡ readBlockSums (layout l1 l2 nc r) (now (s .entry)) ++ readStringSums (layout l1 l2 nc r) (now (s .entry))
         ++ readChecks (layout l1 l2 nc r) (now (s .entry)) ++ drop (l1 + l2 + r) (now (out .entry)) ⌝ }
 {
-    let rest = &s[9..];
     let block = layouts::width(l2 * nc);
     let string = layouts::width(nc * l1);
-    let strings = l1 * block;
+    let strings = HEAD_BITS + l1 * block;
     let checks = strings + l2 * string;
-    read_fields(rest, 0, l1, block, out, 0);
-    read_fields(rest, strings, l2, string, out, l1);
-    read_fields(rest, checks, r, nc, out, l1 + l2);
+    read_fields(s, HEAD_BITS, l1, block, out, 0);
+    read_fields(s, strings, l2, string, out, l1);
+    read_fields(s, checks, r, nc, out, l1 + l2);
 }
 
 // Reads a message: answers its layout, and writes its numbers to the start of a slice.

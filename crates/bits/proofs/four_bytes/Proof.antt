@@ -1,6 +1,6 @@
 -- `bits::four_bytes` meets its contract: the bits of four bytes spell them. Assumes nothing.
 use borrow.Author.Needs.{needs}
-use Prim.Native.Nat.{ℕ, _+_, _*_, _^_, _<_}
+use Prim.Native.Nat.{ℕ, _+_, _*_, _<_}
 use mathlib.Core.Path.{_≡_}
 use mathlib.Core.List.{List}
 use native.Mathlib.Omega.{arith}
@@ -23,7 +23,7 @@ four c = number-four (c .before .args .s .now) (bytes-of-each (c .before .args .
 
 -- what is known at the start, seen from the second, the third and the fourth byte
 abbrev second : tie.After-wide2 → tie.After-shared-slice-known
-second c = c .before .before .before .before .before
+second c = c .before .before .before .before
 
 abbrev third : tie.After-wide3 → tie.After-shared-slice-known
 third c = second (c .before .before)
@@ -39,7 +39,7 @@ wide-requires c κs = search needs
 
 mul-result : tie.Need-mul-result
 mul-result c =
-    let k = c .before .before .before in
+    let k = c .before .before in
     record { fits = omega (arith, low k (k .before .args .i)) }
 
 add-wide : tie.Need-add-wide
@@ -99,48 +99,6 @@ returns c =
     let i : ℕ = k .before .args .i in
     (omega (arith, four k), omega (arith, low k i, low k (i + 1), low k (i + 2), low k (i + 3)))
 
-byte-at-requires : tie.Need-byte-at-requires
-byte-at-requires c κs = search needs
-
-mul-result-4 : tie.Need-mul-result-4
-mul-result-4 c = search needs
-
-add-byte-at : tie.Need-add-byte-at
-add-byte-at c = search needs
-
-byte-at-requires-2 : tie.Need-byte-at-requires-2
-byte-at-requires-2 c κs = search needs
-
-mul-result-5 : tie.Need-mul-result-5
-mul-result-5 c = search needs
-
-add-result-4 : tie.Need-add-result-4
-add-result-4 c = search needs
-
-add-byte-at-2 : tie.Need-add-byte-at-2
-add-byte-at-2 c = search needs
-
-byte-at-requires-3 : tie.Need-byte-at-requires-3
-byte-at-requires-3 c κs = search needs
-
-mul-result-6 : tie.Need-mul-result-6
-mul-result-6 c = search needs
-
-add-result-5 : tie.Need-add-result-5
-add-result-5 c = search needs
-
-add-byte-at-3 : tie.Need-add-byte-at-3
-add-byte-at-3 c = search needs
-
-byte-at-requires-4 : tie.Need-byte-at-requires-4
-byte-at-requires-4 c κs = search needs
-
-add-result-6 : tie.Need-add-result-6
-add-result-6 c = search needs
-
-returns-2 : tie.Need-returns-2
-returns-2 c = (omega (arith, four (c .before .before .before .before .before)), omega arith)
-
 pub four-bytes-spec : {M : Type 1} → statement M
 four-bytes-spec =
     tie.close
@@ -162,18 +120,4 @@ four-bytes-spec =
     shared-slice-read-wide-4
     wide-requires-4
     add-result-3
-    returns
-    byte-at-requires
-    mul-result-4
-    add-byte-at
-    byte-at-requires-2
-    mul-result-5
-    add-result-4
-    add-byte-at-2
-    byte-at-requires-3
-    mul-result-6
-    add-result-5
-    add-byte-at-3
-    byte-at-requires-4
-    add-result-6
-    returns-2)
+    returns)

@@ -1,5 +1,4 @@
 -- `field::eights` meets its contract: the size of the field is a multiple of 8. Assumes nothing.
-use borrow.Author.Needs.{needs}
 use native.Mathlib.Omega.{arith}
 use Rattle.field.proofs.Double.{size-high, size-eights}
 use Rattle.field.proofs.eights.Statement.{statement}

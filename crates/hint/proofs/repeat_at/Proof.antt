@@ -1,8 +1,7 @@
 -- `hint::repeat_at` meets its contract. The loop's invariant: the row in hand stays one of bits. Assumes nothing.
 use borrow.Author.Needs.{needs}
-use Prim.Native.Nat.{_-_, _≤_}
+use Prim.Native.Nat.{_-_}
 use mathlib.Core.Path.{_≡_, _∙_}
-use native.Mathlib.Omega.{arith}
 use lib.ListN.{length, length-set}
 use Rattle.bits.specs.Bits.{AllBits}
 use Rattle.hint.proofs.Strings.{bits-set}

@@ -21,21 +21,21 @@ abbrev μ-loop : tie.MeasureT-loop
 μ-loop s at n k out₀ from c₀ i₀ out c i = n - i
 
 -- the value that the cursor reads is the next field
-value-is : (c : tie.After-take Inv-loop μ-loop) →
+value-is : (c : tie.After-take-long Inv-loop μ-loop) →
     let a = c .before .before .before .before .before .args in
-    c .take .result .value ≡ getD (fields (a .n) (a .k) (drop (a .at) (unpack (a .s .now)))) (c .before .before .loop .i) 0
+    c .take-long .result .value ≡ getD (fields (a .n) (a .k) (drop (a .at) (unpack (a .s .now)))) (c .before .before .loop .i) 0
 value-is c =
     let a = c .before .before .before .before .before .args in
     let p = c .before .before .loop in
-    c .take .ensures .0 ∙ ap (λ (m : ℕ). number (a .k) (drop m (unpack (a .s .now)))) (p .inv .1 .0) ∙ field-value (a .n) (a .k) (a .at) (p .i) (unpack (a .s .now)) (omega arith)
+    c .take-long .ensures .0 ∙ ap (λ (m : ℕ). number (a .k) (drop m (unpack (a .s .now)))) (p .inv .1 .0) ∙ field-value (a .n) (a .k) (a .at) (p .i) (unpack (a .s .now)) (omega arith)
 
 loop-holds : tie.Need-loop-holds Inv-loop μ-loop
 loop-holds c =
     let a = c .before .before .args in
     (search needs, (rw (zero-mul (a .k), add-zero) refl, (refl, paste-zero (a .out .now) (a .from) (fields (a .n) (a .k) (drop (a .at) (unpack (a .s .now)))))))
 
-take-requires : tie.Need-take-requires Inv-loop μ-loop
-take-requires c κs =
+take-long-requires : tie.Need-take-long-requires Inv-loop μ-loop
+take-long-requires c κs =
     let a = c .before .before .before .before .args in
     let p = c .before .loop in
     (search needs, (search needs, omega (arith, p .inv .1 .0, field-room (a .n) (a .k) (p .i) (omega arith))))
@@ -64,7 +64,7 @@ loop-again c =
     let n : length f ≡ a .n = length-fields (a .n) (a .k) (drop (a .at) (unpack (a .s .now))) in (
       omega arith,
       (
-        omega (arith, t .take .ensures .1, p .inv .1 .0, field-step (a .at) (a .k) (p .i)),
+        omega (arith, t .take-long .ensures .1, p .inv .1 .0, field-step (a .at) (a .k) (p .i)),
         (simp length-set (p .inv .1 .1 .0), rw (p .inv .1 .1 .1, value-is t) (paste-next (a .out .now) (a .from) f (p .i) (omega arith) (omega (arith, n)))),
       ),
     )
@@ -88,7 +88,7 @@ read-fields-spec =
     Inv-loop
     μ-loop
     loop-holds
-    take-requires
+    take-long-requires
     add-out
     mul-out
     slice-write-out

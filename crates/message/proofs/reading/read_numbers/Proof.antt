@@ -1,12 +1,10 @@
 -- `message::reading::read_numbers` meets its contract: three parts, one after another. Assumes nothing.
 use borrow.Author.Needs.{needs}
-use Prim.Native.Nat.{_+_, _-_, _*_, _≤_}
+use Prim.Native.Nat.{ℕ, _+_, _*_, _≤_}
 use mathlib.Core.Path.{_≡_, ap, _∙_}
 use mathlib.Core.List.{_++_}
-use native.Mathlib.Nat.{zero-add}
 use native.Mathlib.Omega.{arith}
-use borrow.Rule.Slice.PartAt.{part-to-end}
-use lib.ListN.{length, take, drop}
+use lib.ListN.{length, drop}
 use Rattle.message.specs.Layout.{layout}
 use Rattle.message.specs.Message.{width}
 use Rattle.message.specs.Read.{readBlockSums, readStringSums}
@@ -26,61 +24,64 @@ within c =
     let l : Layout = layout (c .args .l1) (c .args .l2) (c .args .nc) (c .args .r) in
     sizes l (legal-bounds l (c .pre .0))
 
-sub-rest : tie.Need-sub-rest
-sub-rest c = rest (c .before .before) .long
-
-part-rest-start : tie.Need-part-rest-start
-part-rest-start c = rest (c .before .before) .long
-
-part-rest-end : tie.Need-part-rest-end
-part-rest-end c = search needs
-
 mul-width : tie.Need-mul-width
-mul-width c = record { fits = omega (arith, within (c .before .before .before) .block) }
+mul-width c = record { fits = omega (arith, within (c .before .before) .block) }
 
 width-requires : tie.Need-width-requires
-width-requires c κs = within (c .before .before .before) .block
+width-requires c κs = within (c .before .before) .block
 
 -- where the function starts, seen from the first call of `width`
-abbrev start : tie.After-rest → tie.Start
+abbrev start : tie.After-width → tie.Start
 start c = c .before .before .before
 
 mul-width-2 : tie.Need-mul-width-2
-mul-width-2 c = record { fits = omega (arith, within (start (c .before)) .string) }
+mul-width-2 c = record { fits = omega (arith, within (start c) .string) }
 
 width-requires-2 : tie.Need-width-requires-2
-width-requires-2 c κs = within (start (c .before)) .string
+width-requires-2 c κs = within (start c) .string
 
--- the fields lie within the bits after the head, which the code has as a part of the message
+-- the fields lie within the bits of the message
 places : (c : tie.After-width2) →
-    let a = start (c .before .before) .args in
-    (a .l1 * c .before .width .result + a .l2 * c .width2 .result + a .r * a .nc ≤ length (drop 9 (a .s .now)) * 8) × (length (take (length (a .s .now) - 9) (drop 9 (a .s .now))) ≡ length (drop 9 (a .s .now)))
+    let a = start (c .before) .args in
+    72 + (a .l1 * c .before .width .result + a .l2 * c .width2 .result + a .r * a .nc) ≤ length (a .s .now) * 8
 places c =
-    let a = start (c .before .before) in
-    (rw (c .before .width .ensures, c .width2 .ensures) (rest a .all-fields), ap length (part-to-end (a .args .s .now) 9))
+    let a = start (c .before) .args in
+    let t = rest (start (c .before)) in
+    let blocks = ap (λ (k : ℕ). a .l1 * k) (c .before .width .ensures) in
+    let strings = ap (λ (k : ℕ). a .l2 * k) (c .width2 .ensures) in
+    omega (arith, blocks, strings, t .all-fields, t .whole)
+
+-- which are few
+few : (c : tie.After-width2) → length (start (c .before) .args .s .now) ≤ 154
+few c = let t = rest (start (c .before)) in omega (arith, t .few, t .whole)
 
 mul-strings : tie.Need-mul-strings
-mul-strings c = record { fits = omega (arith, places c .0, rest (start (c .before .before)) .few) }
+mul-strings c = record { fits = omega (arith, places c, few c) }
+
+add-strings : tie.Need-add-strings
+add-strings c = record { fits = omega (arith, places c, few c) }
 
 mul-checks : tie.Need-mul-checks
-mul-checks c = record { fits = omega (arith, places c .0, rest (start (c .before .before)) .few) }
+mul-checks c = record { fits = omega (arith, places c, few c) }
 
 add-checks : tie.Need-add-checks
-add-checks c = record { fits = omega (arith, places c .0, rest (start (c .before .before)) .few) }
+add-checks c = record { fits = omega (arith, places c, few c) }
 
 read-fields-requires : tie.Need-read-fields-requires
 read-fields-requires c κs =
-    let s = start (c .before .before .before) in
-    let t = rest s in
-    rw (part-to-end (s .args .s .now) 9, c .before .before .width .ensures, zero-add, zero-add)
-    (omega (arith, t .block-width), (omega (arith, t .few), (t .block-fields, omega (arith, s .pre .1 .1))))
+    let w = c .before in
+    let s = start (w .before) in
+    let t = rest s in (
+      (omega (arith, w .before .width .ensures, t .block-width), omega (arith, t .long)),
+      (omega (arith, few w), (omega (arith, places w), omega (arith, s .pre .1 .1))),
+    )
 
 -- the layout, and the slice after the block sums, after the chunk-string sums, after the checks
 abbrev named : tie.Start → Layout
 named c = layout (c .args .l1) (c .args .l2) (c .args .nc) (c .args .r)
 
 abbrev begun : tie.After-read-fields → tie.Start
-begun c = start (c .before .before .before .before)
+begun c = start (c .before .before .before)
 
 first : (c : tie.After-read-fields) →
     let a = begun c in
@@ -113,9 +114,11 @@ widths c = c .before .before .before .before
 read-fields-requires-2 : tie.Need-read-fields-requires-2
 read-fields-requires-2 c κs =
     let w = widths (c .before) in
-    let q = start (w .before .before) in
-    let t = rest q in
-    (omega (arith, w .width2 .ensures, t .string-width), (omega (arith, places w .1, t .few), (omega (arith, places w .0, places w .1), omega (arith, q .pre .1 .1, room-after (c .before .before .before)))))
+    let q = start (w .before) in
+    let t = rest q in (
+      (omega (arith, w .width2 .ensures, t .string-width), omega (arith, t .long)),
+      (omega (arith, few w), (omega (arith, places w), omega (arith, q .pre .1 .1, room-after (c .before .before .before)))),
+    )
 
 add-read-fields : tie.Need-add-read-fields
 add-read-fields c = search needs
@@ -123,9 +126,11 @@ add-read-fields c = search needs
 read-fields-requires-3 : tie.Need-read-fields-requires-3
 read-fields-requires-3 c κs =
     let w = widths (c .before .before .before .before .before) in
-    let q = start (w .before .before) in
-    let t = rest q in
-    (omega (arith, legal-bounds (named q) (q .pre .0) .nc-high), (omega (arith, places w .1, t .few), (omega (arith, places w .0, places w .1), omega (arith, q .pre .1 .1, room-left (c .before .before .before)))))
+    let q = start (w .before) in
+    let t = rest q in (
+      (omega (arith, legal-bounds (named q) (q .pre .0) .nc-high), omega (arith, t .long)),
+      (omega (arith, few w), (omega (arith, places w), omega (arith, q .pre .1 .1, room-left (c .before .before .before)))),
+    )
 
 same-length : tie.Need-same-length
 same-length c = search needs
@@ -142,14 +147,12 @@ pub read-numbers-spec : {M : Type 1} → statement M
 read-numbers-spec =
     tie.close
     (tie.spec
-    sub-rest
-    part-rest-start
-    part-rest-end
     mul-width
     width-requires
     mul-width-2
     width-requires-2
     mul-strings
+    add-strings
     mul-checks
     add-checks
     read-fields-requires

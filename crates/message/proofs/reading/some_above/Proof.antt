@@ -22,19 +22,19 @@ abbrev start : tie.In-loop Inv-loop μ-loop → tie.Start Inv-loop μ-loop
 start c = c .before .before .before
 
 -- the value that the cursor reads is the next field
-value-is : (c : tie.After-take Inv-loop μ-loop) →
+value-is : (c : tie.After-take-long Inv-loop μ-loop) →
     let a = start (c .before) .args in
-    c .take .result .value ≡ getD (fields (a .n) (a .k) (drop (a .at) (unpack (a .s .now)))) (c .before .before .loop .i) 0
+    c .take-long .result .value ≡ getD (fields (a .n) (a .k) (drop (a .at) (unpack (a .s .now)))) (c .before .before .loop .i) 0
 value-is c =
     let a = start (c .before) .args in
     let p = c .before .before .loop in
-    c .take .ensures .0 ∙ ap (λ (m : ℕ). number (a .k) (drop m (unpack (a .s .now)))) (p .inv .1 .0) ∙ field-value (a .n) (a .k) (a .at) (p .i) (unpack (a .s .now)) (omega arith)
+    c .take-long .ensures .0 ∙ ap (λ (m : ℕ). number (a .k) (drop m (unpack (a .s .now)))) (p .inv .1 .0) ∙ field-value (a .n) (a .k) (a .at) (p .i) (unpack (a .s .now)) (omega arith)
 
 loop-holds : tie.Need-loop-holds Inv-loop μ-loop
 loop-holds c = search needs
 
-take-requires : tie.Need-take-requires Inv-loop μ-loop
-take-requires c κs =
+take-long-requires : tie.Need-take-long-requires Inv-loop μ-loop
+take-long-requires c κs =
     let a = c .before .before .before .args in
     let p = c .before .loop in
     (search needs, (search needs, omega (arith, p .inv .1 .0, field-room (a .n) (a .k) (p .i) (omega arith))))
@@ -64,7 +64,7 @@ loop-again c =
     let p = t .before .before .loop in
     let f : List ℕ = fields (a .n) (a .k) (drop (a .at) (unpack (a .s .now))) in
     let n : length f ≡ a .n = length-fields (a .n) (a .k) (drop (a .at) (unpack (a .s .now))) in
-    (omega arith, (omega (arith, t .take .ensures .1, p .inv .1 .0, field-step (a .at) (a .k) (p .i)), above-next (a .limit) f (p .i) (omega (arith, n)) (omega (arith, c .before .if1 .left, value-is t)) ∙ p .inv .1 .1))
+    (omega arith, (omega (arith, t .take-long .ensures .1, p .inv .1 .0, field-step (a .at) (a .k) (p .i)), above-next (a .limit) f (p .i) (omega (arith, n)) (omega (arith, c .before .if1 .left, value-is t)) ∙ p .inv .1 .1))
 
 returns-2 : tie.Need-returns-2 Inv-loop μ-loop
 returns-2 c =
@@ -80,7 +80,7 @@ some-above-spec =
     Inv-loop
     μ-loop
     loop-holds
-    take-requires
+    take-long-requires
     cast-value
     returns
     add-i
