@@ -7,6 +7,8 @@
 
 mod crc;
 mod cursor;
+#[cfg(test)]
+mod damage;
 mod fault;
 mod messages;
 mod received;
