@@ -59,6 +59,8 @@ fn bad_usage_is_status_2() {
         "list film.rsm film.rx",
         "list film.rsm film.rx -o x.pbm --patience -1",
         "list film.rsm film.rx -o x.pbm --jobs many",
+        "list film.rsm film.rx -o x.pbm --jobs 0",
+        "list film.rsm film.rx -o x.pbm --jobs 257",
         "plot film.pbm film.rx film.pbm",
         "soak --most 13",
     ] {
