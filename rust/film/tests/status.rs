@@ -43,6 +43,20 @@ fn refused_rows_are_status_1() {
     assert_eq!(film, format!("P4\n60 2\n{}", "\0".repeat(16)));
 }
 
+/// A row that is refused by 9, since its list is too long, is left white too; the text of the lists has the first of its
+/// rows.
+#[test]
+fn rows_with_too_long_lists_are_left_white() {
+    let folder = folder("too-long");
+    fs::write(folder.join("film.pbm"), [&b"P4\n2040 1\n"[..], &[0xFF; 255]].concat()).unwrap();
+    ends(0, &folder, "write film.pbm --layout 15,17,8,0 -o film.rsm");
+    ends(0, &folder, "drop film.pbm --layout 15,17,8,0 --burst 4 -o film.rx");
+    let report = ends(1, &folder, "list film.rsm film.rx --lists lists.txt -o out.pbm");
+    assert!(report.contains("not listed         1 (refused by 9: 1)\n"), "{report}");
+    assert_eq!(fs::read_to_string(folder.join("lists.txt")).unwrap().lines().count(), 1 + 65_536 / 255);
+    assert_eq!(fs::read(folder.join("out.pbm")).unwrap(), [&b"P4\n2040 1\n"[..], &[0; 255]].concat());
+}
+
 #[test]
 fn bad_usage_is_status_2() {
     let folder = case_8("usage");

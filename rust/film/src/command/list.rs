@@ -91,17 +91,22 @@ impl Done<'_> {
         rows.chunks_exact(row_bytes(&self.messages.messages[row]))
     }
 
-    /// The film with the only row of each list, or the first.
+    /// Is there a list of this row that was not refused?
+    fn listed(&self, row: usize) -> bool {
+        matches!(&self.outcomes[row].answer, Ok(answer) if answer.refusal == 0)
+    }
+
+    /// The film with the only row of each list, or the first; white where the list was refused.
     fn film(&self) -> picture::Film {
-        let firsts: Vec<Option<&[u8]>> = (0..self.outcomes.len()).map(|row| self.rows(row).next()).collect();
+        let first = |row| self.rows(row).next().filter(|_| self.listed(row));
+        let firsts: Vec<Option<&[u8]>> = (0..self.outcomes.len()).map(first).collect();
         cut::join(&self.messages.head, &firsts)
     }
 
     /// How many lists that were not refused lack the row that was sent, where that is known.
     fn missing(&self) -> Option<usize> {
-        let answered = |row: &usize| matches!(&self.outcomes[*row].answer, Ok(answer) if answer.refusal == 0);
-        let lacks = |row: &usize| self.sent.map_or(false, |sent| !self.rows(*row).any(|found| found == sent[*row]));
-        self.sent.map(|_| (0..self.outcomes.len()).filter(answered).filter(lacks).count())
+        let lacks = |sent: &[Vec<u8>], row: usize| self.listed(row) && !self.rows(row).any(|found| found == sent[row]);
+        self.sent.map(|sent| (0..self.outcomes.len()).filter(|row| lacks(sent, *row)).count())
     }
 
     fn lost(&self, row: usize) -> usize {
