@@ -102,6 +102,8 @@ fn files_that_do_not_go_together_are_status_2() {
     assert!(refused(&folder, "check film.pbm other.pbm").contains("8 × 2"));
     assert!(refused(&folder, "check other.pbm film.rsm").contains("8 × 1"));
     assert!(refused(&folder, "plot other.pbm film.rx other.pbm -o x.png").contains("but 1 arrived"));
+    fs::write(folder.join("tall.pbm"), [&b"P4\n1 2100000\n"[..], &[0; 2_100_000]].concat()).unwrap();
+    assert!(refused(&folder, "plot tall.pbm film.rx tall.pbm -o x.png").contains("88 × 16800052 pixels"));
 }
 
 #[test]
