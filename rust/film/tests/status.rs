@@ -3,6 +3,7 @@
 mod common;
 
 use std::fs;
+use std::os::unix::fs::symlink;
 
 use common::{ends, film, film_with, folder, refused, text};
 
@@ -104,6 +105,40 @@ fn files_that_do_not_go_together_are_status_2() {
     assert!(refused(&folder, "plot other.pbm film.rx other.pbm -o x.png").contains("but 1 arrived"));
     fs::write(folder.join("tall.pbm"), [&b"P4\n1 2100000\n"[..], &[0; 2_100_000]].concat()).unwrap();
     assert!(refused(&folder, "plot tall.pbm film.rx tall.pbm -o x.png").contains("88 × 16800052 pixels"));
+}
+
+/// An output that is another one or an input is refused, however it is spelled, and every file stays as it was.
+#[test]
+fn outputs_that_would_replace_a_file_are_status_2() {
+    let folder = case_8("apart");
+    ends(1, &folder, "list film.rsm film.rx -o out.pbm");
+    symlink("film.rsm", folder.join("link.rsm")).unwrap();
+    symlink("none.txt", folder.join("nowhere")).unwrap();
+    let all = || ["film.pbm", "film.rsm", "film.rx", "out.pbm"].map(|name| fs::read(folder.join(name)).unwrap());
+    let before = all();
+    for words in [
+        "list film.rsm film.rx -o - --lists -",
+        "list film.rsm film.rx -o same --lists same",
+        "list film.rsm film.rx -o same --lists ../apart/same",
+        "list film.rsm film.rx -o nowhere --lists none.txt",
+        "plot film.pbm film.rx out.pbm -o same.png -o ./same.png",
+    ] {
+        assert!(refused(&folder, words).contains("two outputs cannot go to the same file"));
+    }
+    for words in [
+        "write film.pbm -o film.pbm",
+        "drop film.pbm --burst 1 -o ./film.pbm",
+        "list film.rsm film.rx -o film.rx",
+        "list film.rsm film.rx -o link.rsm",
+        "list film.rsm film.rx -o new.pbm --lists film.rsm",
+        "list film.rsm film.rx --sent film.pbm -o film.pbm",
+        "plot film.pbm film.rx out.pbm -o out.pbm",
+    ] {
+        assert!(refused(&folder, words).contains("an output cannot replace an input"));
+    }
+    assert!(all() == before);
+    assert!(["same", "same.png", "new.pbm", "none.txt"].iter().all(|name| !folder.join(name).exists()));
+    ends(1, &folder, "list film.rsm film.rx -o /dev/null --lists /dev/null");
 }
 
 #[test]

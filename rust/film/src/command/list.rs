@@ -1,7 +1,7 @@
 //! `film list`: every row that can have been sent.
 
 use std::fmt::Write as _;
-use std::path::Path;
+use std::path::{Path, PathBuf};
 use std::time::Instant;
 
 use container::{Messages, Received};
@@ -20,7 +20,11 @@ const NAMED: usize = 20;
 
 pub fn run(args: &List) -> Result<bool> {
     let sent: Option<&Path> = args.sent.as_deref();
-    files::once(&[&args.messages, &args.received, sent.unwrap_or_else(|| Path::new(""))])?;
+    let inputs: Vec<&Path> = [&args.messages, &args.received].into_iter().map(PathBuf::as_path).chain(sent).collect();
+    let outputs: Vec<&Path> =
+        [Some(&args.output), args.lists.as_ref()].into_iter().flatten().map(PathBuf::as_path).collect();
+    files::once(&inputs)?;
+    files::apart(&inputs, &outputs)?;
     let messages = read_messages(&args.messages)?;
     let received = read_received(&args.received)?;
     fit(&messages, &received)?;
@@ -41,8 +45,7 @@ pub fn run(args: &List) -> Result<bool> {
         files::write(path, done.lists().as_bytes())?;
     }
     files::write(&args.output, &picture::encode(&done.film()))?;
-    let outputs = [Some(&args.output), args.lists.as_ref()];
-    let output = outputs.into_iter().flatten().find(|path| files::is_standard(path)).map(|path| path.as_path());
+    let output = outputs.into_iter().find(|path| files::is_standard(path));
     match (args.say.json, args.say.quiet) {
         (true, _) => files::say(&format!("{}\n", done.json(&tally)), output)?,
         (false, false) => files::say(&done.text(&tally), output)?,

@@ -1,6 +1,6 @@
 //! `film plot`: what was sent, what arrived and what was recovered, side by side.
 
-use std::path::Path;
+use std::path::{Path, PathBuf};
 
 use container::Received;
 use plotters::prelude::*;
@@ -28,7 +28,10 @@ const HEADING: u32 = 36;
 const MOST_PIXELS: usize = (1 << 30) / 3;
 
 pub fn run(args: &Plot) -> Result<bool> {
-    files::once(&[&args.sent, &args.received, &args.recovered])?;
+    let inputs: [&Path; 3] = [&args.sent, &args.received, &args.recovered];
+    let outputs: Vec<&Path> = args.output.iter().map(PathBuf::as_path).collect();
+    files::once(&inputs)?;
+    files::apart(&inputs, &outputs)?;
     let sent = read_film(&args.sent)?;
     let received = read_received(&args.received)?;
     let recovered = read_film(&args.recovered)?;
