@@ -205,7 +205,7 @@ pub struct Work {
 
 #[derive(clap::Args)]
 pub struct Say {
-    /// Say nothing but what is wrong
+    /// Say nothing but errors; the exit status tells what came out
     #[arg(short, long)]
     pub quiet: bool,
     /// Report as JSON

@@ -31,6 +31,28 @@ fn several_rows_are_status_1() {
     assert!(report.contains("\"open\":[{\"row\":0,\"panel\":0,\"lost\":2,\"outcome\":\"count 2\"}]"), "{report}");
 }
 
+/// With `--quiet` the status alone says that rows are open or differ; errors are still said.
+#[test]
+fn quiet_commands_say_errors_only() {
+    let folder = case_8("quiet");
+    fs::write(folder.join("other.pbm"), "P1\n8 1\n1 0 1 1 0 1 1 0\n").unwrap();
+    for (status, words) in [
+        (1, "list film.rsm film.rx --sent film.pbm --quiet -o out.pbm"),
+        (1, "list film.rsm film.rx --sent other.pbm --quiet -o out.pbm"),
+        (0, "check film.pbm out.pbm --quiet"),
+        (1, "check film.pbm other.pbm --quiet"),
+        (1, "check other.pbm film.rsm --quiet"),
+    ] {
+        let output = film(&folder, words);
+        assert_eq!(
+            (output.status.code(), output.stdout, output.stderr),
+            (Some(status), vec![], vec![]),
+            "film {words}"
+        );
+    }
+    assert!(refused(&folder, "check film.pbm none.pbm --quiet").contains("none.pbm: "));
+}
+
 /// Rows that lost more than 12 bits are refused by 7 and left white.
 #[test]
 fn refused_rows_are_status_1() {
