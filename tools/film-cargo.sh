@@ -9,7 +9,7 @@ debian=/usr/share/cargo/registry
 # Is a version of each crate that is asked for there?
 have_packages() {
     local crate
-    for crate in clap-4 clap_derive-4 image-0.24 indicatif-0.17 plotters-0.3 rayon-1; do
+    for crate in clap-4 clap_derive-4 image-0.24 indicatif-0.17 plotters-0.3 png-0.17 rayon-1; do
         compgen -G "$debian/$crate.*" >/dev/null || return 1
     done
 }
@@ -20,9 +20,10 @@ from=()
 if have_packages; then
     from=(--offline --config 'source.crates-io.replace-with="debian"' --config "source.debian.directory=\"$debian\"")
 fi
-cargo "$command" --manifest-path "$top/rust/film/Cargo.toml" --target-dir "$top/rust/film/target" "${from[@]}" "$@" && exit
+manifest=$top/rust/film/Cargo.toml
+cargo "$command" --manifest-path "$manifest" --target-dir "$top/rust/film/target" "${from[@]}" "$@" && exit
 status=$?
-if [ "${#from[@]}" -eq 0 ]; then
+if [ "${#from[@]}" -eq 0 ] && ! cargo fetch --quiet --manifest-path "$manifest" 2>/dev/null; then
     echo "Where the Rust registry cannot be reached, Debian's packages serve: apt-get install $("$top/tools/packages.sh" crates)" >&2
 fi
 exit "$status"

@@ -1,7 +1,7 @@
 #!/usr/bin/env bash
 # Builds everything that is to be used elsewhere and puts it under a prefix: tools/install.sh PREFIX [DESTDIR]. DESTDIR stands in front
 # of the prefix while files are put in place, and is no part of what they say.
-set -eu
+set -euo pipefail
 
 cd "$(dirname "${BASH_SOURCE[0]}")/.."
 prefix=$1

@@ -11,7 +11,8 @@ Prints a line with the word count and the number of rows, then each row on a lin
 dictionary order. Where the input is refused, prints one line, the word refused and the number of the refusal. It lists at most
 as many rows as 4,096 bytes hold; where there are more, it is refused by 9.
 
-The program is proved, as the library is: it ends, and prints what is written here, for any input.
+What it puts out for the bytes that it has read is proved to be what is written here, as the library is proved, for any
+bytes. Reading and writing themselves rest on the C library's read and write, of which it is assumed that they do their part.
 
 Example:
   printf '\000\013RSM\000\001\002\001\004\000\100\200\000\006\074' | rowlist

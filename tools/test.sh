@@ -67,13 +67,11 @@ count_step() {
 }
 
 count_proofs
-if [ -f rust/Cargo.toml ]; then
-    run rt staticlib dairyhour || broke "the static library could not be built"
-    # The program that the proofs were compiled to, for the tests that run it.
-    ROWLIST="$PWD/target/bin/rowlist"
-    export ROWLIST
-    count_rust_tests cargo test --manifest-path rust/Cargo.toml --release --offline --locked --no-fail-fast --color never
-    count_rust_tests tools/film-cargo.sh test --release --workspace --no-fail-fast --color never
-    count_step tools/test-install.sh
-fi
+run rt staticlib dairyhour || broke "the static library could not be built"
+# The program that the proofs were compiled to, for the tests that run it.
+ROWLIST="$PWD/target/bin/rowlist"
+export ROWLIST
+count_rust_tests cargo test --manifest-path rust/Cargo.toml --release --offline --locked --no-fail-fast --color never
+count_rust_tests tools/film-cargo.sh test --release --workspace --no-fail-fast --color never
+count_step tools/test-install.sh
 finish

@@ -54,10 +54,14 @@ impl Stored {
         self.cells.iter().find(|cell| cell.key == *key)
     }
 
+    /// A cell as it was timed again, where that has more trials.
+    fn oftener(&self, cell: &Cell) -> Option<&Cell> {
+        self.again.iter().find(|again| again.key == cell.key && again.trials > cell.trials)
+    }
+
     /// The cells that targets are judged by: each as it was timed most often.
     fn judged(&self) -> Vec<Cell> {
-        let oftener = |cell: &Cell| self.again.iter().find(|again| again.key == cell.key && again.trials > cell.trials);
-        self.cells.iter().map(|cell| oftener(cell).unwrap_or(cell).clone()).collect()
+        self.cells.iter().map(|cell| self.oftener(cell).unwrap_or(cell).clone()).collect()
     }
 }
 
@@ -144,8 +148,8 @@ fn targets(now: &Stored) -> String {
     let words = format!(
         "Each target is judged by the worst of the cells that it speaks of, which is named. \"So far\" stands where some of them have too few trials:
 fewer than {FOR_P99} for p99, {FOR_STEPS} of the steps, {FOR_ANY} else. Where no kind of rows is named, all are meant. Of {again} cells there are more trials
-in `{AGAIN}/lists.tsv` beside the other figures, timed by themselves; targets are judged by these, the tables below are not.",
-        again = now.again.len()
+in `{AGAIN}/lists.tsv` beside the other figures, timed by themselves; targets judge these cells by those trials, the tables below do not have them.",
+        again = now.cells.iter().filter(|cell| now.oftener(cell).is_some()).count()
     );
     format!("## Targets\n\n{words}\n\n{}", table(&["target", "measured", "met"], &lines))
 }

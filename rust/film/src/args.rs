@@ -192,9 +192,9 @@ pub struct Soak {
 
 #[derive(clap::Args)]
 pub struct Work {
-    /// Threads (default: one for each processor)
-    #[arg(long, value_name = "N", default_value_t = 0, hide_default_value = true)]
-    pub jobs: usize,
+    /// Threads, 1 to 256 (default: one for each processor)
+    #[arg(long, value_name = "N", value_parser = clap::value_parser!(u16).range(1..=256))]
+    pub jobs: Option<u16>,
     /// A row that takes longer is given up and reported; its work is stopped. 0: without limit
     #[arg(long, value_name = "SECONDS", default_value_t = 60.0, value_parser = seconds)]
     pub patience: f64,
@@ -205,7 +205,7 @@ pub struct Work {
 
 #[derive(clap::Args)]
 pub struct Say {
-    /// Say nothing but what is wrong
+    /// Say nothing but errors; the exit status tells what came out
     #[arg(short, long)]
     pub quiet: bool,
     /// Report as JSON

@@ -1,7 +1,7 @@
 //! Input and output by name, `-` for standard input and output.
 
 use std::io::{self, Read, Write};
-use std::path::Path;
+use std::path::{Path, PathBuf};
 
 use crate::trouble::{Result, Trouble};
 
@@ -25,6 +25,31 @@ pub fn once(paths: &[&Path]) -> Result<()> {
         0 | 1 => Ok(()),
         _ => Err(Trouble::new("only one of the files can be standard input")),
     }
+}
+
+/// No output may be an input, which it would replace, or another output. Devices and pipes may stand for several.
+pub fn apart(inputs: &[&Path], outputs: &[&Path]) -> Result<()> {
+    let named = inputs.iter().filter(|path| !is_standard(path));
+    let read: Vec<PathBuf> = named.filter_map(|path| file(path).ok()?).collect();
+    let mut written = Vec::new();
+    for path in outputs {
+        let trouble = |what: &str| Trouble::with(path.display(), what);
+        match file(path).map_err(|error| Trouble::with(path.display(), error))? {
+            Some(file) if read.contains(&file) => return Err(trouble("an output cannot replace an input")),
+            Some(file) if written.contains(&file) => return Err(trouble("two outputs cannot go to the same file")),
+            Some(file) => written.push(file),
+            None => {}
+        }
+    }
+    Ok(())
+}
+
+/// The file that a name stands for, if it is one; standard output counts as one.
+fn file(path: &Path) -> io::Result<Option<PathBuf>> {
+    if is_standard(path) {
+        return Ok(Some(path.to_path_buf()));
+    }
+    container::replaced(path)
 }
 
 /// All bytes of a file.

@@ -77,6 +77,7 @@ pub struct Lister {
     patience: Option<Duration>,
     program: PathBuf,
     idle: Mutex<Vec<Worker>>,
+    /// The number of threads; 0: one for each processor.
     jobs: usize,
 }
 
@@ -87,7 +88,7 @@ impl Lister {
             None => env::current_exe().map_err(|error| Trouble::with("the worker", error))?,
         };
         let patience = (work.patience > 0.0).then(|| Duration::from_secs_f64(work.patience));
-        Ok(Lister { patience, program, idle: Mutex::default(), jobs: work.jobs })
+        Ok(Lister { patience, program, idle: Mutex::default(), jobs: work.jobs.map_or(0, usize::from) })
     }
 
     /// Lists one row. An error only where no worker can be started.

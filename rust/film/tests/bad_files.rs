@@ -1,4 +1,5 @@
-//! Bad files are refused: status 2, one line that names the file and the byte, and nothing is written.
+//! Bad files are refused: status 2, one line that names the file, for messages and received rows also the byte, and nothing
+//! is written.
 
 mod common;
 

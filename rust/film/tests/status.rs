@@ -3,6 +3,7 @@
 mod common;
 
 use std::fs;
+use std::os::unix::fs::symlink;
 
 use common::{ends, film, film_with, folder, refused, text};
 
@@ -30,6 +31,28 @@ fn several_rows_are_status_1() {
     assert!(report.contains("\"open\":[{\"row\":0,\"panel\":0,\"lost\":2,\"outcome\":\"count 2\"}]"), "{report}");
 }
 
+/// With `--quiet` the status alone says that rows are open or differ; errors are still said.
+#[test]
+fn quiet_commands_say_errors_only() {
+    let folder = case_8("quiet");
+    fs::write(folder.join("other.pbm"), "P1\n8 1\n1 0 1 1 0 1 1 0\n").unwrap();
+    for (status, words) in [
+        (1, "list film.rsm film.rx --sent film.pbm --quiet -o out.pbm"),
+        (1, "list film.rsm film.rx --sent other.pbm --quiet -o out.pbm"),
+        (0, "check film.pbm out.pbm --quiet"),
+        (1, "check film.pbm other.pbm --quiet"),
+        (1, "check other.pbm film.rsm --quiet"),
+    ] {
+        let output = film(&folder, words);
+        assert_eq!(
+            (output.status.code(), output.stdout, output.stderr),
+            (Some(status), vec![], vec![]),
+            "film {words}"
+        );
+    }
+    assert!(refused(&folder, "check film.pbm none.pbm --quiet").contains("none.pbm: "));
+}
+
 /// Rows that lost more than 12 bits are refused by 7 and left white.
 #[test]
 fn refused_rows_are_status_1() {
@@ -41,6 +64,20 @@ fn refused_rows_are_status_1() {
     assert!(report.contains("not listed         2 (refused by 7: 2)\n"), "{report}");
     let film = text(&fs::read(folder.join("out.pbm")).unwrap());
     assert_eq!(film, format!("P4\n60 2\n{}", "\0".repeat(16)));
+}
+
+/// A row that is refused by 9, since its list is too long, is left white too; the text of the lists has the first of its
+/// rows.
+#[test]
+fn rows_with_too_long_lists_are_left_white() {
+    let folder = folder("too-long");
+    fs::write(folder.join("film.pbm"), [&b"P4\n2040 1\n"[..], &[0xFF; 255]].concat()).unwrap();
+    ends(0, &folder, "write film.pbm --layout 15,17,8,0 -o film.rsm");
+    ends(0, &folder, "drop film.pbm --layout 15,17,8,0 --burst 4 -o film.rx");
+    let report = ends(1, &folder, "list film.rsm film.rx --lists lists.txt -o out.pbm");
+    assert!(report.contains("not listed         1 (refused by 9: 1)\n"), "{report}");
+    assert_eq!(fs::read_to_string(folder.join("lists.txt")).unwrap().lines().count(), 1 + 65_536 / 255);
+    assert_eq!(fs::read(folder.join("out.pbm")).unwrap(), [&b"P4\n2040 1\n"[..], &[0; 255]].concat());
 }
 
 #[test]
@@ -59,6 +96,8 @@ fn bad_usage_is_status_2() {
         "list film.rsm film.rx",
         "list film.rsm film.rx -o x.pbm --patience -1",
         "list film.rsm film.rx -o x.pbm --jobs many",
+        "list film.rsm film.rx -o x.pbm --jobs 0",
+        "list film.rsm film.rx -o x.pbm --jobs 257",
         "plot film.pbm film.rx film.pbm",
         "soak --most 13",
     ] {
@@ -86,6 +125,42 @@ fn files_that_do_not_go_together_are_status_2() {
     assert!(refused(&folder, "check film.pbm other.pbm").contains("8 × 2"));
     assert!(refused(&folder, "check other.pbm film.rsm").contains("8 × 1"));
     assert!(refused(&folder, "plot other.pbm film.rx other.pbm -o x.png").contains("but 1 arrived"));
+    fs::write(folder.join("tall.pbm"), [&b"P4\n1 2100000\n"[..], &[0; 2_100_000]].concat()).unwrap();
+    assert!(refused(&folder, "plot tall.pbm film.rx tall.pbm -o x.png").contains("88 × 16800052 pixels"));
+}
+
+/// An output that is another one or an input is refused, however it is spelled, and every file stays as it was.
+#[test]
+fn outputs_that_would_replace_a_file_are_status_2() {
+    let folder = case_8("apart");
+    ends(1, &folder, "list film.rsm film.rx -o out.pbm");
+    symlink("film.rsm", folder.join("link.rsm")).unwrap();
+    symlink("none.txt", folder.join("nowhere")).unwrap();
+    let all = || ["film.pbm", "film.rsm", "film.rx", "out.pbm"].map(|name| fs::read(folder.join(name)).unwrap());
+    let before = all();
+    for words in [
+        "list film.rsm film.rx -o - --lists -",
+        "list film.rsm film.rx -o same --lists same",
+        "list film.rsm film.rx -o same --lists ../apart/same",
+        "list film.rsm film.rx -o nowhere --lists none.txt",
+        "plot film.pbm film.rx out.pbm -o same.png -o ./same.png",
+    ] {
+        assert!(refused(&folder, words).contains("two outputs cannot go to the same file"));
+    }
+    for words in [
+        "write film.pbm -o film.pbm",
+        "drop film.pbm --burst 1 -o ./film.pbm",
+        "list film.rsm film.rx -o film.rx",
+        "list film.rsm film.rx -o link.rsm",
+        "list film.rsm film.rx -o new.pbm --lists film.rsm",
+        "list film.rsm film.rx --sent film.pbm -o film.pbm",
+        "plot film.pbm film.rx out.pbm -o out.pbm",
+    ] {
+        assert!(refused(&folder, words).contains("an output cannot replace an input"));
+    }
+    assert!(all() == before);
+    assert!(["same", "same.png", "new.pbm", "none.txt"].iter().all(|name| !folder.join(name).exists()));
+    ends(1, &folder, "list film.rsm film.rx -o /dev/null --lists /dev/null");
 }
 
 #[test]

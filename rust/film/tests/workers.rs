@@ -115,19 +115,29 @@ fn a_worker_ends_with_its_input() {
     drop(input);
     assert!(child.wait().unwrap().success());
 
-    // A blank row of 2,040 bits without checks, 12 bits short.
+    // A row of 2,040 ones without checks, 12 bits short: its list takes longer than half a minute.
     let mut child = start_worker();
-    let fields = (15 * 8 + 17 * 7 + 7) / 8;
-    let message = [&[0x52, 0x53, 0x4D, 0, 1, 15, 17, 8, 0][..], &vec![0; fields]].concat();
-    let question = [&[0, message.len() as u8, 7, 0xEC][..], &message, &[0; 254]].concat();
+    let mut message = [0; dairyhour::LONGEST_MESSAGE];
+    let layout = dairyhour::Layout { l1: 15, l2: 17, nc: 8, r: 0 };
+    let length = dairyhour::write(layout, &[0xFF; 255], &mut message).unwrap();
+    let received = [&[0xFF; 253][..], &[0xF0]].concat();
+    let question = [&[0, length as u8, 7, 0xEC][..], &message[..length], &received].concat();
     let mut input = child.stdin.take().unwrap();
-    input.write_all(&question[..question.len() - 1]).unwrap();
+    input.write_all(&question).unwrap();
+    // The worker begins its list.
+    sleep(Duration::from_millis(300));
     drop(input);
     let began = Instant::now();
     while child.try_wait().unwrap().is_none() {
-        assert!(began.elapsed() < Duration::from_secs(30), "the worker goes on");
+        if began.elapsed() > Duration::from_secs(3) {
+            child.kill().unwrap();
+            panic!("the worker goes on");
+        }
         sleep(Duration::from_millis(20));
     }
+    let mut answer = Vec::new();
+    child.stdout.take().unwrap().read_to_end(&mut answer).unwrap();
+    assert!(answer.is_empty(), "the list was done before the input ended");
 }
 
 #[test]

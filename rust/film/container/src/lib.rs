@@ -7,6 +7,8 @@
 
 mod crc;
 mod cursor;
+#[cfg(test)]
+mod damage;
 mod fault;
 mod messages;
 mod received;
@@ -16,7 +18,7 @@ pub use crc::crc32;
 pub use fault::Fault;
 pub use messages::{Head, Messages};
 pub use received::{Received, Row};
-pub use save::save;
+pub use save::{replaced, save};
 
 /// The first four bytes of a file of messages.
 pub const MESSAGES_MARK: [u8; 4] = *b"DHFM";

@@ -165,8 +165,9 @@ fn decode_message(cursor: &mut Cursor<'_>, row: usize, layout: [u8; 4]) -> Resul
 #[cfg(test)]
 mod tests {
     use super::*;
+    use crate::damage;
 
-    /// The example of docs/FORMAT.md: a film of 7 columns and 2 rows under the layout 2, 1, 4, 0.
+    /// An example: a film of 7 columns and 2 rows under the layout 2, 1, 4, 0.
     fn example() -> Messages {
         let message = |low| vec![0x52, 0x53, 0x4D, 0, 1, 2, 1, 4, 0, 0x40, low];
         let head = Head::new(7, 2, [2, 1, 4, 0]).unwrap();
@@ -241,22 +242,10 @@ mod tests {
         }
     }
 
-    /// Every cut, every flipped bit and every added byte is refused.
     #[test]
     fn no_damaged_file_is_read() {
         let file = example().encode();
-        for length in 0..file.len() {
-            assert_eq!(refused(&file[..length]).byte, length);
-        }
-        for place in 0..file.len() {
-            for bit in 0..8 {
-                let mut damaged = file.clone();
-                damaged[place] ^= 1 << bit;
-                refused(&damaged);
-            }
-        }
-        let longer = [&file[..], &[0]].concat();
-        assert_eq!(refused(&longer), Fault::new(file.len(), "the file should end here, but goes on for 1 bytes"));
+        damage::is_refused(&file, refused);
         let mut damaged = file.clone();
         damaged[41] ^= 1;
         assert_eq!(refused(&damaged).byte, file.len() - 4);

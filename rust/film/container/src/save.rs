@@ -1,14 +1,43 @@
 //! Files that are whole or not there.
 
-use std::ffi::OsString;
+use std::ffi::{OsStr, OsString};
 use std::fs::{self, OpenOptions};
 use std::io::{self, Write};
 use std::path::{Path, PathBuf};
 use std::process;
 
 /// Writes a file under a temporary name beside it, and renames it when all of it is on the disk: under `path` stands
-/// either what stood there before or the whole new file, also where the program is killed.
+/// either what stood there before or the whole new file, also where the program is killed. Symbolic links are followed,
+/// and a device or a pipe is written to as it stands.
 pub fn save(path: &Path, bytes: &[u8]) -> io::Result<()> {
+    match replaced(path)? {
+        Some(file) => replace(&file, bytes),
+        None => OpenOptions::new().write(true).open(path)?.write_all(bytes),
+    }
+}
+
+/// The file that [`save`] replaces or makes for a name, as its folder's full name and its own; none where the name stands
+/// for something else than a file, such as a device.
+pub fn replaced(path: &Path) -> io::Result<Option<PathBuf>> {
+    match fs::metadata(path) {
+        Ok(found) if found.is_file() => fs::canonicalize(path).map(Some),
+        Ok(_) => Ok(None),
+        Err(error) if error.kind() == io::ErrorKind::NotFound => new_file(path).map(Some),
+        Err(error) => Err(error),
+    }
+}
+
+/// Where a file is made for a name under which there is none yet: past symbolic links that lead nowhere.
+fn new_file(path: &Path) -> io::Result<PathBuf> {
+    let mut path = path.to_path_buf();
+    while let Ok(link) = fs::read_link(&path) {
+        path.set_file_name(link);
+    }
+    let folder = path.parent().filter(|folder| !folder.as_os_str().is_empty()).unwrap_or_else(|| Path::new("."));
+    Ok(fs::canonicalize(folder)?.join(file_name(&path)?))
+}
+
+fn replace(path: &Path, bytes: &[u8]) -> io::Result<()> {
     let partial = partial_name(path)?;
     let saved = write_whole(&partial, bytes).and_then(|()| fs::rename(&partial, path));
     if saved.is_err() {
@@ -18,10 +47,13 @@ pub fn save(path: &Path, bytes: &[u8]) -> io::Result<()> {
     saved
 }
 
+fn file_name(path: &Path) -> io::Result<&OsStr> {
+    path.file_name().ok_or_else(|| io::Error::new(io::ErrorKind::InvalidInput, "this names no file"))
+}
+
 /// The name with `.partial-` and the number of this process at its end.
 fn partial_name(path: &Path) -> io::Result<PathBuf> {
-    let name = path.file_name().ok_or_else(|| io::Error::new(io::ErrorKind::InvalidInput, "this names no file"))?;
-    let mut partial = OsString::from(name);
+    let mut partial = OsString::from(file_name(path)?);
     partial.push(format!(".partial-{}", process::id()));
     Ok(path.with_file_name(partial))
 }
@@ -35,6 +67,9 @@ fn write_whole(path: &Path, bytes: &[u8]) -> io::Result<()> {
 #[cfg(test)]
 mod tests {
     use super::*;
+    use std::os::unix::fs::{symlink, FileTypeExt};
+    use std::process::Command;
+    use std::thread;
 
     fn folder(name: &str) -> PathBuf {
         let folder = std::env::temp_dir().join(format!("dairyhour-save-{name}-{}", process::id()));
@@ -50,6 +85,46 @@ mod tests {
         save(&path, b"second").unwrap();
         assert_eq!(fs::read(&path).unwrap(), b"second");
         assert_eq!(fs::read_dir(&folder).unwrap().count(), 1);
+        fs::remove_dir_all(&folder).unwrap();
+    }
+
+    /// A link stays, whether it leads to a file or not yet, and what it leads to is written.
+    #[test]
+    fn links_are_followed() {
+        let folder = folder("links");
+        fs::create_dir(folder.join("far")).unwrap();
+        symlink("far/film.rsm", folder.join("near")).unwrap();
+        symlink("near", folder.join("link")).unwrap();
+        for bytes in [b"first", b"again"] {
+            save(&folder.join("link"), bytes).unwrap();
+            assert_eq!(fs::read(folder.join("far/film.rsm")).unwrap(), bytes);
+            assert_eq!(fs::read_link(folder.join("link")).unwrap(), Path::new("near"));
+            assert_eq!(fs::read_link(folder.join("near")).unwrap(), Path::new("far/film.rsm"));
+        }
+        symlink("circle", folder.join("circle")).unwrap();
+        assert!(save(&folder.join("circle"), b"bytes").is_err());
+        fs::remove_dir_all(&folder).unwrap();
+    }
+
+    /// What is no file is written to and stays what it is.
+    #[test]
+    fn devices_and_pipes_stay() {
+        let folder = folder("pipes");
+        let pipe = folder.join("pipe");
+        assert!(Command::new("mkfifo").arg(&pipe).status().unwrap().success());
+        let reader = thread::spawn({
+            let pipe = pipe.clone();
+            move || fs::read(pipe).unwrap()
+        });
+        save(&pipe, b"bytes").unwrap();
+        assert_eq!(reader.join().unwrap(), b"bytes");
+        assert!(fs::metadata(&pipe).unwrap().file_type().is_fifo());
+
+        symlink("/dev/null", folder.join("null")).unwrap();
+        assert_eq!(replaced(&folder.join("null")).unwrap(), None);
+        save(&folder.join("null"), b"bytes").unwrap();
+        assert!(fs::metadata("/dev/null").unwrap().file_type().is_char_device());
+        assert_eq!(fs::read_dir(&folder).unwrap().count(), 2);
         fs::remove_dir_all(&folder).unwrap();
     }
 

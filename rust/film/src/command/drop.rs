@@ -17,6 +17,7 @@ pub fn run(args: &Drop) -> Result<bool> {
         (_, Some(burst)) => Line::Burst(burst),
         _ => return Err(Trouble::new("either --rate or --burst is wanted")),
     };
+    files::apart(&[&args.film], &[&args.output])?;
     let film = read_film(&args.film)?;
     let head = cut::head(&film, args.layout)?;
     let bits = head.row_bits();

@@ -1,7 +1,7 @@
 //! `film list`: every row that can have been sent.
 
 use std::fmt::Write as _;
-use std::path::Path;
+use std::path::{Path, PathBuf};
 use std::time::Instant;
 
 use container::{Messages, Received};
@@ -20,7 +20,11 @@ const NAMED: usize = 20;
 
 pub fn run(args: &List) -> Result<bool> {
     let sent: Option<&Path> = args.sent.as_deref();
-    files::once(&[&args.messages, &args.received, sent.unwrap_or_else(|| Path::new(""))])?;
+    let inputs: Vec<&Path> = [&args.messages, &args.received].into_iter().map(PathBuf::as_path).chain(sent).collect();
+    let outputs: Vec<&Path> =
+        [Some(&args.output), args.lists.as_ref()].into_iter().flatten().map(PathBuf::as_path).collect();
+    files::once(&inputs)?;
+    files::apart(&inputs, &outputs)?;
     let messages = read_messages(&args.messages)?;
     let received = read_received(&args.received)?;
     fit(&messages, &received)?;
@@ -41,8 +45,7 @@ pub fn run(args: &List) -> Result<bool> {
         files::write(path, done.lists().as_bytes())?;
     }
     files::write(&args.output, &picture::encode(&done.film()))?;
-    let outputs = [Some(&args.output), args.lists.as_ref()];
-    let output = outputs.into_iter().flatten().find(|path| files::is_standard(path)).map(|path| path.as_path());
+    let output = outputs.into_iter().find(|path| files::is_standard(path));
     match (args.say.json, args.say.quiet) {
         (true, _) => files::say(&format!("{}\n", done.json(&tally)), output)?,
         (false, false) => files::say(&done.text(&tally), output)?,
@@ -91,17 +94,22 @@ impl Done<'_> {
         rows.chunks_exact(row_bytes(&self.messages.messages[row]))
     }
 
-    /// The film with the only row of each list, or the first.
+    /// Is there a list of this row that was not refused?
+    fn listed(&self, row: usize) -> bool {
+        matches!(&self.outcomes[row].answer, Ok(answer) if answer.refusal == 0)
+    }
+
+    /// The film with the only row of each list, or the first; white where the list was refused.
     fn film(&self) -> picture::Film {
-        let firsts: Vec<Option<&[u8]>> = (0..self.outcomes.len()).map(|row| self.rows(row).next()).collect();
+        let first = |row| self.rows(row).next().filter(|_| self.listed(row));
+        let firsts: Vec<Option<&[u8]>> = (0..self.outcomes.len()).map(first).collect();
         cut::join(&self.messages.head, &firsts)
     }
 
     /// How many lists that were not refused lack the row that was sent, where that is known.
     fn missing(&self) -> Option<usize> {
-        let answered = |row: &usize| matches!(&self.outcomes[*row].answer, Ok(answer) if answer.refusal == 0);
-        let lacks = |row: &usize| self.sent.map_or(false, |sent| !self.rows(*row).any(|found| found == sent[*row]));
-        self.sent.map(|_| (0..self.outcomes.len()).filter(answered).filter(lacks).count())
+        let lacks = |sent: &[Vec<u8>], row: usize| self.listed(row) && !self.rows(row).any(|found| found == sent[row]);
+        self.sent.map(|sent| (0..self.outcomes.len()).filter(|row| lacks(sent, *row)).count())
     }
 
     fn lost(&self, row: usize) -> usize {

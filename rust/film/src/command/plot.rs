@@ -1,6 +1,6 @@
 //! `film plot`: what was sent, what arrived and what was recovered, side by side.
 
-use std::path::Path;
+use std::path::{Path, PathBuf};
 
 use container::Received;
 use plotters::prelude::*;
@@ -24,8 +24,14 @@ const FRAME: RGBColor = RGBColor(176, 190, 197);
 const GAP: u32 = 16;
 const HEADING: u32 = 36;
 
+/// The most pixels of a picture: a gigabyte of colours.
+const MOST_PIXELS: usize = (1 << 30) / 3;
+
 pub fn run(args: &Plot) -> Result<bool> {
-    files::once(&[&args.sent, &args.received, &args.recovered])?;
+    let inputs: [&Path; 3] = [&args.sent, &args.received, &args.recovered];
+    let outputs: Vec<&Path> = args.output.iter().map(PathBuf::as_path).collect();
+    files::once(&inputs)?;
+    files::apart(&inputs, &outputs)?;
     let sent = read_film(&args.sent)?;
     let received = read_received(&args.received)?;
     let recovered = read_film(&args.recovered)?;
@@ -48,14 +54,14 @@ fn drawn(scene: &Scene, output: &Path) -> Result<Vec<u8>> {
 
 fn svg(scene: &Scene) -> Result<Vec<u8>> {
     let mut text = String::new();
-    scene.draw(SVGBackend::with_string(&mut text, scene.size()).into_drawing_area())?;
+    scene.draw(SVGBackend::with_string(&mut text, scene.size).into_drawing_area())?;
     // The backend names the embedded pictures by a type that viewers do not know.
     Ok(text.replace("data:png;base64,", "data:image/png;base64,").into_bytes())
 }
 
 fn png(scene: &Scene) -> Result<Vec<u8>> {
-    let (width, height) = scene.size();
-    let mut pixels = vec![0; (width * height * 3) as usize];
+    let (width, height) = scene.size;
+    let mut pixels = vec![0; width as usize * height as usize * 3];
     scene.draw(BitMapBackend::with_buffer(&mut pixels, (width, height)).into_drawing_area())?;
     let mut bytes = Vec::new();
     let encoder = image::codecs::png::PngEncoder::new(&mut bytes);
@@ -70,6 +76,8 @@ struct Scene {
     films: [Vec<u8>; 3],
     width: u32,
     height: u32,
+    /// The width and the height of the picture.
+    size: (u32, u32),
     marks: Vec<(i32, i32)>,
 }
 
@@ -78,8 +86,9 @@ impl Scene {
         if (sent.width, sent.height) != (recovered.width, recovered.height) {
             return Err(Trouble::new("the sent and the recovered film have different sizes"));
         }
-        let arrived = Arrived::new(sent, received)?;
         let scale = Scale::new(sent.width, sent.height, most as usize);
+        let size = scale.picture()?;
+        let arrived = Arrived::new(sent, received)?;
         let wrong = (0..sent.height).filter(|row| sent.row(*row) != recovered.row(*row)).count();
         let shade = |black| if black { COPPER } else { PAPER };
         let films = [
@@ -96,11 +105,7 @@ impl Scene {
             format!("recovered film: {} of {} rows equal", sent.height - wrong, sent.height),
         ];
         let marks = arrived.slips().map(|(row, column)| scale.place(row, column)).collect();
-        Ok(Scene { titles, films, width: scale.width() as u32, height: scale.height() as u32, marks })
-    }
-
-    fn size(&self) -> (u32, u32) {
-        (3 * self.width + 4 * GAP, self.height + GAP + HEADING)
+        Ok(Scene { titles, films, width: scale.width() as u32, height: scale.height() as u32, size, marks })
     }
 
     fn draw<B: DrawingBackend>(&self, area: DrawingArea<B, plotters::coord::Shift>) -> Result<()>
@@ -206,6 +211,18 @@ impl Scale {
         (self.rows * self.larger + self.smaller - 1) / self.smaller
     }
 
+    /// The width and the height of a picture of three films, where it is not too large.
+    fn picture(&self) -> Result<(u32, u32)> {
+        let width = 3 * self.width() + 4 * GAP as usize;
+        let height = self.height() + (GAP + HEADING) as usize;
+        match width.checked_mul(height) {
+            Some(pixels) if pixels <= MOST_PIXELS => Ok((width as u32, height as u32)),
+            _ => Err(Trouble::new(format!(
+                "the picture has {width} × {height} pixels, but at most {MOST_PIXELS} are drawn"
+            ))),
+        }
+    }
+
     fn place(&self, row: usize, column: usize) -> (i32, i32) {
         let pixel = |bit: usize| ((bit * self.larger + self.larger / 2) / self.smaller) as i32;
         (pixel(column), pixel(row))
@@ -269,5 +286,14 @@ mod tests {
         let scale = Scale::new(2041, 1187, 680);
         assert_eq!((scale.width(), scale.height()), (511, 297));
         assert_eq!(scale.paint(|_, _| [1, 2, 3]).len(), 3 * 511 * 297);
+    }
+
+    #[test]
+    fn pictures_have_a_largest_size() {
+        assert_eq!(Scale::new(378, 220, 680).picture().unwrap(), (3 * 378 + 64, 220 + 52));
+        assert!(Scale::new(10_000, 10_000, 10_000).picture().is_ok());
+        for (columns, rows) in [(1, 2_100_000), (10_000, 12_000), (1, usize::MAX / 16)] {
+            assert!(Scale::new(columns, rows, 10_000).picture().is_err());
+        }
     }
 }

@@ -9,6 +9,7 @@ use crate::trouble::Result;
 use crate::{cut, files};
 
 pub fn run(args: &Write) -> Result<bool> {
+    files::apart(&[&args.film], &[&args.output])?;
     let film = read_film(&args.film)?;
     let head = cut::head(&film, args.layout)?;
     let layout = layout_of(head.layout);
