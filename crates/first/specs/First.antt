@@ -45,5 +45,3 @@ pub record FirstMark (l : Layout) (y numbers : List ℕ) (heavy : Heavy) (known 
   pub one : (row vs : List ℕ) (next : ℕ → ℕ) (s : ℕ) → s < heavy .n → Light l heavy row known
       → Crosses l y numbers heavy row j left next vs → OneLess (heavy .n) left next s → getD (shape .stride) s 0 ≤ q
       → 0 < level → 0 < getD marks (base + (q - getD (shape .stride) s 0)) 0 → 0 < mark
-
--- a pass over the marks: every row that they let through at entry and that differs from z in room chunks of the heavy blocks they let

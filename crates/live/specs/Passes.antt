@@ -73,6 +73,7 @@ Regained l y numbers heavy known z shape j ahead marks base floor own mark =
     → Covers (getD marks (base + stateOf shape other) 0) m → floor ≤ m + apartIn l heavy z vs j (heavy .n)
     → Covers mark (m + apartIn l heavy z vs j (heavy .n))
 
+-- a pass over the marks: every row that they let through at entry and that differs from z in room chunks of the heavy blocks they let
 -- through at exit, and cover the number f of it
 pub record Pass (l : Layout) (y numbers : List ℕ) (heavy : Heavy) (known z : List ℕ) (shape : Shape) (room : ℕ) (f : List ℕ → ℕ → ℕ)
     (entry exit : List ℕ) : Type 0 where
