@@ -64,6 +64,17 @@ number-four s a i =
       number-byte s a (i + 3),
     )
 
+-- the k bits from a place on, within the four bytes from byte i on, that have so many bits behind them there
+pub number-in-four : (i at k behind : ℕ) (u : List ℕ) → AllBits u → i * 8 ≤ at → (i + 4) * 8 ≡ at + k + behind
+    → number 32 (drop (i * 8) u) / 2 ^ behind % 2 ^ k ≡ number k (drop at u)
+number-in-four i at k behind u b h e =
+    let front : ℕ = at - i * 8 in
+    let w : 32 ≡ front + (k + behind) = omega arith in
+    let p : i * 8 + front ≡ at = omega arith in
+    ap (λ (n : ℕ). number n (drop (i * 8) u) / 2 ^ behind % 2 ^ k) w
+    ∙ number-span front k behind (drop (i * 8) u) (bits-drop (i * 8) u b)
+    ∙ ap (number k) (drop-drop front (i * 8) u ∙ ap (λ (n : ℕ). drop n u) p)
+
 -- the first bits alone decide
 pub number-front : (k : ℕ) (x y : List ℕ) → k ≤ length x → number k (x ++ y) ≡ number k x
 unfolding number

@@ -10,6 +10,7 @@ use Rattle.message.specs.Layout.{rowBits, blockBits}
 use Rattle.message.specs.declared.Layout.{Layout}
 use Rattle.message.proofs.Legal.{Bounds, Sizes, legal-bounds, sizes}
 use Rattle.found.specs.Found.{Given}
+use Rattle.hint.specs.Tries.{Stands}
 
 module _ {l : Layout} {numbers y : List ℕ} (g : Given l numbers y) where
   bounds : Bounds l
@@ -41,3 +42,7 @@ module _ {l : Layout} {numbers y : List ℕ} (g : Given l numbers y) where
   place-high i p h k =
       let a : i * blockBits l ≤ l .l1 * blockBits l = mul-le-mul-right (blockBits l) h in
       omega (arith, high .l1-block, high .row)
+
+-- a guess starts with the first block, which is read from the first bit on
+pub stands-start : (l : Layout) → Stands l (record { i = 0; p = 0 })
+stands-start l = record { inside = omega arith; before = omega arith }

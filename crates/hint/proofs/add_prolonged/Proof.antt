@@ -3,7 +3,7 @@
 use borrow.Author.Needs.{needs}
 use native.Mathlib.Omega.{arith}
 use Rattle.found.proofs.Found.{grown-nothing, grown-weaken}
-use Rattle.hint.specs.Tries.{Stands}
+use Rattle.hint.proofs.Places.{stands-start}
 use Rattle.hint.proofs.add_prolonged.Statement.{statement}
 use Rattle.hint.proofs.add_prolonged.Tie as tie
 
@@ -21,8 +21,7 @@ prolong-requires : tie.Need-prolong-requires
 prolong-requires c κs =
     let s = entry c in
     let g = s .pre .0 in
-    let start : Stands (s .args .l) (record { i = 0; p = 0 }) = record { inside = omega arith; before = omega arith } in
-    ((g, omega (arith, g .few, s .pre .1 .0 .size)), (start, s .pre .1 .0))
+    ((g, omega (arith, g .few, s .pre .1 .0 .size)), (stands-start (s .args .l), s .pre .1 .0))
 
 same-length : tie.Need-same-length
 same-length c = search needs

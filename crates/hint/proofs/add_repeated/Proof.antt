@@ -4,7 +4,8 @@ use borrow.Author.Needs.{needs}
 use mathlib.Core.Path.{_∙_}
 use native.Mathlib.Omega.{arith}
 use Rattle.found.proofs.Found.{grown-weaken}
-use Rattle.hint.specs.Tries.{Hand, Stands}
+use Rattle.hint.specs.Tries.{Hand}
+use Rattle.hint.proofs.Places.{stands-start}
 use Rattle.hint.proofs.add_repeated.Statement.{statement}
 use Rattle.hint.proofs.add_repeated.Tie as tie
 
@@ -18,8 +19,7 @@ read c = c .before .before .before .before
 as-read-requires : tie.Need-as-read-requires
 as-read-requires c κs =
     let s = c .before .before .before .before .before in
-    let start : Stands (s .args .l) (record { i = 0; p = 0 }) = record { inside = omega arith; before = omega arith } in
-    (s .pre .0, (start, s .pre .1 .0))
+    (s .pre .0, (stands-start (s .args .l), s .pre .1 .0))
 
 sub-repeat-at : tie.Need-sub-repeat-at
 sub-repeat-at c =
