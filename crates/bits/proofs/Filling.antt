@@ -1,4 +1,5 @@
--- Bits put into packed bytes: digits in parts, a byte that is whole, the last bits, and one filling after another. Assumes nothing.
+-- Bits put into packed bytes: digits in parts, a byte that is whole, the last bits, and one filling after another.
+-- Assumes nothing.
 use Prim.Native.Nat.{ℕ, zero, suc, _+_, _-_, _*_, _/_, _%_, _^_, _<_, _≤_}
 use mathlib.Core.Path.{_≡_, refl, sym, ap, ap₂, _∙_}
 use mathlib.Core.Bool.{true}
@@ -30,13 +31,15 @@ digits-low k v = sym (digits-above k (v / 2 ^ k) (v % 2 ^ k)) ∙ ap (digits k) 
 pub digits-join : (c h k v : ℕ) → digits (c + k) (h * 2 ^ k + v % 2 ^ k) ≡ digits c h ++ digits k v
 digits-join c h k v =
     digits-split c k (h * 2 ^ k + v % 2 ^ k)
-    ∙ ap₂ (λ (x y : List ℕ). x ++ y) (ap (digits c) (high h k (mod-lt v (pow-pos k)))) (digits-above k h (v % 2 ^ k) ∙ digits-low k v)
+    ∙ ap₂ (λ (x y : List ℕ). x ++ y) (ap (digits c) (high h k (mod-lt v (pow-pos k))))
+    (digits-above k h (v % 2 ^ k) ∙ digits-low k v)
 
 -- ---- a byte that is whole
 unpack-snoc : (s : List ℕ) (b : ℕ) → unpack (s ++ (b ∷ [])) ≡ unpack s ++ digits 8 b
 unfolding unpack
 unpack-snoc [] b = append-nil (digits 8 b)
-unpack-snoc (v ∷ s) b = ap (λ (x : List ℕ). digits 8 v ++ x) (unpack-snoc s b) ∙ sym (append-assoc (digits 8 v) (unpack s) (digits 8 b))
+unpack-snoc (v ∷ s) b =
+    ap (λ (x : List ℕ). digits 8 v ++ x) (unpack-snoc s b) ∙ sym (append-assoc (digits 8 v) (unpack s) (digits 8 b))
 
 pub byte-out : (o : List ℕ) (at n v : ℕ) → at < length o → 8 ≤ n
     → unpack (take (at + 1) (set o at (v / 2 ^ (n - 8) % 256))) ++ digits (n - 8) v ≡ unpack (take at o) ++ digits n v
@@ -44,8 +47,15 @@ byte-out o at n v h k =
     let c : ℕ = n - 8 in
     let b : ℕ = v / 2 ^ c % 256 in
     let e : 8 + c ≡ n = omega arith in
-    rw (add-one at, take-suc-set o at b h, unpack-snoc (take at o) b, append-assoc (unpack (take at o)) (digits 8 b) (digits c v))
-    (ap (λ (x : List ℕ). unpack (take at o) ++ x) (ap (λ (x : List ℕ). x ++ digits c v) (digits-low 8 (v / 2 ^ c)) ∙ sym (digits-split 8 c v) ∙ ap (λ (m : ℕ). digits m v) e))
+    rw (
+      add-one at,
+      take-suc-set o at b h,
+      unpack-snoc (take at o) b,
+      append-assoc (unpack (take at o)) (digits 8 b) (digits c v),
+    )
+    (ap (λ (x : List ℕ). unpack (take at o) ++ x)
+    (ap (λ (x : List ℕ). x ++ digits c v) (digits-low 8 (v / 2 ^ c)) ∙ sym (digits-split 8 c v)
+    ∙ ap (λ (m : ℕ). digits m v) e))
 
 -- ---- the last bits
 digits-none : (k : ℕ) → blank (digits k 0) ≡ true
@@ -55,7 +65,8 @@ digits-none (suc k) = rw (zero-div (2 ^ k)) (digits-none k)
 
 length-filled : (o : List ℕ) (at c h : ℕ) → at ≤ length o → length (unpack (take at o) ++ digits c h) ≡ at * 8 + c
 length-filled o at c h k =
-    length-append (unpack (take at o)) (digits c h) ∙ omega (arith, length-unpack (take at o), length-take-le at o k, length-digits c h)
+    length-append (unpack (take at o)) (digits c h)
+    ∙ omega (arith, length-unpack (take at o), length-take-le at o k, length-digits c h)
 
 -- where none is held
 pub end-whole : (o : List ℕ) (at h : ℕ) → AllBytes (take at o) → at ≤ length o
@@ -81,9 +92,13 @@ end-part o at c h a k l m =
     let w : 8 ≡ c + d = omega arith in
     let z : digits d b ≡ digits d 0 = ap (digits d) (sym (add-zero b)) ∙ digits-above d h 0 in
     let g : digits 8 b ≡ digits c h ++ digits d 0 =
-    ap (λ (n : ℕ). digits n b) w ∙ digits-split c d b ∙ ap₂ (λ (p q : List ℕ). p ++ q) (ap (λ (n : ℕ). digits c (n / 2 ^ d)) (sym (add-zero b)) ∙ ap (digits c) (high h d (pow-pos d))) z
+    ap (λ (n : ℕ). digits n b) w ∙ digits-split c d b
+    ∙ ap₂ (λ (p q : List ℕ). p ++ q)
+    (ap (λ (n : ℕ). digits c (n / 2 ^ d)) (sym (add-zero b)) ∙ ap (digits c) (high h d (pow-pos d))) z
     in
-    let u : unpack s ≡ x ++ digits d 0 = unpack-snoc (take at o) b ∙ ap (λ (y : List ℕ). unpack (take at o) ++ y) g ∙ sym (append-assoc (unpack (take at o)) (digits c h) (digits d 0)) in
+    let u : unpack s ≡ x ++ digits d 0 =
+    unpack-snoc (take at o) b ∙ ap (λ (y : List ℕ). unpack (take at o) ++ y) g
+    ∙ sym (append-assoc (unpack (take at o)) (digits c h) (digits d 0)) in
     let n : length s ≡ suc at = length-append (take at o) (b ∷ []) ∙ omega (arith, length-take-le at o (omega arith)) in
     let p : bytes (suc at) x ≡ s =
     sym (bytes-blank (suc at) x (digits d 0) (digits-none d)) ∙ ap (bytes (suc at)) (sym u) ∙ (rw n at (bytes-unpack s a))
@@ -101,7 +116,8 @@ goes-none f o r =
 pub drop-later : (n m : ℕ) (a b : List ℕ) → n ≤ m → drop n b ≡ drop n a → drop m b ≡ drop m a
 drop-later n m a b h e =
     let k : n + (m - n) ≡ m = omega arith in
-    ap (λ (i : ℕ). drop i b) (sym k) ∙ sym (drop-drop (m - n) n b) ∙ ap (drop (m - n)) e ∙ drop-drop (m - n) n a ∙ ap (λ (i : ℕ). drop i a) k
+    ap (λ (i : ℕ). drop i b) (sym k) ∙ sym (drop-drop (m - n) n b) ∙ ap (drop (m - n)) e ∙ drop-drop (m - n) n a
+    ∙ ap (λ (i : ℕ). drop i a) k
 
 pub goes-then : {f g h : Filler} {a b c x y : List ℕ} → Goes f a x g b → Goes g b y h c → Goes f a (x ++ y) h c
 goes-then {f} {g} {h} {a} {b} {c} {x} {y} p q =

@@ -132,11 +132,14 @@ number-take (suc k) (b ∷ x) = ap (λ (n : ℕ). b * 2 ^ k + n) (number-take k 
 -- a digit more, at the end of those that were read
 horner : (v b m n : ℕ) → (v * 2 + b) * 2 ^ m + n ≡ v * 2 ^ suc m + (b * 2 ^ m + n)
 horner v b m n =
-    let e : v * 2 ^ suc m ≡ v * 2 * 2 ^ m = ap (λ (p : ℕ). v * p) (pow-suc 2 m ∙ mul-comm (2 ^ m) 2) ∙ sym (mul-assoc v 2 (2 ^ m)) in
+    let e : v * 2 ^ suc m ≡ v * 2 * 2 ^ m =
+    ap (λ (p : ℕ). v * p) (pow-suc 2 m ∙ mul-comm (2 ^ m) 2) ∙ sym (mul-assoc v 2 (2 ^ m)) in
     omega (arith, add-mul (v * 2) b (2 ^ m))
 
 -- what is read so far, v, with the bits from place at + i on still to come, is the same number a bit later
-pub number-next : (v k at i : ℕ) (x : List ℕ) → i < k → (v * 2 + getD x (at + i) 0) * 2 ^ (k - (i + 1)) + number (k - (i + 1)) (drop (at + (i + 1)) x) ≡ v * 2 ^ (k - i) + number (k - i) (drop (at + i) x)
+pub number-next : (v k at i : ℕ) (x : List ℕ) → i < k
+    → (v * 2 + getD x (at + i) 0) * 2 ^ (k - (i + 1)) + number (k - (i + 1)) (drop (at + (i + 1)) x)
+    ≡ v * 2 ^ (k - i) + number (k - i) (drop (at + i) x)
 number-next v k at i x h =
     let e : k - i ≡ suc (k - (i + 1)) = omega arith in
     let d : at + (i + 1) ≡ suc (at + i) = omega arith in
@@ -146,13 +149,23 @@ number-next v k at i x h =
     m = k - (i + 1)
 
     Next : Type 0
-    Next = (v * 2 + getD x (at + i) 0) * 2 ^ (k - (i + 1)) + number (k - (i + 1)) (drop (suc (at + i)) x) ≡ v * 2 ^ suc (k - (i + 1)) + number (suc (k - (i + 1))) (drop (at + i) x)
+    Next =
+        (v * 2 + getD x (at + i) 0) * 2 ^ (k - (i + 1)) + number (k - (i + 1)) (drop (suc (at + i)) x)
+        ≡ v * 2 ^ suc (k - (i + 1)) + number (suc (k - (i + 1))) (drop (at + i) x)
 
     inside : at + i < length x → Next
-    inside p = rw (drop-cons x (at + i) 0 p, number-cons) (horner v (getD x (at + i) 0) m (number m (drop (suc (at + i)) x)))
+    inside p =
+        rw (drop-cons x (at + i) 0 p, number-cons) (horner v (getD x (at + i) 0) m (number m (drop (suc (at + i)) x)))
 
     outside : length x ≤ at + i → Next
-    outside p = rw (List·getD-eq-default x 0 p, drop-of-length-le x {i = suc (at + i)} (omega arith), drop-of-length-le x p, number-none, number-none) (horner v 0 m 0 ∙ rw (zero-mul (2 ^ m)) refl)
+    outside p =
+        rw (
+          List·getD-eq-default x 0 p,
+          drop-of-length-le x {i = suc (at + i)} (omega arith),
+          drop-of-length-le x p,
+          number-none,
+          number-none,
+        ) (horner v 0 m 0 ∙ rw (zero-mul (2 ^ m)) refl)
 
 -- nothing is still to come
 pub number-end : (v k : ℕ) (x : List ℕ) → k ≡ 0 → v * 2 ^ k + number k x ≡ v
@@ -164,7 +177,8 @@ pub number-ext : (k : ℕ) (x y : List ℕ) → ((i : ℕ) → getD x i 0 ≡ ge
 unfolding number
 number-ext zero x y h = refl
 number-ext (suc k) [] [] h = refl
-number-ext (suc k) [] (c ∷ y) h = rw (← h 0, zero-mul, zero-add) (sym (number-none k) ∙ number-ext k [] y (λ i. h (suc i)))
+number-ext (suc k) [] (c ∷ y) h =
+    rw (← h 0, zero-mul, zero-add) (sym (number-none k) ∙ number-ext k [] y (λ i. h (suc i)))
 number-ext (suc k) (b ∷ x) [] h = rw (h 0, zero-mul, zero-add) (number-ext k x [] (λ i. h (suc i)) ∙ number-none k)
 number-ext (suc k) (b ∷ x) (c ∷ y) h = ap₂ (λ (p q : ℕ). p * 2 ^ k + q) (h 0) (number-ext k x y (λ i. h (suc i)))
 
@@ -188,7 +202,9 @@ unfolding digits
 digits-above zero c n = refl
 digits-above (suc j) c n =
     rw (pow-more c j)
-    (ap₂ (λ (d : ℕ) (l : List ℕ). d ∷ l) (ap (λ (q : ℕ). q % 2) (mul-add-div-right (pow-pos j) (c * 2) n) ∙ mul-add-mod-self-right c 2 (n / 2 ^ j)) (digits-above j (c * 2) n))
+    (ap₂ (λ (d : ℕ) (l : List ℕ). d ∷ l)
+    (ap (λ (q : ℕ). q % 2) (mul-add-div-right (pow-pos j) (c * 2) n) ∙ mul-add-mod-self-right c 2 (n / 2 ^ j))
+    (digits-above j (c * 2) n))
 
 -- k digits of a number spell it again, whatever follows them
 pub number-digits : (k v : ℕ) (x : List ℕ) → number k (digits k v ++ x) ≡ v % 2 ^ k
@@ -196,7 +212,8 @@ unfolding number digits
 number-digits zero v x = sym (mod-one v)
 number-digits (suc k) v x =
     let e : 2 ^ suc k ≡ 2 * 2 ^ k = pow-suc 2 k ∙ mul-comm (2 ^ k) 2 in
-    ap (λ (n : ℕ). v / 2 ^ k % 2 * 2 ^ k + n) (number-digits k v x) ∙ sym (ap (λ (n : ℕ). v % n) e ∙ mod-mul v {m = 2} {c = 2 ^ k} (omega arith) (pow-pos k))
+    ap (λ (n : ℕ). v / 2 ^ k % 2 * 2 ^ k + n) (number-digits k v x)
+    ∙ sym (ap (λ (n : ℕ). v % n) e ∙ mod-mul v {m = 2} {c = 2 ^ k} (omega arith) (pow-pos k))
 
 -- the first k bits of a string, with zeros past its end
 unfoldable pub fill : ℕ → List ℕ → List ℕ
@@ -212,7 +229,9 @@ digits-number (suc k) [] a =
     ap₂ (λ (d : ℕ) (l : List ℕ). d ∷ l) (ap (λ (q : ℕ). q % 2) (zero-div (2 ^ k)))
     (ap (digits k) (sym (number-none k)) ∙ digits-number k [] tt)
 digits-number (suc k) (b ∷ x) a =
-    ap₂ (λ (d : ℕ) (l : List ℕ). d ∷ l) (ap (λ (q : ℕ). q % 2) (digits-div b (number-lt k x (a .1))) ∙ mod-eq-of-lt (a .0)) (digits-above k b (number k x) ∙ digits-number k x (a .1))
+    ap₂ (λ (d : ℕ) (l : List ℕ). d ∷ l)
+    (ap (λ (q : ℕ). q % 2) (digits-div b (number-lt k x (a .1))) ∙ mod-eq-of-lt (a .0))
+    (digits-above k b (number k x) ∙ digits-number k x (a .1))
 
 -- ---- equal lists
 pub same-eq : (x y : List ℕ) → same x y ≡ true → x ≡ y
@@ -220,7 +239,9 @@ unfolding same
 same-eq [] [] e = refl
 same-eq [] (b ∷ y) e = absurd (false≢true e)
 same-eq (a ∷ x) [] e = absurd (false≢true e)
-same-eq (a ∷ x) (b ∷ y) e = ap₂ (λ (h : ℕ) (t : List ℕ). h ∷ t) (eqb-true a b (both-left (eqb a b) (same x y) e)) (same-eq x y (both-right (eqb a b) (same x y) e))
+same-eq (a ∷ x) (b ∷ y) e =
+    ap₂ (λ (h : ℕ) (t : List ℕ). h ∷ t) (eqb-true a b (both-left (eqb a b) (same x y) e))
+    (same-eq x y (both-right (eqb a b) (same x y) e))
 
 pub same-refl : (x : List ℕ) → same x x ≡ true
 unfolding same
@@ -228,11 +249,13 @@ same-refl [] = refl
 same-refl (a ∷ x) = rw (eq-eqb a a refl) (same-refl x)
 
 -- comparing element by element
-pub same-next : (x y : List ℕ) (i : ℕ) → i < length x → i < length y → getD x i 0 ≡ getD y i 0 → same (drop (i + 1) x) (drop (i + 1) y) ≡ same (drop i x) (drop i y)
+pub same-next : (x y : List ℕ) (i : ℕ) → i < length x → i < length y → getD x i 0 ≡ getD y i 0
+    → same (drop (i + 1) x) (drop (i + 1) y) ≡ same (drop i x) (drop i y)
 unfolding same
 same-next x y i h k e = rw (drop-cons x i 0 h, drop-cons y i 0 k, add-one i, eq-eqb (getD x i 0) (getD y i 0) e) refl
 
-pub same-stop : (x y : List ℕ) (i : ℕ) → i < length x → i < length y → (getD x i 0 ≡ getD y i 0 → ⊥) → same (drop i x) (drop i y) ≡ false
+pub same-stop : (x y : List ℕ) (i : ℕ) → i < length x → i < length y → (getD x i 0 ≡ getD y i 0 → ⊥)
+    → same (drop i x) (drop i y) ≡ false
 unfolding same
 same-stop x y i h k n = rw (drop-cons x i 0 h, drop-cons y i 0 k, ne-eqb (getD x i 0) (getD y i 0) n) refl
 
@@ -246,4 +269,5 @@ unfolding same
 same-append [] [] u v e = refl
 same-append [] (b ∷ y) u v e = absurd (omega arith)
 same-append (a ∷ x) [] u v e = absurd (omega arith)
-same-append (a ∷ x) (b ∷ y) u v e = ap (λ (t : Bool). eqb a b && t) (same-append x y u v (omega arith)) ∙ sym (and-assoc (eqb a b) (same x y) (same u v))
+same-append (a ∷ x) (b ∷ y) u v e =
+    ap (λ (t : Bool). eqb a b && t) (same-append x y u v (omega arith)) ∙ sym (and-assoc (eqb a b) (same x y) (same u v))

@@ -40,22 +40,27 @@ unfolding unpack
 unpack-at [] i = sym (ap (λ (q : ℕ). q % 2) (zero-div (2 ^ (7 - i % 8))))
 unpack-at (v ∷ s) i = ⊎-elim (inside v s i) (λ h. outside v s i h (unpack-at s (i - 8))) (lt-or-ge i 8)
   where
-    inside : (v : ℕ) (s : List ℕ) (i : ℕ) → i < 8 → getD (digits 8 v ++ unpack s) i 0 ≡ getD (v ∷ s) (i / 8) 0 / 2 ^ (7 - i % 8) % 2
+    inside : (v : ℕ) (s : List ℕ) (i : ℕ) → i < 8
+        → getD (digits 8 v ++ unpack s) i 0 ≡ getD (v ∷ s) (i / 8) 0 / 2 ^ (7 - i % 8) % 2
     inside v s i h =
         let e : 8 - (i + 1) ≡ 7 - i = omega arith in
         let l : i < length (digits 8 v) = omega (arith, length-digits 8 v) in
         rw (List·getD-append (digits 8 v) (unpack s) 0 i l, digits-at 8 v i h, e, div-eq-of-lt h, mod-eq-of-lt h) refl
 
-    outside : (v : ℕ) (s : List ℕ) (i : ℕ) → 8 ≤ i → getD (unpack s) (i - 8) 0 ≡ getD s ((i - 8) / 8) 0 / 2 ^ (7 - (i - 8) % 8) % 2 → getD (digits 8 v ++ unpack s) i 0 ≡ getD (v ∷ s) (i / 8) 0 / 2 ^ (7 - i % 8) % 2
+    outside : (v : ℕ) (s : List ℕ) (i : ℕ) → 8 ≤ i
+        → getD (unpack s) (i - 8) 0 ≡ getD s ((i - 8) / 8) 0 / 2 ^ (7 - (i - 8) % 8) % 2
+        → getD (digits 8 v ++ unpack s) i 0 ≡ getD (v ∷ s) (i / 8) 0 / 2 ^ (7 - i % 8) % 2
     outside v s i h r =
         let e : i ≡ 8 + (i - 8) = omega arith in
         let d : i / 8 ≡ suc ((i - 8) / 8) = omega arith in
         let m : i % 8 ≡ (i - 8) % 8 = omega arith in
         let l : i ≡ length (digits 8 v) + (i - 8) = omega (arith, length-digits 8 v) in
-        rw (d, m) (ap (λ (n : ℕ). getD (digits 8 v ++ unpack s) n 0) l ∙ getD-append-add (digits 8 v) (unpack s) (i - 8) 0 ∙ r)
+        rw (d, m) (ap (λ (n : ℕ). getD (digits 8 v ++ unpack s) n 0) l
+        ∙ getD-append-add (digits 8 v) (unpack s) (i - 8) 0 ∙ r)
 
 -- byte i has the bits from 8 × i on
-unpack-next : (s : List ℕ) (i : ℕ) → i < length s → take (i * 8 + 8) (unpack s) ≡ take (i * 8) (unpack s) ++ digits 8 (getD s i 0)
+unpack-next : (s : List ℕ) (i : ℕ) → i < length s
+    → take (i * 8 + 8) (unpack s) ≡ take (i * 8) (unpack s) ++ digits 8 (getD s i 0)
 unfolding unpack
 unpack-next [] i h = absurd (omega arith)
 unpack-next (v ∷ s) zero h = take-at (digits 8 v) (unpack s) 8 (length-digits 8 v)
@@ -68,20 +73,25 @@ unpack-next (v ∷ s) (suc i) h =
     (ap (λ (t : List ℕ). d ++ t) (unpack-next s i (omega arith)))
 
 -- a slice q that holds the bits of i bytes, with those of the next byte behind them
-pub byte-unpacked : (s o q : List ℕ) (i : ℕ) → i < length s → q ≡ take (i * 8) (unpack s) ++ drop (i * 8) o → take (i * 8) q ++ digits 8 (getD s i 0) ++ drop (i * 8 + 8) q ≡ take ((i + 1) * 8) (unpack s) ++ drop ((i + 1) * 8) o
+pub byte-unpacked : (s o q : List ℕ) (i : ℕ) → i < length s → q ≡ take (i * 8) (unpack s) ++ drop (i * 8) o
+    → take (i * 8) q ++ digits 8 (getD s i 0) ++ drop (i * 8 + 8) q
+    ≡ take ((i + 1) * 8) (unpack s) ++ drop ((i + 1) * 8) o
 byte-unpacked s o q i h e =
     let n : (i + 1) * 8 ≡ i * 8 + 8 = omega arith in
-    rw (e, n) (part-next (take (i * 8) (unpack s)) (digits 8 (getD s i 0)) o (i * 8) 8 (length-take-le (i * 8) (unpack s) (omega (arith, length-unpack s)))
+    rw (e, n) (part-next (take (i * 8) (unpack s)) (digits 8 (getD s i 0)) o (i * 8) 8
+    (length-take-le (i * 8) (unpack s) (omega (arith, length-unpack s)))
     ∙ ap (λ (t : List ℕ). t ++ drop (i * 8 + 8) o) (sym (unpack-next s i h)))
 
 -- a slice q that holds the first n bits, with those up to w behind them
-pub all-unpacked : (s o q : List ℕ) (n w : ℕ) → n ≤ w → n ≤ length s * 8 → q ≡ take n (unpack s) ++ drop n o → take n q ++ take (w - n) (drop n (unpack s)) ++ drop (n + (w - n)) q ≡ take w (unpack s) ++ drop w o
+pub all-unpacked : (s o q : List ℕ) (n w : ℕ) → n ≤ w → n ≤ length s * 8 → q ≡ take n (unpack s) ++ drop n o
+    → take n q ++ take (w - n) (drop n (unpack s)) ++ drop (n + (w - n)) q ≡ take w (unpack s) ++ drop w o
 all-unpacked s o q n w h k e =
     let f : n + (w - n) ≡ w = omega arith in
     let u : List ℕ = unpack s in
     rw e
     (part-next (take n u) (take (w - n) (drop n u)) o n (w - n) (length-take-le n u (omega (arith, length-unpack s)))
-    ∙ ap₂ (λ (a b : List ℕ). a ++ b) (sym (take-add n (w - n) u) ∙ ap (λ (m : ℕ). take m u) f) (ap (λ (m : ℕ). drop m o) f))
+    ∙ ap₂ (λ (a b : List ℕ). a ++ b) (sym (take-add n (w - n) u) ∙ ap (λ (m : ℕ). take m u) f)
+    (ap (λ (m : ℕ). drop m o) f))
 
 -- ---- packing
 pub bytes-ext : (n : ℕ) (x y : List ℕ) → ((i : ℕ) → getD x i 0 ≡ getD y i 0) → bytes n x ≡ bytes n y
@@ -114,17 +124,23 @@ unfolding bytes
 bytes-more zero x = refl
 bytes-more (suc n) x =
     let e : suc n * 8 ≡ 8 + n * 8 = omega arith in
-    ap (λ (l : List ℕ). number 8 x ∷ l) (bytes-more n (drop 8 x) ∙ ap (λ (y : List ℕ). bytes n (drop 8 x) ++ (number 8 y ∷ [])) (drop-drop (n * 8) 8 x ∙ ap (λ (k : ℕ). drop k x) (sym e)))
+    ap (λ (l : List ℕ). number 8 x ∷ l)
+    (bytes-more n (drop 8 x)
+    ∙ ap (λ (y : List ℕ). bytes n (drop 8 x) ++ (number 8 y ∷ []))
+    (drop-drop (n * 8) 8 x ∙ ap (λ (k : ℕ). drop k x) (sym e)))
 
 -- a string of whole bytes is packed by them
-pub packed-whole : (x o : List ℕ) → length x ≤ length x / 8 * 8 → bytes (length x / 8) x ++ drop (length x / 8) o ≡ pack x ++ drop (bytesFor (length x)) o
+pub packed-whole : (x o : List ℕ) → length x ≤ length x / 8 * 8
+    → bytes (length x / 8) x ++ drop (length x / 8) o ≡ pack x ++ drop (bytesFor (length x)) o
 unfolding pack
 packed-whole x o h =
     let e : length x / 8 ≡ bytesFor (length x) = omega arith in
     rw e refl
 
 -- any other has one byte more
-pub packed-rest : (x o : List ℕ) → length x / 8 * 8 < length x → bytesFor (length x) ≤ length o → set (bytes (length x / 8) x ++ drop (length x / 8) o) (length x / 8) (number 8 (drop (length x / 8 * 8) x)) ≡ pack x ++ drop (bytesFor (length x)) o
+pub packed-rest : (x o : List ℕ) → length x / 8 * 8 < length x → bytesFor (length x) ≤ length o
+    → set (bytes (length x / 8) x ++ drop (length x / 8) o) (length x / 8) (number 8 (drop (length x / 8 * 8) x))
+    ≡ pack x ++ drop (bytesFor (length x)) o
 unfolding pack
 packed-rest x o h k =
     let n : ℕ = length x / 8 in
@@ -140,7 +156,9 @@ packed-rest x o h k =
 fill-add : (k m : ℕ) (x : List ℕ) → fill k x ++ fill m (drop k x) ≡ fill (k + m) x
 unfolding fill
 fill-add zero m x = rw (zero-add m) refl
-fill-add (suc k) m [] = rw (suc-add k m) (ap (λ (l : List ℕ). 0 ∷ l) (ap (λ (l : List ℕ). fill k [] ++ fill m l) (sym (drop-nil k)) ∙ fill-add k m []))
+fill-add (suc k) m [] =
+    rw (suc-add k m)
+    (ap (λ (l : List ℕ). 0 ∷ l) (ap (λ (l : List ℕ). fill k [] ++ fill m l) (sym (drop-nil k)) ∙ fill-add k m []))
 fill-add (suc k) m (b ∷ x) = rw (suc-add k m) (ap (λ (l : List ℕ). b ∷ l) (fill-add k m x))
 
 unpack-bytes : (n : ℕ) (x : List ℕ) → AllBits x → unpack (bytes n x) ≡ fill (n * 8) x
@@ -148,7 +166,8 @@ unfolding unpack bytes fill
 unpack-bytes zero x a = refl
 unpack-bytes (suc n) x a =
     let e : suc n * 8 ≡ 8 + n * 8 = omega arith in
-    rw e (ap₂ (λ (p q : List ℕ). p ++ q) (digits-number 8 x a) (unpack-bytes n (drop 8 x) (bits-drop 8 x a)) ∙ fill-add 8 (n * 8) x)
+    rw e (ap₂ (λ (p q : List ℕ). p ++ q) (digits-number 8 x a) (unpack-bytes n (drop 8 x) (bits-drop 8 x a))
+    ∙ fill-add 8 (n * 8) x)
 
 blank-fill : (k : ℕ) → blank (fill k []) ≡ true
 unfolding blank fill
@@ -176,7 +195,10 @@ unpack-pack x a = rw (unpack-bytes (bytesFor (length x)) x a) (take-fill (bytesF
 pub fits-pack : (x : List ℕ) → AllBits x → fits (length x) (pack x) ≡ true
 unfolding fits pack
 fits-pack x a =
-    rw (eq-eqb (length (bytes (bytesFor (length x)) x)) (bytesFor (length x)) (length-bytes (bytesFor (length x)) x), unpack-bytes (bytesFor (length x)) x a)
+    rw (
+      eq-eqb (length (bytes (bytesFor (length x)) x)) (bytesFor (length x)) (length-bytes (bytesFor (length x)) x),
+      unpack-bytes (bytesFor (length x)) x a,
+    )
     (drop-fill (bytesFor (length x) * 8) x (omega arith))
 
 -- ---- packing what was unpacked
@@ -188,12 +210,14 @@ blank-at (b ∷ x) e (suc i) = blank-at x (both-right (eqb b 0) (blank x) e) i
 
 -- zeros behind a string do not matter to its bytes
 pub bytes-blank : (n : ℕ) (x z : List ℕ) → blank z ≡ true → bytes n (x ++ z) ≡ bytes n x
-bytes-blank n x z e = bytes-ext n (x ++ z) x (λ i. ⊎-elim (λ h. List·getD-append x z 0 i h) (beyond i) (lt-or-ge i (length x)))
+bytes-blank n x z e =
+    bytes-ext n (x ++ z) x (λ i. ⊎-elim (λ h. List·getD-append x z 0 i h) (beyond i) (lt-or-ge i (length x)))
   where
     beyond : (i : ℕ) → length x ≤ i → getD (x ++ z) i 0 ≡ getD x i 0
     beyond i h =
         let k : i ≡ length x + (i - length x) = omega arith in
-        ap (λ (n : ℕ). getD (x ++ z) n 0) k ∙ getD-append-add x z (i - length x) 0 ∙ blank-at z e (i - length x) ∙ sym (List·getD-eq-default x 0 h)
+        ap (λ (n : ℕ). getD (x ++ z) n 0) k ∙ getD-append-add x z (i - length x) 0 ∙ blank-at z e (i - length x)
+        ∙ sym (List·getD-eq-default x 0 h)
 
 -- the bits from byte n on
 pub unpack-drop : (n : ℕ) (s : List ℕ) → unpack (drop n s) ≡ drop (n * 8) (unpack s)
@@ -227,7 +251,8 @@ fits-by w s b e h = rw (eq-eqb (length s) (bytesFor w) e) (sym h)
 
 pub fits-length : (w : ℕ) (s : List ℕ) → fits w s ≡ true → length s ≡ bytesFor w
 unfolding fits
-fits-length w s e = eqb-true (length s) (bytesFor w) (both-left (eqb (length s) (bytesFor w)) (blank (drop w (unpack s))) e)
+fits-length w s e =
+    eqb-true (length s) (bytesFor w) (both-left (eqb (length s) (bytesFor w)) (blank (drop w (unpack s))) e)
 
 pub fits-blank : (w : ℕ) (s : List ℕ) → fits w s ≡ true → blank (drop w (unpack s)) ≡ true
 unfolding fits
@@ -248,7 +273,8 @@ length-string w s e = length-take-le w (unpack s) (omega (arith, length-unpack s
 pub pack-unpack : (w : ℕ) (s : List ℕ) → AllBytes s → fits w s ≡ true → pack (take w (unpack s)) ≡ s
 unfolding pack
 pack-unpack w s a e =
-    rw (length-string w s e, ← fits-length w s e) (bytes-ext (length s) (take w (unpack s)) (unpack s) same ∙ bytes-unpack s a)
+    rw (length-string w s e, ← fits-length w s e)
+    (bytes-ext (length s) (take w (unpack s)) (unpack s) same ∙ bytes-unpack s a)
   where
     same : (i : ℕ) → getD (take w (unpack s)) i 0 ≡ getD (unpack s) i 0
     same i = ⊎-elim (λ h. getD-take w (unpack s) i 0 h) beyond (lt-or-ge i w)
@@ -256,4 +282,6 @@ pack-unpack w s a e =
         beyond : w ≤ i → getD (take w (unpack s)) i 0 ≡ getD (unpack s) i 0
         beyond h =
             let k : w + (i - w) ≡ i = omega arith in
-            List·getD-eq-default (take w (unpack s)) 0 (omega (arith, length-string w s e)) ∙ sym (ap (λ (n : ℕ). getD (unpack s) n 0) (sym k) ∙ sym (getD-drop w (unpack s) (i - w) 0) ∙ blank-at (drop w (unpack s)) (fits-blank w s e) (i - w))
+            List·getD-eq-default (take w (unpack s)) 0 (omega (arith, length-string w s e))
+            ∙ sym (ap (λ (n : ℕ). getD (unpack s) n 0) (sym k) ∙ sym (getD-drop w (unpack s) (i - w) 0)
+            ∙ blank-at (drop w (unpack s)) (fits-blank w s e) (i - w))

@@ -1,5 +1,5 @@
--- Strings of bits and how they are packed (document 01, "Rows, blocks, chunks", last paragraph). A string of bits is a list
--- of numbers, each 0 or 1; bytes are a list of numbers below 256.
+-- Strings of bits and how they are packed (document 01, "Rows, blocks, chunks", last paragraph). A string of bits is a
+-- list of numbers, each 0 or 1; bytes are a list of numbers below 256.
 use Prim.Native.Nat.{ℕ, zero, suc, _+_, _*_, _/_, _%_, _^_, _<_}
 use mathlib.Core.Bool.{Bool, true, false, _&&_}
 use mathlib.Core.List.{List, [], _∷_, _++_}

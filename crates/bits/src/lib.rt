@@ -50,7 +50,7 @@ fn bit_at(s: &[u8], i: usize) -> u8
 }
 
 // The eight bits of a byte, one byte a bit, from a place of a slice on.
-fn unpack_byte(b: u8, out: &mut [u8], at: usize)
+pub fn unpack_byte(b: u8, out: &mut [u8], at: usize)
     requires { ⌜ at + 8 ≤ length (now out) ⌝ }
     ensures { λ _. ⌜ now (out .exit) ≡ take at (now (out .entry)) ++ digits 8 b ++ drop (at + 8) (now (out .entry)) ⌝ }
 {
@@ -101,18 +101,23 @@ pub fn unpack(s: &[u8], w: usize, out: &mut [u8])
     unpack_part(s, n * 8, w, out);
 }
 
+// The next four bits of a string as a number, with no loop: their four bytes as one number, the last highest, times
+// 2 ^ 27 + 2 ^ 18 + 2 ^ 9 + 1 have the bits side by side from place 27 down to 24.
+fn four_bits(bits: &[u8], at: usize) -> usize
+    requires { ⌜ AllBits (now bits) × (at + 4 ≤ length (now bits)) ⌝ }
+    ensures { λ r. ⌜ (r ≡ number 4 (drop at (now (bits .entry)))) × (r < 16) ⌝ }
+{
+    let low = bits[at] as usize + bits[at + 1] as usize * 256;
+    let high = bits[at + 2] as usize + bits[at + 3] as usize * 256;
+    (low + high * 65536) * 134480385 / 16777216 % 16
+}
+
 // The next eight bits of a string, as a byte.
-fn whole_byte(bits: &[u8], at: usize) -> u8
+pub fn whole_byte(bits: &[u8], at: usize) -> u8
     requires { ⌜ AllBits (now bits) × (at + 8 ≤ length (now bits)) ⌝ }
     ensures { λ r. ⌜ r ≡ number 8 (drop at (now (bits .entry))) ⌝ }
 {
-    let mut v: u8 = 0;
-    let mut j: usize = 0;
-    while j < 8 {
-        v = v * 2 + bits[at + j];
-        j += 1;
-    }
-    v
+    (four_bits(bits, at) * 16 + four_bits(bits, at + 4)) as u8
 }
 
 // The same near the end of a string: past the end stands 0.

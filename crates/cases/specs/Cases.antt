@@ -21,7 +21,8 @@ pub data Case : Type 0 where
   has-message : Layout → (row message : List ℕ) → Case
   -- a length, a sum and bits pick this string
   picks : (w s : ℕ) (bits string : List ℕ) → Case
-  -- for a message, m, the received row packed and the list slice, listing answers this refusal and count, and the slice holds this
+  -- for a message, m, the received row packed and the list slice, listing answers this refusal and count, and the slice
+  -- holds this
   lists : (message : List ℕ) (m : ℕ) (received slice : List ℕ) (refusal count : ℕ) (after : List ℕ) → Case
   -- a message is refused by this number
   refuses : (message : List ℕ) (refusal : ℕ) → Case
@@ -38,10 +39,12 @@ answers a q v = eqb (a .refusal) q && eqb (a .value) v
 -- what the case says holds of the definitions
 unfoldable pub holds : Case → Bool
 unfolding same answers rowOf blockSums stringSums checks message mended listAnswer listSlice messageRefusal
-holds (has-sums l row bs ss cs) = same (blockSums l (rowOf l row)) bs && same (stringSums l (rowOf l row)) ss && same (checks l (rowOf l row)) cs
+holds (has-sums l row bs ss cs) =
+    same (blockSums l (rowOf l row)) bs && same (stringSums l (rowOf l row)) ss && same (checks l (rowOf l row)) cs
 holds (has-message l row m) = same (message l (rowOf l row)) m
 holds (picks w s bits string) = same (mended w s bits) string
-holds (lists s m received slice q count after) = answers (listAnswer s received m (length slice)) q count && same (listSlice s received m slice) after
+holds (lists s m received slice q count after) =
+    answers (listAnswer s received m (length slice)) q count && same (listSlice s received m slice) after
 holds (refuses s q) = eqb (messageRefusal s) q
 
 unfoldable pub holdAll : List Case → Bool
@@ -55,7 +58,8 @@ exampleRow = 0x4A ∷ 0x50 ∷ 0x3E ∷ 0x77 ∷ 0x10 ∷ 0x24 ∷ 0x46 ∷ 0x80
 
 -- its message, by the first byte after the head and the last byte
 exampleMessage : (first last : ℕ) → List ℕ
-exampleMessage first last = 0x52 ∷ 0x53 ∷ 0x4D ∷ 0x00 ∷ 0x01 ∷ 0x05 ∷ 0x03 ∷ 0x04 ∷ 0x04 ∷ first ∷ 0x34 ∷ 0xB5 ∷ 0xD0 ∷ 0x96 ∷ 0xDA ∷ last ∷ []
+exampleMessage first last =
+    0x52 ∷ 0x53 ∷ 0x4D ∷ 0x00 ∷ 0x01 ∷ 0x05 ∷ 0x03 ∷ 0x04 ∷ 0x04 ∷ first ∷ 0x34 ∷ 0xB5 ∷ 0xD0 ∷ 0x96 ∷ 0xDA ∷ last ∷ []
 
 -- the message of cases 3 to 5, by its sums
 small : (blockSum stringSum : ℕ) → List ℕ

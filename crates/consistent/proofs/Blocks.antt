@@ -14,21 +14,25 @@ use Rattle.consistent.proofs.Greedy.{losses-append, piece, whole, bits-
 use Rattle.consistent.proofs.Rule.{block-not-one}
 
 -- a whole block and a block with one loss have not the same sum
-whole-or-one : (a b y : List ℕ) → AllBits b → AllBits y → length a ≡ length b → sum a ≡ sum b → losses a y ≡ 0 → losses b y ≡ 1 → ⊥
+whole-or-one : (a b y : List ℕ) → AllBits b → AllBits y → length a ≡ length b → sum a ≡ sum b → losses a y ≡ 0
+    → losses b y ≡ 1 → ⊥
 whole-or-one a b y bb bt n s p q =
     let k = piece (length b) 0 a y n p in
     let e : sum (take (length b) y) ≡ sum b = rw (← n, ← whole a y p) s in
     block-not-one b y bb bt (omega (arith, k .within)) e q
 
 -- two blocks with the same sum and at most one loss each, against the same bits, are equal
-pub same-block : (a b y : List ℕ) → AllBits a → AllBits b → AllBits y → length a ≡ length b → sum a ≡ sum b → losses a y ≤ 1 → losses b y ≤ 1 → a ≡ b
+pub same-block : (a b y : List ℕ) → AllBits a → AllBits b → AllBits y → length a ≡ length b → sum a ≡ sum b
+    → losses a y ≤ 1 → losses b y ≤ 1 → a ≡ b
 same-block a b y ba bb bt n s p q = go (losses a y) (losses b y) refl refl p q
   where
     go : (i j : ℕ) → losses a y ≡ i → losses b y ≡ j → i ≤ 1 → j ≤ 1 → a ≡ b
     go zero zero e f p q = whole a y e ∙ ap (λ (w : ℕ). take w y) n ∙ sym (whole b y f)
     go zero (suc zero) e f p q = absurd (whole-or-one a b y bb bt n s e f)
     go (suc zero) zero e f p q = absurd (whole-or-one b a y ba bt (sym n) (sym s) f e)
-    go (suc zero) (suc zero) e f p q = unique a b (take (length b - 1) y) ba bb s (piece (length b) 1 a y n e .comes) (piece (length b) 1 b y refl f .comes)
+    go (suc zero) (suc zero) e f p q =
+        unique a b (take (length b - 1) y) ba bb s (piece (length b) 1 a y n e .comes)
+        (piece (length b) 1 b y refl f .comes)
     go zero (suc (suc j)) e f p q = absurd (omega arith)
     go (suc zero) (suc (suc j)) e f p q = absurd (omega arith)
     go (suc (suc i)) j e f p q = absurd (omega arith)
@@ -50,9 +54,13 @@ same-row (suc n) w x z y bx bz by p q s i j =
     let sums : sum a ∷ map sum (cut n w (drop w x)) ≡ sum b ∷ map sum (cut n w (drop w z)) = s in
     let ix : losses a y + losses (drop w x) (eat a y) ≤ 1 = omega (arith, losses-cut w x y) in
     let iz : losses b y + losses (drop w z) (eat b y) ≤ 1 = omega (arith, losses-cut w z y) in
-    let first : a ≡ b = same-block a b y (bits-take w x bx) (bits-take w z bz) by (length-take w x ∙ ap (min w) (p ∙ sym q) ∙ sym (length-take w z)) (cc) (omega arith) (omega arith) in
+    let first : a ≡ b =
+    same-block a b y (bits-take w x bx) (bits-take w z bz) by
+    (length-take w x ∙ ap (min w) (p ∙ sym q) ∙ sym (length-take w z)) (cc) (omega arith) (omega arith) in
     let nx : length (drop w x) ≡ n * w = simp length-drop (omega (arith, suc-mul n w)) in
     let nz : length (drop w z) ≡ n * w = simp length-drop (omega (arith, suc-mul n w)) in
     let jz : losses (drop w z) (eat a y) ≤ 1 = rw first (omega arith) in
-    let rest = same-row n w (drop w x) (drop w z) (eat a y) (bits-drop w x bx) (bits-drop w z bz) (bits-eat a y by) nx nz (cc) (omega arith) jz in
+    let rest =
+    same-row n w (drop w x) (drop w z) (eat a y) (bits-drop w x bx) (bits-drop w z bz) (bits-eat a y by) nx nz (cc)
+    (omega arith) jz in
     sym (take-append-drop w x) ∙ ap₂ (λ (u v : List ℕ). u ++ v) first rest ∙ take-append-drop w z

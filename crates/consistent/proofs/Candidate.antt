@@ -27,8 +27,10 @@ use Rattle.consistent.specs.Consistent.{bitsOf, yields, consistent, cand
 -- ---- what yields a message
 -- two joined lists whose first parts are of one length are equal part by part
 part-by-part : (a b c d : List ℕ) → length a ≡ length c → a ++ b ≡ c ++ d → (a ≡ c) × (b ≡ d)
-part-by-part a b c d n e =
-    (sym (take-at a b (length c) n) ∙ ap (take (length c)) e ∙ take-at c d (length c) refl, sym (drop-at a b (length c) n) ∙ ap (drop (length c)) e ∙ drop-at c d (length c) refl)
+part-by-part a b c d n e = (
+  sym (take-at a b (length c) n) ∙ ap (take (length c)) e ∙ take-at c d (length c) refl,
+  sym (drop-at a b (length c) n) ∙ ap (drop (length c)) e ∙ drop-at c d (length c) refl,
+)
 
 module _ (l : Layout) (x s : List ℕ) where
   -- the numbers of the row, and those that are read of the message
@@ -53,7 +55,11 @@ module _ (l : Layout) (x s : List ℕ) where
   of-numbers e =
       let n : length (blockSums l x) ≡ length (readBlockSums l s) = length-block-sums l x ∙ sym (block-count l s) in
       let m : length (stringSums l x) ≡ length (readStringSums l s) = length-string-sums l x ∙ sym (string-count l s) in
-      let p = part-by-part (blockSums l x) (stringSums l x ++ checks l x) (readBlockSums l s) (readStringSums l s ++ readChecks l s) n (sym (append-assoc (blockSums l x) (stringSums l x) (checks l x)) ∙ e ∙ append-assoc (readBlockSums l s) (readStringSums l s) (readChecks l s)) in
+      let p =
+      part-by-part (blockSums l x) (stringSums l x ++ checks l x) (readBlockSums l s)
+      (readStringSums l s ++ readChecks l s) n
+      (sym (append-assoc (blockSums l x) (stringSums l x) (checks l x)) ∙ e
+      ∙ append-assoc (readBlockSums l s) (readStringSums l s) (readChecks l s)) in
       let q = part-by-part (stringSums l x) (checks l x) (readStringSums l s) (readChecks l s) m (p .1) in
       rw (p .0, q .0, q .1) refl
 
@@ -64,12 +70,15 @@ module _ (l : Layout) (x s : List ℕ) where
       (λ h. ap (λ (t : List ℕ). same t s) (of-numbers (same-eq own given h) ∙ read-again) ∙ same-refl s)
     where
       read-again : encode l (readBlockSums l s) (readStringSums l s) (readChecks l s) ≡ s
-      read-again = ap (λ (m : Layout). encode m (readBlockSums m s) (readStringSums m s) (readChecks m s)) (sym k) ∙ encode-read s b e
+      read-again =
+          ap (λ (m : Layout). encode m (readBlockSums m s) (readStringSums m s) (readChecks m s)) (sym k)
+          ∙ encode-read s b e
 
 -- a row yields a fit message exactly when its sums and checks are the numbers that are read of it
 pub yields-numbers : (s x : List ℕ) → AllBytes s → messageRefusal s ≡ 0 → Row (rowBits (layoutOf s)) x
     → yields s x ≡ same (blockSums (layoutOf s) x ++ stringSums (layoutOf s) x ++ checks (layoutOf s) x) (numbersRead s)
-yields-numbers s x b e r = yields-is ∙ tested (layoutOf s) x s b e refl r ∙ ap (same (own (layoutOf s) x s)) (sym numbers-are)
+yields-numbers s x b e r =
+    yields-is ∙ tested (layoutOf s) x s b e refl r ∙ ap (same (own (layoutOf s) x s)) (sym numbers-are)
   where
     yields-is : yields s x ≡ same (message (layoutOf s) x) s
     yields-is = unfold yields in refl
@@ -86,10 +95,14 @@ module _ (l : Layout) (x numbers : List ℕ) (h : length numbers ≡ l .l1 + l .
   abbrev sums : List ℕ
   sums = blockSums l x ++ stringSums l x
 
-  in-parts : same all numbers ≡ (same sums (take (l .l1 + l .l2) numbers) && same (checks l x) (drop (l .l1 + l .l2) numbers))
+  in-parts : same all
+      numbers ≡ (same sums (take (l .l1 + l .l2) numbers) && same (checks l x) (drop (l .l1 + l .l2) numbers))
   in-parts =
-      let n : length (take (l .l1 + l .l2) numbers) ≡ l .l1 + l .l2 = length-take-le (l .l1 + l .l2) numbers (omega arith) in
-      ap (same all) (sym (take-append-drop (l .l1 + l .l2) numbers)) ∙ same-append sums (take (l .l1 + l .l2) numbers) (checks l x) (drop (l .l1 + l .l2) numbers) (length-sums l x ∙ sym n)
+      let n : length (take (l .l1 + l .l2) numbers) ≡ l .l1 + l .l2 =
+      length-take-le (l .l1 + l .l2) numbers (omega arith) in
+      ap (same all) (sym (take-append-drop (l .l1 + l .l2) numbers))
+      ∙ same-append sums (take (l .l1 + l .l2) numbers) (checks l x) (drop (l .l1 + l .l2) numbers)
+      (length-sums l x ∙ sym n)
 
   front : take (l .l1 + l .l2 - 0) (drop 0 numbers) ≡ take (l .l1 + l .l2) numbers
   front =
@@ -98,26 +111,33 @@ module _ (l : Layout) (x numbers : List ℕ) (h : length numbers ≡ l .l1 + l .
 
   -- other sums settle it
   pub sums-differ : same sums (take (l .l1 + l .l2 - 0) (drop 0 numbers)) ≡ false → false ≡ same all numbers
-  sums-differ e = sym (in-parts ∙ ap (λ (b : Bool). b && same (checks l x) (drop (l .l1 + l .l2) numbers)) (ap (same sums) (sym front) ∙ e))
+  sums-differ e =
+      sym (in-parts
+      ∙ ap (λ (b : Bool). b && same (checks l x) (drop (l .l1 + l .l2) numbers)) (ap (same sums) (sym front) ∙ e))
 
   -- where the sums are the same, the checks decide
-  pub sums-same : same sums (take (l .l1 + l .l2 - 0) (drop 0 numbers)) ≡ true → same (checks l x) (take (length numbers - (l .l1 + l .l2)) (drop (l .l1 + l .l2) numbers)) ≡ same all numbers
+  pub sums-same : same sums (take (l .l1 + l .l2 - 0) (drop 0 numbers)) ≡ true
+      → same (checks l x) (take (length numbers - (l .l1 + l .l2)) (drop (l .l1 + l .l2) numbers)) ≡ same all numbers
   sums-same e =
       ap (same (checks l x)) (part-to-end numbers (l .l1 + l .l2))
-      ∙ sym (in-parts ∙ ap (λ (b : Bool). b && same (checks l x) (drop (l .l1 + l .l2) numbers)) (ap (same sums) (sym front) ∙ e))
+      ∙ sym (in-parts
+      ∙ ap (λ (b : Bool). b && same (checks l x) (drop (l .l1 + l .l2) numbers)) (ap (same sums) (sym front) ∙ e))
 
 -- ---- the whole test
 -- for a fit message, its numbers and a row of its length, the test of a candidate is that of the definition
-pub candidate-is : (s y x : List ℕ) → AllBytes s → messageRefusal s ≡ 0 → Row (bitsOf s) x → candidate (layoutOf s) (numbersRead s) y x ≡ consistent s (length y) y x
+pub candidate-is : (s y x : List ℕ) → AllBytes s → messageRefusal s ≡ 0 → Row (bitsOf s) x
+    → candidate (layoutOf s) (numbersRead s) y x ≡ consistent s (length y) y x
 unfolding candidate consistent
 candidate-is s y x b e r =
     rw (eq-eqb (length x) (bitsOf s) (r .0), ← r .0, yields-numbers s x b e r) refl
 
 -- the two parts of the test
-pub comes-not-candidate : (l : Layout) (numbers y x : List ℕ) → comesFrom x (length x - length y) y ≡ false → false ≡ candidate l numbers y x
+pub comes-not-candidate : (l : Layout) (numbers y x : List ℕ) → comesFrom x (length x - length y) y ≡ false
+    → false ≡ candidate l numbers y x
 unfolding candidate
 comes-not-candidate l numbers y x e = rw e refl
 
-pub comes-candidate : (l : Layout) (numbers y x : List ℕ) → comesFrom x (length x - length y) y ≡ true → same (blockSums l x ++ stringSums l x ++ checks l x) numbers ≡ candidate l numbers y x
+pub comes-candidate : (l : Layout) (numbers y x : List ℕ) → comesFrom x (length x - length y) y ≡ true
+    → same (blockSums l x ++ stringSums l x ++ checks l x) numbers ≡ candidate l numbers y x
 unfolding candidate
 comes-candidate l numbers y x e = rw e refl

@@ -44,8 +44,8 @@ module _ (s : List ℕ) (m : ℕ) (y x : List ℕ) where
   unfolding consistent
   is-consistent c = rw (eq-eqb (length x) (bitsOf s) (c .long), c .comes) (own-yields s x (c .own))
 
-  -- "exactly the rows that have the length given by the message's layout, that yield this message, and from which the received
-  -- row comes by deleting bits"
+  -- "exactly the rows that have the length given by the message's layout, that yield this message, and from which the
+  -- received row comes by deleting bits"
   pub list-exact : Mem x (theList s m y) ↔ (Row (bitsOf s) x × (consistent s m y x ≡ true))
   unfolding theList
   list-exact = (kept-row (bitsOf s) (consistent s m y) x, λ h. row-kept (bitsOf s) (consistent s m y) x (h .0) (h .1))

@@ -38,11 +38,14 @@ eat-append (c ∷ a) b (d ∷ y) = go (eqb c d) (eat-append a b y) (eat-append a
 pub losses-append : (a b y : List ℕ) → losses (a ++ b) y ≡ losses a y + losses b (eat a y)
 unfolding eat losses
 losses-append [] b y = omega arith
-losses-append (c ∷ a) b [] = let h : losses (a ++ b) [] ≡ losses a [] + losses b [] = rw (eat-none a) at (losses-append a b []) in omega arith
+losses-append (c ∷ a) b [] =
+    let h : losses (a ++ b) [] ≡ losses a [] + losses b [] = rw (eat-none a) at (losses-append a b []) in omega arith
 losses-append (c ∷ a) b (d ∷ y) = go (eqb c d) (losses-append a b y) (losses-append a b (d ∷ y))
   where
-    go : (t : Bool) → losses (a ++ b) y ≡ losses a y + losses b (eat a y) → losses (a ++ b) (d ∷ y) ≡ losses a (d ∷ y) + losses b (eat a (d ∷ y))
-        → cond t (losses (a ++ b) y) (suc (losses (a ++ b) (d ∷ y))) ≡ cond t (losses a y) (suc (losses a (d ∷ y))) + losses b (cond t (eat a y) (eat a (d ∷ y)))
+    go : (t : Bool) → losses (a ++ b) y ≡ losses a y + losses b (eat a y)
+        → losses (a ++ b) (d ∷ y) ≡ losses a (d ∷ y) + losses b (eat a (d ∷ y))
+        → cond t (losses (a ++ b) y) (suc (losses (a ++ b) (d ∷ y)))
+        ≡ cond t (losses a y) (suc (losses a (d ∷ y))) + losses b (cond t (eat a y) (eat a (d ∷ y)))
     go true p q = p
     go false p q = omega arith
 
@@ -54,8 +57,10 @@ length-eat [] y = refl
 length-eat (b ∷ x) [] = let h = length-eat x [] in let e = ap (length {A = ℕ}) (eat-none x) in omega arith
 length-eat (b ∷ x) (c ∷ y) = go (eqb b c) (length-eat x y) (length-eat x (c ∷ y))
   where
-    go : (t : Bool) → length x + length (eat x y) ≡ losses x y + length y → length x + length (eat x (c ∷ y)) ≡ losses x (c ∷ y) + suc (length y)
-        → suc (length x) + length (cond t (eat x y) (eat x (c ∷ y))) ≡ cond t (losses x y) (suc (losses x (c ∷ y))) + suc (length y)
+    go : (t : Bool) → length x + length (eat x y) ≡ losses x y + length y
+        → length x + length (eat x (c ∷ y)) ≡ losses x (c ∷ y) + suc (length y)
+        → suc (length x) + length (cond t (eat x y) (eat x (c ∷ y)))
+        ≡ cond t (losses x y) (suc (losses x (c ∷ y))) + suc (length y)
     go true p q = omega arith
     go false p q = omega arith
 
@@ -66,7 +71,8 @@ losses-most [] y = omega arith
 losses-most (b ∷ x) [] = let h = losses-most x [] in omega arith
 losses-most (b ∷ x) (c ∷ y) = go (eqb b c) (losses-most x y) (losses-most x (c ∷ y))
   where
-    go : (t : Bool) → losses x y ≤ length x → losses x (c ∷ y) ≤ length x → cond t (losses x y) (suc (losses x (c ∷ y))) ≤ suc (length x)
+    go : (t : Bool) → losses x y ≤ length x → losses x (c ∷ y) ≤ length x
+        → cond t (losses x y) (suc (losses x (c ∷ y))) ≤ suc (length x)
     go true p q = omega arith
     go false p q = omega arith
 
@@ -97,7 +103,8 @@ eat-less [] y c h = absurd (omega (arith, ap (length {A = ℕ}) h))
 eat-less (b ∷ x) [] c h = refl
 eat-less (b ∷ x) (d ∷ y) c h = go (eqb b c) (eqb b d) h (eat-less x (d ∷ y) c) (eat-less x y d)
   where
-    go : (t u : Bool) → cond t (eat x (d ∷ y)) (eat x (c ∷ (d ∷ y))) ≡ [] → (eat x (c ∷ (d ∷ y)) ≡ [] → eat x (d ∷ y) ≡ [])
+    go : (t u : Bool) → cond t (eat x (d ∷ y)) (eat x (c ∷ (d ∷ y))) ≡ []
+        → (eat x (c ∷ (d ∷ y)) ≡ [] → eat x (d ∷ y) ≡ [])
         → (eat x (d ∷ y) ≡ [] → eat x y ≡ []) → cond u (eat x y) (eat x (d ∷ y)) ≡ []
     go true true h f g = g h
     go true false h f g = h
@@ -160,7 +167,9 @@ bits-eat p y a = rw (piece (length p) (losses p y) p y refl refl .rest) (bits-dr
 
 -- a piece without a loss is the next bits of the received row
 pub whole : (p y : List ℕ) → losses p y ≡ 0 → p ≡ take (length p) y
-whole p y l = strikes-none p (take (length p) y) (strikes p 0 (take (length p) y) (rw sub-zero at (piece (length p) 0 p y refl l .comes)))
+whole p y l =
+    strikes-none p (take (length p) y)
+    (strikes p 0 (take (length p) y) (rw sub-zero at (piece (length p) 0 p y refl l .comes)))
 
 whole-first : (p r : List ℕ) → losses p (p ++ r) ≡ 0
 unfolding losses
@@ -170,7 +179,8 @@ whole-first (b ∷ p) r = rw (eq-eqb b b refl) (whole-first p r)
 -- and the next bits of the received row have no loss
 pub reads-whole : (p y : List ℕ) → p ≡ take (length p) y → losses p y ≡ 0
 reads-whole p y e =
-    let s : y ≡ p ++ drop (length p) y = sym (ap (λ (l : List ℕ). l ++ drop (length p) y) e ∙ take-append-drop (length p) y) in
+    let s : y ≡ p ++ drop (length p) y =
+    sym (ap (λ (l : List ℕ). l ++ drop (length p) y) e ∙ take-append-drop (length p) y) in
     ap (losses p) s ∙ whole-first p (drop (length p) y)
 
 -- ---- the pieces of a row
@@ -181,4 +191,6 @@ table-total (p ∷ ps) y = ap (λ (n : ℕ). losses p y + n) (table-total ps (ea
 
 -- the losses of a row's pieces add up to the bits deleted
 pub table-cut : (n w k : ℕ) (x y : List ℕ) → length x ≡ n * w → comesFrom x k y ≡ true → inAll (table (cut n w x) y) ≡ k
-table-cut n w k x y e h = table-total (cut n w x) y ∙ ap (λ (t : List ℕ). losses t y) (flat-cut w n x ∙ take-all (n * w) x (omega arith)) ∙ comes-losses x k y h
+table-cut n w k x y e h =
+    table-total (cut n w x) y ∙ ap (λ (t : List ℕ). losses t y) (flat-cut w n x ∙ take-all (n * w) x (omega arith))
+    ∙ comes-losses x k y h

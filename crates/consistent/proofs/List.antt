@@ -53,37 +53,51 @@ module _ (s row : List ℕ) (m : ℕ) where
   rows-pass n k f = rw (le-ltb (bitsOf s) m n, le-ltb mostLosses (bitsOf s - m) k, f) refl
 
   -- a fit message and a fit row with at most 12 bits lost pass checks 1 to 8
-  pub input-passes : messageRefusal s ≡ 0 → m ≤ bitsOf s → bitsOf s - m ≤ mostLosses → fits m row ≡ true → firstRefusal (inputChecks s row m) ≡ 0
-  input-passes e n k f = input-is ∙ passed-before (messageChecks s) (rowChecks s row m) (all-numbered s) (sym message-is ∙ e) ∙ rows-pass n k f
+  pub input-passes : messageRefusal s ≡ 0 → m ≤ bitsOf s → bitsOf s - m ≤ mostLosses → fits m row ≡ true
+      → firstRefusal (inputChecks s row m) ≡ 0
+  input-passes e n k f =
+      input-is ∙ passed-before (messageChecks s) (rowChecks s row m) (all-numbered s) (sym message-is ∙ e)
+      ∙ rows-pass n k f
 
   room-passes : (slice : ℕ) → length (wanted s row m) ≤ room s slice → firstRefusal (roomCheck s row m slice) ≡ 0
   unfolding firstRefusal roomCheck
   room-passes slice h = rw (le-ltb (room s slice) (length (wanted s row m)) h) refl
 
   -- the rows written, where all fit
-  all-written : (slice : ℕ) → length (wanted s row m) ≤ room s slice → rowsWritten s row m slice ≡ flat (map pack (wanted s row m))
+  all-written : (slice : ℕ) → length (wanted s row m) ≤ room s slice
+      → rowsWritten s row m slice ≡ flat (map pack (wanted s row m))
   unfolding rowsWritten
   all-written slice h = ap (λ (xs : List (List ℕ)). flat (map pack xs)) (take-all (room s slice) (wanted s row m) h)
 
   -- what the slice holds after refusals 1 to 8, or none of them
-  pub slice-is : (slice : List ℕ) (q : ℕ) → firstRefusal (inputChecks s row m) ≡ q → listSlice s row m slice ≡ cond (eqb q 0) (rowsWritten s row m (length slice) ++ drop (length (rowsWritten s row m (length slice))) slice) slice
+  pub slice-is : (slice : List ℕ) (q : ℕ) → firstRefusal (inputChecks s row m) ≡ q
+      → listSlice s row m slice ≡ cond (eqb q 0)
+      (rowsWritten s row m (length slice) ++ drop (length (rowsWritten s row m (length slice))) slice) slice
   unfolding listSlice
-  slice-is slice q e = ap (λ (v : ℕ). cond (eqb v 0) (rowsWritten s row m (length slice) ++ drop (length (rowsWritten s row m (length slice))) slice) slice) e
+  slice-is slice q e =
+      ap (λ (v : ℕ). cond (eqb v 0)
+      (rowsWritten s row m (length slice) ++ drop (length (rowsWritten s row m (length slice))) slice) slice) e
 
   -- what is answered for a refusal, or for none
-  pub answer-is : (slice q : ℕ) → listRefusal s row m slice ≡ q → listAnswer s row m slice ≡ record { refusal = q; value = cond (eqb q 0) (length (wanted s row m)) 0 }
+  pub answer-is : (slice q : ℕ) → listRefusal s row m slice ≡ q
+      → listAnswer s row m slice ≡ record { refusal = q; value = cond (eqb q 0) (length (wanted s row m)) 0 }
   unfolding listAnswer
   answer-is slice q e = ap (λ (v : ℕ). record { refusal = v; value = cond (eqb v 0) (length (wanted s row m)) 0 }) e
 
   -- where all rows fit
-  module _ (slice : List ℕ) (e : firstRefusal (inputChecks s row m) ≡ 0) (h : length (wanted s row m) ≤ room s (length slice)) where
+  module _ (slice : List ℕ) (e : firstRefusal (inputChecks s row m) ≡ 0)
+      (h : length (wanted s row m) ≤ room s (length slice)) where
     list-passes : listRefusal s row m (length slice) ≡ 0
-    list-passes = list-is (length slice) ∙ passed-before (inputChecks s row m) (roomCheck s row m (length slice)) (input-numbered s row m) e ∙ room-passes (length slice) h
+    list-passes =
+        list-is (length slice)
+        ∙ passed-before (inputChecks s row m) (roomCheck s row m (length slice)) (input-numbered s row m) e
+        ∙ room-passes (length slice) h
 
     -- listing answers their number
     pub list-counts : listAnswer s row m (length slice) ≡ record { refusal = 0; value = length (wanted s row m) }
     list-counts = answer-is (length slice) 0 list-passes
 
     -- and writes them all
-    pub list-writes : listSlice s row m slice ≡ flat (map pack (wanted s row m)) ++ drop (length (flat (map pack (wanted s row m)))) slice
+    pub list-writes : listSlice s row m slice
+        ≡ flat (map pack (wanted s row m)) ++ drop (length (flat (map pack (wanted s row m)))) slice
     list-writes = slice-is slice 0 e ∙ ap (λ (o : List ℕ). o ++ drop (length o) slice) (all-written (length slice) h)

@@ -1,6 +1,6 @@
--- The rule of the source (document 01, "Steps of the source"): "if the next nb bits have the block's sum, one loss there yields no
--- row that zero losses don't also yield, so only zero and two or more are tried". It is a theorem on a row's own losses, and holds
--- for a chunk inside its chunk-string just so. Assumes nothing.
+-- The rule of the source (document 01, "Steps of the source"): "if the next nb bits have the block's sum, one loss
+-- there yields no row that zero losses don't also yield, so only zero and two or more are tried". It is a theorem on a
+-- row's own losses, and holds for a chunk inside its chunk-string just so. Assumes nothing.
 use Prim.Native.Nat.{ℕ, zero, suc, _-_, _<_, _≤_}
 use mathlib.Core.Path.{_≡_, refl, sym, ap, _∙_}
 use mathlib.Core.Bool.{true}
@@ -47,11 +47,14 @@ comes-last (suc w) z p h =
 -- what stands between equal strings is equal
 between : (p c d q : List ℕ) → length c ≡ length d → p ++ c ++ q ≡ p ++ d ++ q → c ≡ d
 between p c d q n e =
-    let i : c ++ q ≡ d ++ q = sym (drop-at p (c ++ q) (length p) refl) ∙ ap (drop (length p)) (sym (append-assoc p c q) ∙ e ∙ append-assoc p d q) ∙ drop-at p (d ++ q) (length p) refl in
+    let i : c ++ q ≡ d ++ q =
+    sym (drop-at p (c ++ q) (length p) refl) ∙ ap (drop (length p)) (sym (append-assoc p c q) ∙ e ∙ append-assoc p d q)
+    ∙ drop-at p (d ++ q) (length p) refl in
     sym (take-at c q (length c) refl) ∙ ap (take (length c)) i ∙ take-at d q (length c) (sym n)
 
 -- two strings that give the same bits by one deletion, and in their place the same sum, are equal
-same-in-place : (p c d q t : List ℕ) → AllBits p → AllBits c → AllBits d → AllBits q → length c ≡ length d → sum (p ++ c ++ q) ≡ sum (p ++ d ++ q)
+same-in-place : (p c d q t : List ℕ) → AllBits p → AllBits c → AllBits d → AllBits q → length c ≡ length d
+    → sum (p ++ c ++ q) ≡ sum (p ++ d ++ q)
     → comesFrom c 1 t ≡ true → comesFrom d 1 t ≡ true → c ≡ d
 same-in-place p c d q t bp bc bd bq n s e f =
     between p c d q n
@@ -59,24 +62,29 @@ same-in-place p c d q t bp bc bd bq n s e f =
     (bits-append (p ++ c) q (bits-append p c bp bc) bq) (bits-append (p ++ d) q (bits-append p d bp bd) bq) s
     (comes-within p c q t e) (comes-within p d q t f))
 
--- the rule: where the next bits of the received row, put in the place of c, give the whole string its sum, c has not one loss.
--- With one loss, c and these bits would give the same bits by one deletion: they would be equal, and c would have taken them whole.
+-- the rule: where the next bits of the received row, put in the place of c, give the whole string its sum, c has not
+-- one loss. With one loss, c and these bits would give the same bits by one deletion: they would be equal, and c would
+-- have taken them whole.
 pub not-one : (p c q z : List ℕ) → AllBits p → AllBits c → AllBits q → AllBits z → length c ≤ length z
     → sum (p ++ take (length c) z ++ q) ≡ sum (p ++ c ++ q) → losses c z ≡ 1 → ⊥
 not-one p c q z bp bc bq bz n s l =
     let d = take (length c) z in
     let k = piece (length c) 1 c z refl l in
     let w : 0 < length c = omega (arith, losses-most c z) in
-    let e = same-in-place p c d q (take (length c - 1) z) bp bc (bits-take (length c) z bz) bq (sym (length-take-le (length c) z n)) (sym s) (k .comes) (comes-last (length c) z w n) in
+    let e =
+    same-in-place p c d q (take (length c - 1) z) bp bc (bits-take (length c) z bz) bq
+    (sym (length-take-le (length c) z n)) (sym s) (k .comes) (comes-last (length c) z w n) in
     omega (arith, reads-whole c z e)
 
 -- the rule for a block: "if the next nb bits have the block's sum"
-pub block-not-one : (b z : List ℕ) → AllBits b → AllBits z → length b ≤ length z → sum (take (length b) z) ≡ sum b → losses b z ≡ 1 → ⊥
+pub block-not-one : (b z : List ℕ) → AllBits b → AllBits z → length b ≤ length z → sum (take (length b) z) ≡ sum b
+    → losses b z ≡ 1 → ⊥
 block-not-one b z bb bz n s l =
     not-one [] b [] z tt bb tt bz n (rw (append-nil (take (length b) z), append-nil b) s) l
 
 -- where c has one loss, the string around it is mended from the next bits, one fewer than c has, in c's place
-pub mended-within : (w : ℕ) (p c q z : List ℕ) → AllBits p → AllBits c → AllBits q → length (p ++ c ++ q) ≡ w → losses c z ≡ 1
+pub mended-within : (w : ℕ) (p c q z : List ℕ) → AllBits p → AllBits c → AllBits q → length (p ++ c ++ q) ≡ w
+    → losses c z ≡ 1
     → p ++ c ++ q ≡ mended w (sum (p ++ c ++ q)) (p ++ take (length c - 1) z ++ q)
 mended-within w p c q z bp bc bq n l =
     let t = take (length c - 1) z in
@@ -88,5 +96,6 @@ mended-within w p c q z bp bc bq n l =
     })
 
 -- a block with one loss is the mended string of the next nb − 1 bits
-pub block-mended : (w : ℕ) (b z : List ℕ) → AllBits b → length b ≡ w → losses b z ≡ 1 → b ≡ mended w (sum b) (take (w - 1) z)
+pub block-mended : (w : ℕ) (b z : List ℕ) → AllBits b → length b ≡ w → losses b z ≡ 1
+    → b ≡ mended w (sum b) (take (w - 1) z)
 block-mended w b z a n l = rw (append-nil, append-nil, n) at (mended-within w [] b [] z tt a tt (rw (append-nil b) n) l)

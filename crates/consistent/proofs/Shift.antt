@@ -1,5 +1,5 @@
--- A row's own losses up to a place say where the received row is read from there on: x's bits from place s on are matched against
--- y from place s − d on, where d of the s bits before took nothing. Assumes nothing.
+-- A row's own losses up to a place say where the received row is read from there on: x's bits from place s on are
+-- matched against y from place s − d on, where d of the s bits before took nothing. Assumes nothing.
 use Prim.Native.Nat.{ℕ, _+_, _-_, _≤_}
 use mathlib.Core.Path.{_≡_, refl, ap, _∙_}
 use mathlib.Core.List.{List}

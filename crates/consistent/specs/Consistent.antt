@@ -20,26 +20,27 @@ mostLosses = 12
 abbrev pub bitsOf : List ℕ → ℕ
 bitsOf s = rowBits (layoutOf s)
 
--- "a row yields a message, and the message is the row's own, if the row's message under the layout named there equals it byte
--- for byte"
+-- "a row yields a message, and the message is the row's own, if the row's message under the layout named there equals
+-- it byte for byte"
 unfoldable pub yields : (s x : List ℕ) → Bool
 unfolding same message layoutOf
 yields s x = same (message (layoutOf s) x) s
 
--- "a row X is consistent if it has n bits, the received row comes from X by deleting k bits, and X's message under the layout
--- equals the given one byte for byte": s is the message, y the received row of m bits, and k = n − m. The field calls x a
--- supersequence of y with the given syndromes.
+-- "a row X is consistent if it has n bits, the received row comes from X by deleting k bits, and X's message under the
+-- layout equals the given one byte for byte": s is the message, y the received row of m bits, and k = n − m. The field
+-- calls x a supersequence of y with the given syndromes.
 unfoldable pub consistent : (s : List ℕ) (m : ℕ) (y x : List ℕ) → Bool
 unfolding layoutOf comesFrom yields
 consistent s m y x = eqb (length x) (bitsOf s) && comesFrom x (bitsOf s - m) y && yields s x
 
--- "take all strings of n bits in dictionary order, from all zeros to all ones, and keep those that are consistent, in that order"
+-- "take all strings of n bits in dictionary order, from all zeros to all ones, and keep those that are consistent, in
+-- that order"
 unfoldable pub theList : (s : List ℕ) (m : ℕ) (y : List ℕ) → List (List ℕ)
 unfolding layoutOf allRows keep consistent
 theList s m y = keep (consistent s m y) (allRows (bitsOf s))
 
--- the same by the numbers that were read of the message: the received row comes from x by deleting bits, and x has these block
--- sums, chunk-string sums and checks
+-- the same by the numbers that were read of the message: the received row comes from x by deleting bits, and x has
+-- these block sums, chunk-string sums and checks
 unfoldable pub candidate : Layout → (numbers y x : List ℕ) → Bool
 unfolding comesFrom same blockSums stringSums checks
 candidate l numbers y x =

@@ -1,5 +1,5 @@
--- Listing (document 01, "The list" and "Operations and their refusal table"): what is answered, and what the list slice holds
--- afterwards, for any message, packed row, bit count and slice.
+-- Listing (document 01, "The list" and "Operations and their refusal table"): what is answered, and what the list slice
+-- holds afterwards, for any message, packed row, bit count and slice.
 use Prim.Native.Nat.{ℕ, _-_, _/_, min}
 use mathlib.Core.Bool.{not, cond, _||_}
 use mathlib.Core.List.{List, [], _∷_, _++_, map}
@@ -25,8 +25,8 @@ unfoldable pub wanted : (s row : List ℕ) (m : ℕ) → List (List ℕ)
 unfolding theList unpack
 wanted s row m = theList s m (take m (unpack row))
 
--- what is checked of the received row: "m above n, or n − m above 12"; "a row .. of another byte count than its bits need, or a
--- spare bit 1"
+-- what is checked of the received row: "m above n, or n − m above 12"; "a row .. of another byte count than its bits
+-- need, or a spare bit 1"
 unfoldable pub rowChecks : (s row : List ℕ) (m : ℕ) → List Check
 unfolding layoutOf fits
 rowChecks s row m = (7, ltb (bitsOf s) m || ltb mostLosses (bitsOf s - m)) ∷ (8, not (fits m row)) ∷ []
@@ -46,20 +46,26 @@ unfoldable pub listRefusal : (s row : List ℕ) (m slice : ℕ) → ℕ
 unfolding inputChecks roomCheck firstRefusal
 listRefusal s row m slice = firstRefusal (inputChecks s row m ++ roomCheck s row m slice)
 
--- what listing answers: "the number of consistent rows, which is the length of this list". With `listSlice` below it is a function
--- of message, row, bit count and slice and of nothing else, so the archive gives in December the list that it gave in March.
+-- what listing answers: "the number of consistent rows, which is the length of this list". With `listSlice` below it is
+-- a function of message, row, bit count and slice and of nothing else, so the archive gives in December the list that
+-- it gave in March.
 unfoldable pub listAnswer : (s row : List ℕ) (m slice : ℕ) → Answer
 unfolding listRefusal wanted
 listAnswer s row m slice =
-    record { refusal = listRefusal s row m slice; value = cond (eqb (listRefusal s row m slice) 0) (length (wanted s row m)) 0 }
+    record {
+      refusal = listRefusal s row m slice;
+      value = cond (eqb (listRefusal s row m slice) 0) (length (wanted s row m)) 0;
+    }
 
--- the bytes that listing puts at the start of a slice of so many bytes: the first rows, as many as fit, packed one after another
+-- the bytes that listing puts at the start of a slice of so many bytes: the first rows, as many as fit, packed one
+-- after another
 unfoldable pub rowsWritten : (s row : List ℕ) (m slice : ℕ) → List ℕ
 unfolding room wanted pack flat
 rowsWritten s row m slice = flat (map pack (take (room s slice) (wanted s row m)))
 
--- the list slice afterwards: unchanged on refusals 1 to 8; else "packed in dictionary order from its start, and its bytes beyond
--- them are as at entry", on refusal 9 "as many of the first consistent rows as fit, in order; the rest unchanged"
+-- the list slice afterwards: unchanged on refusals 1 to 8; else "packed in dictionary order from its start, and its
+-- bytes beyond them are as at entry", on refusal 9 "as many of the first consistent rows as fit, in order; the rest
+-- unchanged"
 unfoldable pub listSlice : (s row : List ℕ) (m : ℕ) (slice : List ℕ) → List ℕ
 unfolding inputChecks firstRefusal rowsWritten
 listSlice s row m slice =

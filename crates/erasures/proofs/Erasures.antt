@@ -1,5 +1,5 @@
--- The one law of the checks: a check and 2 ^ c times the one before it have no term of chunk c left, and keep the others as
--- terms. So as many checks as there are erased chunks fix their contents. Assumes nothing.
+-- The one law of the checks: a check and 2 ^ c times the one before it have no term of chunk c left, and keep the
+-- others as terms. So as many checks as there are erased chunks fix their contents. Assumes nothing.
 use Prim.Native.Nat.{ℕ, zero, suc, _+_, _-_, _*_, _^_, _<_, _≤_}
 use mathlib.Core.Path.{_≡_, refl, sym, ap, ap₂, _∙_}
 use mathlib.Core.List.{List}
@@ -148,7 +148,8 @@ module _ (nc : ℕ) (lo : 3 ≤ nc) (hi : nc ≤ 8) where
   apart-power : (n : ℕ) (c : ℕ → ℕ) → Places nc n c → (z u : ℕ) → z < n → u < n → (z ≡ u → ⊥)
       → 0 < bitXor (power nc (c z)) (power nc (c u))
   apart-power n c p z u hz hu ne =
-      let same : power nc (c z) ≡ power nc (c u) → c z ≡ c u = log-unique nc lo hi (c z) (c u) (p .low z hz) (p .low u hu) in
+      let same : power nc (c z) ≡ power nc (c u) → c z ≡ c u =
+      log-unique nc lo hi (c z) (c u) (p .low z hz) (p .low u hu) in
       let apart : bitXor (power nc (c z)) (power nc (c u)) ≡ 0 → ⊥ =
       λ h. ne (p .apart z u hz hu (same (xor-same (power nc (c z)) (power nc (c u)) h)))
       in
@@ -229,4 +230,5 @@ module _ (nc : ℕ) (lo : 3 ≤ nc) (hi : nc ≤ 8) where
         sym (xor-zero-r sum) ∙ ap (λ (m : ℕ). bitXor sum (brought nc 0 c e z m)) (sym none) ∙ r .1
         ∙ ap (λ (t : ℕ). bitXor t others) whole ∙ other-summand (e u) others
         in
-        set-each (λ (v x : ℕ). u ≤ v → v < n → x ≡ e v) out u sum l (λ v ne p q. r .0 v (omega arith) (omega arith)) (λ p q. is)
+        set-each (λ (v x : ℕ). u ≤ v → v < n → x ≡ e v) out u sum l (λ v ne p q. r .0 v (omega arith) (omega arith))
+        (λ p q. is)

@@ -1,5 +1,6 @@
--- Erased chunks: what chunks that are still to be found bring to the checks, and how one of them is taken out of it. The field calls
--- what is missing of the checks the syndromes, and a chunk whose place is known and whose content is not an erasure.
+-- Erased chunks: what chunks that are still to be found bring to the checks, and how one of them is taken out of it.
+-- The field calls what is missing of the checks the syndromes, and a chunk whose place is known and whose content is
+-- not an erasure.
 use Prim.Native.Nat.{ℕ, zero, suc, _+_, _*_, _^_, _<_, _≤_}
 use mathlib.Core.Path.{_≡_}
 use mathlib.Core.Bool.{cond}
@@ -9,7 +10,8 @@ use lib.Dec.{eqb}
 use lib.ListN.{getD}
 use Rattle.field.specs.Field.{Element, power, times}
 
--- what k erased chunks from the u-th on bring to check i: the field sum of 2 ^ (i * c) times e over their places c and contents e
+-- what k erased chunks from the u-th on bring to check i: the field sum of 2 ^ (i * c) times e over their places c and
+-- contents e
 unfoldable pub brought : (nc i : ℕ) (c e : ℕ → ℕ) (u k : ℕ) → ℕ
 unfolding power times
 brought nc i c e u zero = 0

@@ -39,7 +39,8 @@ unfolding has
 has-at x [] t = absurd t
 has-at x (y ∷ ys) t = go (eqb y x) refl t (has-at x ys)
   where
-    go : (b : Bool) → eqb y x ≡ b → T (either b (has x ys)) → (T (has x ys) → (k : ℕ) × (k < length ys) × (getD ys k 0 ≡ x))
+    go : (b : Bool) → eqb y x ≡ b → T (either b (has x ys))
+        → (T (has x ys) → (k : ℕ) × (k < length ys) × (getD ys k 0 ≡ x))
         → (k : ℕ) × (k < length (y ∷ ys)) × (getD (y ∷ ys) k 0 ≡ x)
     go true e t later = (0, omega arith, eqb-true y x e)
     go false e t later =

@@ -76,7 +76,8 @@ double-large nc x l = ap (λ (t : Bool). cond t (2 * x) (bitXor (2 * x) (polynom
 pub double-carries : (nc x : ℕ) → Element nc x → double nc x ≡ bitXor (2 * x) (pick (carry nc x) (polynomial nc))
 double-carries nc x h = go (decLt (2 * x) (2 ^ nc))
   where
-    taken : {d : ℕ} → carry nc x ≡ d → bitXor (2 * x) (pick d (polynomial nc)) ≡ bitXor (2 * x) (pick (carry nc x) (polynomial nc))
+    taken : {d : ℕ} → carry nc x ≡ d
+        → bitXor (2 * x) (pick d (polynomial nc)) ≡ bitXor (2 * x) (pick (carry nc x) (polynomial nc))
     taken e = ap (λ (d : ℕ). bitXor (2 * x) (pick d (polynomial nc))) (sym e)
 
     go : Dec (2 * x < 2 ^ nc) → double nc x ≡ bitXor (2 * x) (pick (carry nc x) (polynomial nc))
@@ -112,20 +113,27 @@ module _ (nc : ℕ) (lo : 3 ≤ nc) (hi : nc ≤ 8) where
 
   pub double-element : (x : ℕ) → Element nc x → Element nc (double nc x)
   double-element x h =
-      let none = ap (λ (n : ℕ). n / 2 ^ nc) (double-carries nc x h) ∙ xor-shr (2 * x) (pick (carry nc x) (polynomial nc)) nc ∙ off (carry nc x) (carry-digit nc x h) in
+      let none =
+      ap (λ (n : ℕ). n / 2 ^ nc) (double-carries nc x h) ∙ xor-shr (2 * x) (pick (carry nc x) (polynomial nc)) nc
+      ∙ off (carry nc x) (carry-digit nc x h) in
       let low : double nc x < 1 * 2 ^ nc = div-lt-iff-lt-mul (pow-pos nc) .0 (omega arith) in
       omega arith
     where
       off : (d : ℕ) → d < 2 → bitXor d (pick d (polynomial nc) / 2 ^ nc) ≡ 0
-      off = digit (λ (d : ℕ). bitXor d (pick d (polynomial nc) / 2 ^ nc) ≡ 0) (div-eq-of-lt (pow-pos nc)) (ap (bitXor 1) polynomial-first)
+      off =
+          digit (λ (d : ℕ). bitXor d (pick d (polynomial nc) / 2 ^ nc) ≡ 0) (div-eq-of-lt (pow-pos nc))
+          (ap (bitXor 1) polynomial-first)
 
   -- only 0 doubles to 0
   pub double-nonzero : (x : ℕ) → Element nc x → double nc x ≡ 0 → x ≡ 0
   double-nonzero x h z =
-      only (carry nc x) (carry-digit nc x h) (xor-same (2 * x) (pick (carry nc x) (polynomial nc)) (sym (double-carries nc x h) ∙ z))
+      only (carry nc x) (carry-digit nc x h)
+      (xor-same (2 * x) (pick (carry nc x) (polynomial nc)) (sym (double-carries nc x h) ∙ z))
     where
       only : (d : ℕ) → d < 2 → 2 * x ≡ pick d (polynomial nc) → x ≡ 0
-      only = digit (λ (d : ℕ). 2 * x ≡ pick d (polynomial nc) → x ≡ 0) (λ e. omega arith) (λ e. omega (arith, polynomial-last))
+      only =
+          digit (λ (d : ℕ). 2 * x ≡ pick d (polynomial nc) → x ≡ 0) (λ e. omega arith)
+          (λ e. omega (arith, polynomial-last))
 
   pub power-element : (e : ℕ) → Element nc (power nc e)
   unfolding power

@@ -1,5 +1,5 @@
--- 2 generates each field: every element but 0 is a power of 2, and of one exponent only; so what holds of the powers holds of
--- the elements. Assumes nothing.
+-- 2 generates each field: every element but 0 is a power of 2, and of one exponent only; so what holds of the powers
+-- holds of the elements. Assumes nothing.
 use Prim.Native.Nat.{ℕ, zero, suc, _+_, _-_, _^_, _<_, _≤_}
 use mathlib.Core.Path.{_≡_, sym, ap, ap₂, _∙_, subst}
 use mathlib.Core.Bool.{not}
@@ -40,7 +40,8 @@ module _ (nc : ℕ) (lo : 3 ≤ nc) (hi : nc ≤ 8) where
       let up : n + (e - d) ≡ n - d + e = omega arith in
       let down : n - d + d ≡ n = omega arith in
       sym (power-period nc lo hi (e - d)) ∙ ap (power nc) up ∙ sym (times-power nc lo hi (n - d) e)
-      ∙ ap (times nc (power nc (n - d))) (sym s) ∙ times-power nc lo hi (n - d) d ∙ ap (power nc) down ∙ power-order nc lo hi
+      ∙ ap (times nc (power nc (n - d))) (sym s) ∙ times-power nc lo hi (n - d) d ∙ ap (power nc) down
+      ∙ power-order nc lo hi
 
   power-distinct : (d e : ℕ) → d < e → e + 1 < 2 ^ nc → power nc d ≡ power nc e → ⊥
   power-distinct d e l h s =
@@ -73,13 +74,16 @@ module _ (nc : ℕ) (lo : 3 ≤ nc) (hi : nc ≤ 8) where
   times-nonzero a b ha hb pa pb =
       let r = log-exists a pa ha in
       let s = log-exists b pb hb in
-      let e : power nc (r .0 + s .0) ≡ times nc a b = sym (times-power nc lo hi (r .0) (s .0)) ∙ ap₂ (times nc) (r .2) (s .2) in
+      let e : power nc (r .0 + s .0) ≡ times nc a b =
+      sym (times-power nc lo hi (r .0) (s .0)) ∙ ap₂ (times nc) (r .2) (s .2) in
       let n : times nc a b ≡ 0 → ⊥ = λ z. power-nonzero nc lo hi (r .0 + s .0) (e ∙ z) in
       omega arith
 
   pub times-of-one : (a : ℕ) → Element nc a → times nc a 1 ≡ a
   unfolding power
-  times-of-one = by-powers (λ (x : ℕ). times nc x 1 ≡ x) (times-zero nc 1) (λ e. times-power nc lo hi e 0 ∙ ap (power nc) (add-zero e))
+  times-of-one =
+      by-powers (λ (x : ℕ). times nc x 1 ≡ x) (times-zero nc 1)
+      (λ e. times-power nc lo hi e 0 ∙ ap (power nc) (add-zero e))
 
   power-comm : (d b : ℕ) → Element nc b → times nc (power nc d) b ≡ times nc b (power nc d)
   unfolding power
@@ -90,11 +94,15 @@ module _ (nc : ℕ) (lo : 3 ≤ nc) (hi : nc ≤ 8) where
       double-times nc lo hi p b hp hb ∙ ap (double nc) (power-comm d b hb) ∙ sym (times-of-double nc lo hi b p hp)
 
   pub times-comm : (a b : ℕ) → Element nc a → Element nc b → times nc a b ≡ times nc b a
-  times-comm a b ha hb = by-powers (λ (x : ℕ). times nc x b ≡ times nc b x) (times-zero nc b ∙ sym (times-of-zero nc b)) (λ d. power-comm d b hb) a ha
+  times-comm a b ha hb =
+      by-powers (λ (x : ℕ). times nc x b ≡ times nc b x) (times-zero nc b ∙ sym (times-of-zero nc b))
+      (λ d. power-comm d b hb) a ha
 
-  power-assoc : (d b c : ℕ) → Element nc b → Element nc c → times nc (times nc (power nc d) b) c ≡ times nc (power nc d) (times nc b c)
+  power-assoc : (d b c : ℕ) → Element nc b → Element nc c
+      → times nc (times nc (power nc d) b) c ≡ times nc (power nc d) (times nc b c)
   unfolding power
-  power-assoc zero b c hb hc = ap (λ (n : ℕ). times nc n c) (times-one nc lo hi b) ∙ sym (times-one nc lo hi (times nc b c))
+  power-assoc zero b c hb hc =
+      ap (λ (n : ℕ). times nc n c) (times-one nc lo hi b) ∙ sym (times-one nc lo hi (times nc b c))
   power-assoc (suc d) b c hb hc =
       let p = power nc d in
       let hp = power-element nc lo hi d in
@@ -103,7 +111,8 @@ module _ (nc : ℕ) (lo : 3 ≤ nc) (hi : nc ≤ 8) where
       ∙ ap (double nc) (power-assoc d b c hb hc)
       ∙ sym (double-times nc lo hi p (times nc b c) hp (times-element nc lo hi b c hc))
 
-  pub times-assoc : (a b c : ℕ) → Element nc a → Element nc b → Element nc c → times nc (times nc a b) c ≡ times nc a (times nc b c)
+  pub times-assoc : (a b c : ℕ) → Element nc a → Element nc b → Element nc c
+      → times nc (times nc a b) c ≡ times nc a (times nc b c)
   times-assoc a b c ha hb hc =
       by-powers (λ (x : ℕ). times nc (times nc x b) c ≡ times nc x (times nc b c))
       (ap (λ (n : ℕ). times nc n c) (times-zero nc b) ∙ times-zero nc c ∙ sym (times-zero nc (times nc b c)))

@@ -25,7 +25,8 @@ xorEach-elements nc (x ∷ xs) [] hx hy k = pow-pos nc
 xorEach-elements nc (x ∷ xs) (y ∷ ys) hx hy zero = xor-lt nc x y (hx 0) (hy 0)
 xorEach-elements nc (x ∷ xs) (y ∷ ys) hx hy (suc k) = xorEach-elements nc xs ys (λ n. hx (suc n)) (λ n. hy (suc n)) k
 
-cut : (nc i c : ℕ) (xs ys : List ℕ) → checkFrom nc i c (xs ++ ys) ≡ bitXor (checkFrom nc i c xs) (checkFrom nc i (c + length xs) ys)
+cut : (nc i c : ℕ) (xs ys : List ℕ)
+    → checkFrom nc i c (xs ++ ys) ≡ bitXor (checkFrom nc i c xs) (checkFrom nc i (c + length xs) ys)
 unfolding checkFrom
 cut nc i c [] ys = ap (λ (n : ℕ). checkFrom nc i n ys) (sym (add-zero c))
 cut nc i c (x ∷ xs) ys =
@@ -40,7 +41,8 @@ module _ (nc : ℕ) (lo : 3 ≤ nc) (hi : nc ≤ 8) where
   checkFrom-element i c [] h = pow-pos nc
   checkFrom-element i c (x ∷ xs) h =
       let t = times nc (power nc (i * c)) x in
-      xor-lt nc t (checkFrom nc i (suc c) xs) (times-element nc lo hi (power nc (i * c)) x (h 0)) (checkFrom-element i (suc c) xs (λ n. h (suc n)))
+      xor-lt nc t (checkFrom nc i (suc c) xs) (times-element nc lo hi (power nc (i * c)) x (h 0))
+      (checkFrom-element i (suc c) xs (λ n. h (suc n)))
 
   pub check-element : (i : ℕ) (xs : List ℕ) → Elements nc xs → Element nc (check nc i xs)
   unfolding check
@@ -54,7 +56,8 @@ module _ (nc : ℕ) (lo : 3 ≤ nc) (hi : nc ≤ 8) where
   joined i c (x ∷ xs) [] l hx hy = absurd (omega arith)
   joined i c (x ∷ xs) (y ∷ ys) l hx hy =
       let p = power nc (i * c) in
-      ap₂ bitXor (times-of-xor nc lo hi p x y (hx 0) (hy 0)) (joined i (suc c) xs ys (omega arith) (λ n. hx (suc n)) (λ n. hy (suc n)))
+      ap₂ bitXor (times-of-xor nc lo hi p x y (hx 0) (hy 0))
+      (joined i (suc c) xs ys (omega arith) (λ n. hx (suc n)) (λ n. hy (suc n)))
       ∙ xor-cross (times nc p x) (times nc p y) (checkFrom nc i (suc c) xs) (checkFrom nc i (suc c) ys)
 
   -- a check is linear

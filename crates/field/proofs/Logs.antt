@@ -32,13 +32,16 @@ module _ (nc : ℕ) (lo : 3 ≤ nc) (hi : nc ≤ 8) (xs : List ℕ) (long : 2 ^ 
   log-at zero d h l = absurd (not-suc-le-zero l)
   log-at (suc e) d h l = go (decLt d e) (log-at e d (omega arith))
     where
-      go : Dec (d < e) → (d < e → getD (withLogs nc e xs) (power nc d) 0 ≡ d) → getD (withLogs nc (suc e) xs) (power nc d) 0 ≡ d
+      go : Dec (d < e) → (d < e → getD (withLogs nc e xs) (power nc d) 0 ≡ d)
+          → getD (withLogs nc (suc e) xs) (power nc d) 0 ≡ d
       go (yes m) below =
-          getD-set-other (withLogs nc e xs) (power nc e) (power nc d) e 0 (λ s. omega (arith, log-unique nc lo hi d e (omega arith) (omega arith) s)) ∙ below m
+          getD-set-other (withLogs nc e xs) (power nc e) (power nc d) e 0
+          (λ s. omega (arith, log-unique nc lo hi d e (omega arith) (omega arith) s)) ∙ below m
       go (no n) below =
           let same : d ≡ e = omega arith in
           ap (λ (j : ℕ). getD (withLogs nc (suc e) xs) (power nc j) 0) same
-          ∙ getD-set-same (withLogs nc e xs) (power nc e) e 0 (omega (arith, power-element nc lo hi e, length-withLogs nc e xs)) ∙ sym same
+          ∙ getD-set-same (withLogs nc e xs) (power nc e) e 0
+          (omega (arith, power-element nc lo hi e, length-withLogs nc e xs)) ∙ sym same
 
   -- all logs, and the one of x
   filled : List ℕ

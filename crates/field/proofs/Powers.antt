@@ -54,7 +54,9 @@ runs-at (suc j) nc (suc k) e h l =
 pub in-table : (nc e : ℕ) → 3 ≤ nc → nc ≤ 8 → e + 1 < 2 ^ nc → start 3 (nc - 3) + e < 498
 unfolding start
 in-table nc e lo hi h =
-    let l = each (λ (n : ℕ). start 3 (n - 3) + (2 ^ n - 1) ≤ 498) (lit≤ tt) (lit≤ tt) (lit≤ tt) (lit≤ tt) (lit≤ tt) (lit≤ tt) nc lo hi in
+    let l =
+    each (λ (n : ℕ). start 3 (n - 3) + (2 ^ n - 1) ≤ 498) (lit≤ tt) (lit≤ tt) (lit≤ tt) (lit≤ tt) (lit≤ tt) (lit≤ tt) nc
+    lo hi in
     omega arith
 
 pub table-at : (nc e : ℕ) → 3 ≤ nc → nc ≤ 8 → e + 1 < 2 ^ nc → getD powers (start 3 (nc - 3) + e) 0 ≡ power nc e

@@ -1,38 +1,26 @@
--- The terms of the checks, given by their exponents: a loop's turn, one check's terms made the next one's, and their sum. Assumes
--- nothing.
-use Prim.Native.Nat.{ℕ, suc, _+_, _-_, _*_, _^_, _<_, _≤_}
+-- The terms of the checks, given by exponents: listed chunk by chunk, one check's made the next one's, and their sum.
+-- Assumes nothing.
+use Prim.Native.Nat.{ℕ, zero, suc, _+_, _-_, _*_, _^_, _<_, _≤_}
 use mathlib.Core.Path.{_≡_, refl, sym, ap, ap₂, _∙_}
-use mathlib.Core.Bool.{Bool, cond}
-use mathlib.Core.List.{List, [], _∷_}
-use native.Mathlib.Decide.{decLt}
-use native.Mathlib.Nat.{zero-mul, add-zero, add-comm}
+use mathlib.Core.List.{List}
+use native.Mathlib.Decide.{decLt, ℕ-discrete}
+use native.Mathlib.Nat.{add-comm}
 use native.Mathlib.Numerals.{add-one}
 use native.Mathlib.Omega.{arith}
-use borrow.Author.Tests.{lt-ltb, le-ltb}
-use lib.Bits.{bitXor, xor-zero-r}
-use lib.ListN.{length, getD, set, take, drop}
-use lib.Pow.{pow-pos}
+use lib.Bits.{bitXor, xor-zero-l, xor-zero-r}
+use lib.ListN.{length, getD, set, take, drop, replicate}
 use lib.Seq.{drop-cons, drop-length, getD-set-same, getD-set-other, getD-take, length-take-le}
-use Rattle.field.specs.Exponents.{named, AllNamed, Names, sumAt}
-use Rattle.field.specs.Field.{Elements, power, times, checkFrom, check}
-use Rattle.field.proofs.Double.{power-element}
-use Rattle.field.proofs.Generator.{times-assoc}
-use Rattle.field.proofs.Times.{times-of-zero, times-one, times-power, power-period}
+use Rattle.field.specs.Exponents.{AllPowers, Exponents, sumTo, term, Terms}
+use Rattle.field.specs.Field.{power, times, checkFrom, check}
+use Rattle.field.proofs.Double.{size-low}
+use Rattle.field.proofs.Times.{times-of-zero, times-power, power-period}
 use Rattle.field.proofs.Xor.{xor-assoc}
-
--- what an exponent names
-pub named-power : (nc e : ℕ) → e + 1 < 2 ^ nc → named nc e ≡ power nc e
-unfolding named
-named-power nc e h = ap (λ (t : Bool). cond t (power nc e) 0) (lt-ltb e (2 ^ nc - 1) (omega arith))
-
-pub named-zero : (nc e : ℕ) → 2 ^ nc ≤ e + 1 → named nc e ≡ 0
-unfolding named
-named-zero nc e h = ap (λ (t : Bool). cond t (power nc e) 0) (le-ltb e (2 ^ nc - 1) (omega arith))
 
 -- ---- lists of exponents
 
 -- what holds of the first n entries of a list at their places, once entry n is written
-pub entries-next : (P : ℕ → ℕ → Type 0) (n : ℕ) (es : List ℕ) → ((c : ℕ) → c < n → P c (getD es c 0)) → n < length es → (v : ℕ) → P n v
+pub entries-next : (P : ℕ → ℕ → Type 0) (n : ℕ) (es : List ℕ) → ((c : ℕ) → c < n → P c (getD es c 0)) → n < length es
+    → (v : ℕ) → P n v
     → (c : ℕ) → c < n + 1 → P c (getD (set es n v) c 0)
 entries-next P n es q h v e c k = go (decLt c n)
   where
@@ -40,96 +28,143 @@ entries-next P n es q h v e c k = go (decLt c n)
     go (yes m) = rw (getD-set-other es n c v 0 (λ s. omega arith)) (q c m)
     go (no m) = let s : c ≡ n = omega arith in rw (s, getD-set-same es n v 0 h) e
 
--- exponent n is written
-pub names-next : (nc n : ℕ) (es : List ℕ) (f : ℕ → ℕ) → Names nc n es f → n < length es → (v : ℕ) → v < 2 ^ nc → named nc v ≡ f n → Names nc (n + 1) (set es n v) f
-names-next nc n es f q h v l e =
-    record {
-      low = entries-next (λ (c x : ℕ). x < 2 ^ nc) n es (q .low) h v l;
-      name = entries-next (λ (c x : ℕ). named nc x ≡ f c) n es (q .name) h v e;
-    }
+-- zeros are exponents
+zeros : (n k : ℕ) → _≡_ {A = ℕ} (getD (replicate n 0) k 0) 0
+zeros zero k = refl
+zeros (suc n) zero = refl
+zeros (suc n) (suc k) = zeros n k
 
--- fewer of them
-pub names-fewer : (nc n m : ℕ) (es : List ℕ) (f : ℕ → ℕ) → n ≤ m → Names nc m es f → Names nc n es f
-names-fewer nc n m es f h q = record { low = λ c k. q .low c (omega arith); name = λ c k. q .name c (omega arith) }
+pub exponents-none : (nc : ℕ) → 3 ≤ nc → (n : ℕ) → Exponents nc (replicate n 0)
+exponents-none nc lo n k = rw (zeros n k) (omega (arith, size-low nc lo))
 
--- with zeros behind them, more than these are below 2 ^ nc
-pub low-rest : (nc n m : ℕ) (es : List ℕ) (f : ℕ → ℕ) → Names nc n es f → ((k : ℕ) → n ≤ k → k < m → getD es k 0 ≡ 0)
-    → (c : ℕ) → c < m → getD es c 0 < 2 ^ nc
-low-rest nc n m es f q z c h = go (decLt c n)
+-- an exponent is written
+pub exponents-set : (nc n v : ℕ) (es : List ℕ) → Exponents nc es → n < length es → v + 1 < 2 ^ nc
+    → Exponents nc (set es n v)
+exponents-set nc n v es q h l k = go (ℕ-discrete k n)
   where
-    go : Dec (c < n) → getD es c 0 < 2 ^ nc
-    go (yes k) = q .low c k
-    go (no k) = rw (z c (omega arith) h) (pow-pos nc)
+    go : Dec (k ≡ n) → getD (set es n v) k 0 + 1 < 2 ^ nc
+    go (yes s) = rw (s, getD-set-same es n v 0 h) l
+    go (no s) = rw (getD-set-other es n k v 0 s) (q k)
 
--- the sum of those that are left, taken apart at the first
-pub sum-next : (p : List ℕ) (c s x : ℕ) (es : List ℕ) → c < length es → x ≡ getD p (getD es c 0) 0
-    → bitXor (bitXor s x) (sumAt p (drop (c + 1) es)) ≡ bitXor s (sumAt p (drop c es))
-unfolding sumAt
-sum-next p c s x es h e = xor-assoc s x (sumAt p (drop (c + 1) es)) ∙ rw (e, drop-cons es c 0 h, add-one c) refl
+-- ---- sums
 
-pub sum-none : (p : List ℕ) (c s : ℕ) (es : List ℕ) → c ≡ length es → bitXor s (sumAt p (drop c es)) ≡ s
-unfolding sumAt
-sum-none p c s es e = rw (e, drop-length es) (xor-zero-r s)
+pub sum-next : (n : ℕ) (f : ℕ → ℕ) → sumTo (n + 1) f ≡ bitXor (sumTo n f) (f n)
+unfolding sumTo
+sum-next n f = ap (λ (m : ℕ). sumTo m f) (add-one n)
 
--- ---- terms
+pub sum-same : (n : ℕ) (f g : ℕ → ℕ) → ((k : ℕ) → k < n → f k ≡ g k) → sumTo n f ≡ sumTo n g
+unfolding sumTo
+sum-same zero f g h = refl
+sum-same (suc n) f g h = ap₂ bitXor (sum-same n f g (λ k m. h k (omega arith))) (h n (omega arith))
 
--- term c of check i of the chunks xs
-abbrev pub term : (nc i : ℕ) (xs : List ℕ) (c : ℕ) → ℕ
-term nc i xs c = times nc (power nc (i * c)) (getD xs c 0)
+-- what the chunks from c on leave of a check, taken apart at the first
+check-next : (nc i c : ℕ) (xs : List ℕ) → c < length xs
+    → checkFrom nc i c (drop c xs)
+    ≡ bitXor (times nc (power nc (i * c)) (getD xs c 0)) (checkFrom nc i (c + 1) (drop (c + 1) xs))
+unfolding checkFrom
+check-next nc i c xs h = rw (drop-cons xs c 0 h, add-one c) refl
 
-sum-from : (nc i c : ℕ) (p es xs : List ℕ) → length es ≡ length xs
-    → ((k : ℕ) → k < length xs → getD p (getD es k 0) 0 ≡ times nc (power nc (i * (c + k))) (getD xs k 0)) → sumAt p es ≡ checkFrom nc i c xs
-unfolding sumAt checkFrom
-sum-from nc i c p [] [] l h = refl
-sum-from nc i c p [] (x ∷ xs) l h = absurd (omega arith)
-sum-from nc i c p (e ∷ es) [] l h = absurd (omega arith)
-sum-from nc i c p (e ∷ es) (x ∷ xs) l h =
-    ap₂ bitXor (rw (add-zero c) at (h 0 (omega arith)))
-    (sum-from nc i (suc c) p es xs (omega arith) (λ k m. let s : suc c + k ≡ c + suc k = omega arith in rw s (h (suc k) (omega arith))))
+-- ---- the list of terms
 
--- what the exponents of a check's terms, lent, name sums to the check
-pub terms-check : (nc i : ℕ) (p es xs : List ℕ) → AllNamed nc p → length xs ≤ length es → Names nc (length xs) es (term nc i xs)
-    → sumAt p (take (length xs - 0) es) ≡ check nc i xs
-unfolding check
-terms-check nc i p es xs a l q =
-    let m : length xs - 0 ≡ length xs = omega arith in
-    rw m
-    (sum-from nc i 0 p (take (length xs) es) xs (length-take-le (length xs) es l)
-    (λ k h. let z : 0 + k ≡ k = omega arith in
-    rw (z, getD-take (length xs) es k 0 h) (a (getD es k 0) (q .low k h) ∙ q .name k h)))
+pub terms-none : (nc : ℕ) (xs cs es : List ℕ) → Exponents nc cs → Exponents nc es → Terms nc 0 0 xs cs es
+unfolding sumTo check
+terms-none nc xs cs es p q =
+    record { few = omega arith; places = p; exponents = q; bring = λ i. xor-zero-l (check nc i xs) }
+
+-- chunk c is 0: it brings nothing
+pub terms-zero : (nc n c : ℕ) (xs cs es : List ℕ) → Terms nc n c xs cs es → c < length xs → getD xs c 0 ≡ 0
+    → Terms nc n (c + 1) xs cs es
+terms-zero nc n c xs cs es q h z =
+    record {
+      few = omega (arith, q .few);
+      places = q .places;
+      exponents = q .exponents;
+      bring = λ i. ap (bitXor (sumTo n (term nc i cs es))) (sym (none i)) ∙ q .bring i;
+    }
+  where
+    none : (i : ℕ) → checkFrom nc i c (drop c xs) ≡ checkFrom nc i (c + 1) (drop (c + 1) xs)
+    none i =
+        check-next nc i c xs h
+        ∙ ap (λ (x : ℕ). bitXor x (checkFrom nc i (c + 1) (drop (c + 1) xs)))
+        (ap (times nc (power nc (i * c))) z ∙ times-of-zero nc (power nc (i * c)))
+        ∙ xor-zero-l (checkFrom nc i (c + 1) (drop (c + 1) xs))
+
+-- chunk c is a power of 2: it is listed
+pub terms-some : (nc n c e : ℕ) (xs cs es : List ℕ) → Terms nc n c xs cs es → c < length xs → n < length cs
+    → n < length es
+    → c + 1 < 2 ^ nc → e + 1 < 2 ^ nc → power nc e ≡ getD xs c 0 → Terms nc (n + 1) (c + 1) xs (set cs n c) (set es n e)
+terms-some nc n c e xs cs es q h l m a b s =
+    record {
+      few = omega (arith, q .few);
+      places = exponents-set nc n c cs (q .places) l a;
+      exponents = exponents-set nc n e es (q .exponents) m b;
+      bring = λ i. ap (λ (x : ℕ). bitXor x (rest i)) (one-more i) ∙ xor-assoc (sumTo n (term nc i cs es)) (own i) (rest i)
+          ∙ ap (bitXor (sumTo n (term nc i cs es))) (sym (check-next nc i c xs h)) ∙ q .bring i;
+    }
+  where
+    rest : ℕ → ℕ
+    rest i = checkFrom nc i (c + 1) (drop (c + 1) xs)
+
+    own : ℕ → ℕ
+    own i = times nc (power nc (i * c)) (getD xs c 0)
+
+    others : (i k : ℕ) → k < n → term nc i (set cs n c) (set es n e) k ≡ term nc i cs es k
+    others i k r =
+        ap₂ (λ (x y : ℕ). times nc (power nc (i * x)) (power nc y)) (getD-set-other cs n k c 0 (λ t. omega arith))
+        (getD-set-other es n k e 0 (λ t. omega arith))
+
+    here : (i : ℕ) → term nc i (set cs n c) (set es n e) n ≡ own i
+    here i =
+        ap₂ (λ (x y : ℕ). times nc (power nc (i * x)) y) (getD-set-same cs n c 0 l)
+        (ap (power nc) (getD-set-same es n e 0 m) ∙ s)
+
+    one-more : (i : ℕ) → sumTo (n + 1) (term nc i (set cs n c) (set es n e)) ≡ bitXor (sumTo n (term nc i cs es)) (own i)
+    one-more i = sum-next n (term nc i (set cs n c) (set es n e)) ∙ ap₂ bitXor (sum-same n _ _ (others i)) (here i)
+
+-- all chunks are listed or 0
+terms-all : (nc n i : ℕ) (xs cs es : List ℕ) → Terms nc n (length xs) xs cs es → sumTo n (term nc i cs es) ≡ check nc i xs
+unfolding checkFrom
+terms-all nc n i xs cs es q =
+    sym (ap (λ (l : List ℕ). bitXor (sumTo n (term nc i cs es)) (checkFrom nc i (length xs) l)) (drop-length xs)
+    ∙ xor-zero-r (sumTo n (term nc i cs es)))
+    ∙ q .bring i
+
+-- ---- from check to check
+
+-- the powers of the first n exponents of fs are the terms of check i
+abbrev pub AreTerms : (nc n i : ℕ) (cs es fs : List ℕ) → Type 0
+AreTerms nc n i cs es fs = (k : ℕ) → k < n → power nc (getD fs k 0) ≡ term nc i cs es k
+
+-- the sum of what these exponents, lent, name is the check
+pub terms-check : (nc n i : ℕ) (p xs cs es fs : List ℕ) → AllPowers nc p → Exponents nc fs → n ≤ length fs
+    → Terms nc n (length xs) xs cs es → AreTerms nc n i cs es fs
+    → sumTo (length (take (n - 0) fs)) (λ k. getD p (getD (take (n - 0) fs) k 0) 0) ≡ check nc i xs
+terms-check nc n i p xs cs es fs a b l q t =
+    let z : n - 0 ≡ n = omega arith in
+    rw (z, length-take-le n fs l)
+    (sum-same n _ _ (λ k h. rw (getD-take n fs k 0 h) (a (getD fs k 0) (b k) ∙ t k h)) ∙ terms-all nc n i xs cs es q)
 
 module _ (nc : ℕ) (lo : 3 ≤ nc) (hi : nc ≤ 8) where
-  -- the chunks are the terms of check 0
-  pub first-terms : (n : ℕ) (es xs : List ℕ) → Names nc n es (λ c. getD xs c 0) → Names nc n es (term nc 0 xs)
-  unfolding power
-  first-terms n es xs q =
-      record { low = q .low; name = λ c h. q .name c h ∙ sym (times-one nc lo hi (getD xs c 0)) ∙ ap (λ (e : ℕ). times nc (power nc e) (getD xs c 0)) (sym (zero-mul c)) }
+  -- the listed exponents are the terms of check 0
+  pub first-terms : (n : ℕ) (cs es : List ℕ) → AreTerms nc n 0 cs es es
+  first-terms n cs es k h =
+      let z : 0 * getD cs k 0 + getD es k 0 ≡ getD es k 0 = omega arith in
+      sym (times-power nc lo hi (0 * getD cs k 0) (getD es k 0) ∙ ap (power nc) z)
 
-  -- term c of a check times 2 ^ c is that of the next
-  pub next-terms : (n i : ℕ) (es fs xs : List ℕ) → Elements nc xs → Names nc n es (term nc i xs)
-      → Names nc n fs (λ c. times nc (power nc c) (named nc (getD es c 0))) → Names nc n fs (term nc (i + 1) xs)
-  next-terms n i es fs xs a q r =
-      record {
-        low = r .low;
-        name = λ c h. r .name c h
-            ∙ ap (times nc (power nc c)) (q .name c h)
-            ∙ sym (times-assoc nc lo hi (power nc c) (power nc (i * c)) (getD xs c 0) (power-element nc lo hi c) (power-element nc lo hi (i * c)) (a c))
-            ∙ ap (λ (p : ℕ). times nc p (getD xs c 0)) (times-power nc lo hi c (i * c) ∙ ap (power nc) (more c));
-      }
-    where
-      more : (c : ℕ) → c + i * c ≡ (i + 1) * c
-      more c = omega arith
+  -- raised by their chunks' places they are those of the next check
+  pub next-terms : (n i j : ℕ) (cs es fs gs : List ℕ) → i + 1 ≡ j → AreTerms nc n i cs es fs
+      → ((k : ℕ) → k < n → power nc (getD gs k 0) ≡ times nc (power nc (getD cs k 0)) (power nc (getD fs k 0)))
+      → AreTerms nc n j cs es gs
+  next-terms n i j cs es fs gs s q r k h =
+      let c : ℕ = getD cs k 0 in
+      let e : ℕ = getD es k 0 in
+      let more : c + (i * c + e) ≡ j * c + e = rw (sym s) (omega arith) in
+      r k h ∙ ap (times nc (power nc c)) (q k h ∙ times-power nc lo hi (i * c) e) ∙ times-power nc lo hi c (i * c + e)
+      ∙ ap (power nc) more ∙ sym (times-power nc lo hi (j * c) e)
 
-  -- raising an exponent by c
-  pub raise-low : (e c : ℕ) → e + c + 1 < 2 ^ nc → named nc (e + c) ≡ times nc (power nc c) (named nc e)
-  raise-low e c h =
-      named-power nc (e + c) h ∙ ap (power nc) (add-comm e c) ∙ sym (times-power nc lo hi c e)
-      ∙ ap (times nc (power nc c)) (sym (named-power nc e (omega arith)))
+  -- an exponent raised by c, and one that comes round
+  pub raise-low : (e c : ℕ) → power nc (e + c) ≡ times nc (power nc c) (power nc e)
+  raise-low e c = ap (power nc) (add-comm e c) ∙ sym (times-power nc lo hi c e)
 
-  pub raise-round : (e c k : ℕ) → e + 1 < 2 ^ nc → c < 2 ^ nc → 2 ^ nc - 1 + k ≡ c + e → named nc k ≡ times nc (power nc c) (named nc e)
-  raise-round e c k h l s =
-      named-power nc k (omega arith) ∙ sym (power-period nc lo hi k) ∙ ap (power nc) s ∙ sym (times-power nc lo hi c e)
-      ∙ ap (times nc (power nc c)) (sym (named-power nc e h))
-
-  pub raise-zero : (e c : ℕ) → 2 ^ nc ≤ e + 1 → named nc e ≡ times nc (power nc c) (named nc e)
-  raise-zero e c h = let z = named-zero nc e h in rw z (sym (times-of-zero nc (power nc c)))
+  pub raise-round : (e c k : ℕ) → 2 ^ nc - 1 + k ≡ c + e → power nc k ≡ times nc (power nc c) (power nc e)
+  raise-round e c k s = sym (power-period nc lo hi k) ∙ ap (power nc) s ∙ sym (times-power nc lo hi c e)

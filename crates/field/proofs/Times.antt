@@ -19,7 +19,8 @@ digits-xor nc (suc k) a b y =
     ap₂ bitXor
     (ap (λ (d : ℕ). pick d y) (xor-odd a b) ∙ pick-xor (a % 2) (b % 2) y (last-digit a) (last-digit b))
     (ap (λ (n : ℕ). timesDigits nc k n (double nc y)) (xor-half a b) ∙ digits-xor nc k (a / 2) (b / 2) (double nc y))
-    ∙ xor-cross (pick (a % 2) y) (pick (b % 2) y) (timesDigits nc k (a / 2) (double nc y)) (timesDigits nc k (b / 2) (double nc y))
+    ∙ xor-cross (pick (a % 2) y) (pick (b % 2) y) (timesDigits nc k (a / 2) (double nc y))
+    (timesDigits nc k (b / 2) (double nc y))
 
 digits-zero : (nc k y : ℕ) → timesDigits nc k 0 y ≡ 0
 unfolding timesDigits
@@ -56,7 +57,8 @@ halves : (nc x : ℕ) → Element nc x → x ≡ bitXor (double nc (x / 2)) (x %
 halves nc x h =
     let even : 2 * (x / 2) ≡ x / 2 * 2 = omega arith in
     let doubled = double-small nc (x / 2) (omega arith) ∙ even in
-    sym (div-add-mod' x 2) ∙ sym (xor-shifted (x / 2) 1 (x % 2) (last-digit x)) ∙ ap (λ (n : ℕ). bitXor n (x % 2)) (sym doubled)
+    sym (div-add-mod' x 2) ∙ sym (xor-shifted (x / 2) 1 (x % 2) (last-digit x))
+    ∙ ap (λ (n : ℕ). bitXor n (x % 2)) (sym doubled)
 
 -- the product is linear in each factor
 pub times-xor : (nc a b y : ℕ) → times nc (bitXor a b) y ≡ bitXor (times nc a y) (times nc b y)
@@ -100,9 +102,11 @@ module _ (nc : ℕ) (lo : 3 ≤ nc) (hi : nc ≤ 8) where
   digits-double (suc k) a y h =
       let dy = double nc y in
       let hd = double-element nc lo hi y h in
-      let picked = digit (λ (d : ℕ). pick d dy ≡ double nc (pick d y)) (sym (double-zero nc)) refl (a % 2) (last-digit a) in
+      let picked =
+      digit (λ (d : ℕ). pick d dy ≡ double nc (pick d y)) (sym (double-zero nc)) refl (a % 2) (last-digit a) in
       ap₂ bitXor picked (digits-double k (a / 2) dy hd)
-      ∙ sym (double-xor nc (pick (a % 2) y) (timesDigits nc k (a / 2) dy) (pick-element (a % 2) y (last-digit a) h) (digits-element k (a / 2) dy hd))
+      ∙ sym (double-xor nc (pick (a % 2) y) (timesDigits nc k (a / 2) dy) (pick-element (a % 2) y (last-digit a) h)
+      (digits-element k (a / 2) dy hd))
 
   -- the polynomial, with 2 put in for its unknown, is 0
   polynomial-root : timesDigits nc (suc nc) (polynomial nc) 1 ≡ 0
@@ -123,8 +127,10 @@ module _ (nc : ℕ) (lo : 3 ≤ nc) (hi : nc ≤ 8) where
       step y ih h =
           let small : Element nc (y / 2) = omega arith in
           let bit : Element nc (y % 2) = omega arith in
-          let twice : by (double nc (y / 2)) ≡ 0 = digits-double (suc nc) (polynomial nc) (y / 2) small ∙ ap (double nc) (ih small) ∙ double-zero nc in
-          ap by (halves nc y h) ∙ digits-of-xor (suc nc) (polynomial nc) (double nc (y / 2)) (y % 2) (double-element nc lo hi (y / 2) small) bit
+          let twice : by (double nc (y / 2)) ≡ 0 =
+          digits-double (suc nc) (polynomial nc) (y / 2) small ∙ ap (double nc) (ih small) ∙ double-zero nc in
+          ap by (halves nc y h)
+          ∙ digits-of-xor (suc nc) (polynomial nc) (double nc (y / 2)) (y % 2) (double-element nc lo hi (y / 2) small) bit
           ∙ ap₂ bitXor twice (last (y % 2) (last-digit y))
 
   -- ---- the product
@@ -133,7 +139,8 @@ module _ (nc : ℕ) (lo : 3 ≤ nc) (hi : nc ≤ 8) where
   unfolding times
   times-element a b h = digits-element nc a b h
 
-  pub times-of-xor : (a x y : ℕ) → Element nc x → Element nc y → times nc a (bitXor x y) ≡ bitXor (times nc a x) (times nc a y)
+  pub times-of-xor : (a x y : ℕ) → Element nc x → Element nc y
+      → times nc a (bitXor x y) ≡ bitXor (times nc a x) (times nc a y)
   unfolding times
   times-of-xor a x y hx hy = digits-of-xor nc a x y hx hy
 
@@ -152,7 +159,9 @@ module _ (nc : ℕ) (lo : 3 ≤ nc) (hi : nc ≤ 8) where
   unfolding times
   times-double a y ha hy =
       let p = pick (carry nc a) (polynomial nc) in
-      let off = digit (λ (d : ℕ). timesDigits nc (suc nc) (pick d (polynomial nc)) y ≡ 0) (digits-zero nc (suc nc) y) (polynomial-times y hy) in
+      let off =
+      digit (λ (d : ℕ). timesDigits nc (suc nc) (pick d (polynomial nc)) y ≡ 0) (digits-zero nc (suc nc) y)
+      (polynomial-times y hy) in
       sym (digits-more nc nc (double nc a) y (double-element nc lo hi a ha))
       ∙ ap (λ (n : ℕ). timesDigits nc (suc nc) n y) (double-carries nc a ha)
       ∙ digits-xor nc (suc nc) (2 * a) p y

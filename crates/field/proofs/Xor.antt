@@ -22,7 +22,8 @@ differ-digit x y hx hy =
 differ-assoc : (x y z : ℕ) → x < 2 → y < 2 → z < 2 → differ (differ x y) z ≡ differ x (differ y z)
 differ-assoc x y z hx hy hz =
     digit (λ (n : ℕ). differ (differ n y) z ≡ differ n (differ y z)) refl
-    (digit (λ (n : ℕ). differ (differ 1 n) z ≡ differ 1 (differ n z)) refl (digit (λ (n : ℕ). differ 0 n ≡ differ 1 (differ 1 n)) refl refl z hz) y hy)
+    (digit (λ (n : ℕ). differ (differ 1 n) z ≡ differ 1 (differ n z)) refl
+    (digit (λ (n : ℕ). differ 0 n ≡ differ 1 (differ 1 n)) refl refl z hz) y hy)
     x hx
 
 xor-low : (a b : ℕ) → bitXor a b % 2 ≡ differ (a % 2) (b % 2)

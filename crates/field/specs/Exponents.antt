@@ -1,28 +1,32 @@
--- Elements given by exponents of 2.
-use Prim.Native.Nat.{ℕ, _-_, _^_, _<_}
+-- Elements but 0 given by exponents of 2, and the terms of the checks given so.
+use Prim.Native.Nat.{ℕ, zero, suc, _+_, _*_, _^_, _<_, _≤_}
 use mathlib.Core.Path.{_≡_}
-use mathlib.Core.Bool.{cond}
-use mathlib.Core.List.{List, [], _∷_}
+use mathlib.Core.List.{List}
 use lib.Bits.{bitXor}
-use lib.Dec.{ltb}
-use lib.ListN.{getD}
-use Rattle.field.specs.Field.{power}
+use lib.ListN.{length, getD, drop}
+use Rattle.field.specs.Field.{power, times, checkFrom, check}
 
--- the element that an exponent names: its power of 2, and 0 for one that is too high
-unfoldable pub named : (nc e : ℕ) → ℕ
-unfolding power
-named nc e = cond (ltb e (2 ^ nc - 1)) (power nc e) 0
+-- a list that has each power of 2 at its exponent's place
+abbrev pub AllPowers : (nc : ℕ) → List ℕ → Type 0
+AllPowers nc p = (e : ℕ) → e + 1 < 2 ^ nc → getD p e 0 ≡ power nc e
 
--- a list that has the element that each exponent below 2 ^ nc names, at the exponent's place
-abbrev pub AllNamed : (nc : ℕ) → List ℕ → Type 0
-AllNamed nc p = (e : ℕ) → e < 2 ^ nc → getD p e 0 ≡ named nc e
+-- a list of exponents, each below 2 ^ nc - 1 (past its end 0 stands, which is one)
+abbrev pub Exponents : (nc : ℕ) → List ℕ → Type 0
+Exponents nc es = (k : ℕ) → getD es k 0 + 1 < 2 ^ nc
 
--- the first n exponents of a list are below 2 ^ nc and name f 0, f 1 and so on
-pub record Names (nc n : ℕ) (es : List ℕ) (f : ℕ → ℕ) : Type 0 where
-  pub low : (c : ℕ) → c < n → getD es c 0 < 2 ^ nc
-  pub name : (c : ℕ) → c < n → named nc (getD es c 0) ≡ f c
+-- the field sum of f 0, f 1 and so on, n of them
+unfoldable pub sumTo : (n : ℕ) (f : ℕ → ℕ) → ℕ
+sumTo zero f = 0
+sumTo (suc n) f = bitXor (sumTo n f) (f n)
 
--- the field sum of the entries of p at places
-unfoldable pub sumAt : (p places : List ℕ) → ℕ
-sumAt p [] = 0
-sumAt p (e ∷ es) = bitXor (getD p e 0) (sumAt p es)
+-- what chunk cs[k] brings to check i, where es[k] is the exponent of its content
+abbrev pub term : (nc i : ℕ) (cs es : List ℕ) (k : ℕ) → ℕ
+term nc i cs es k = times nc (power nc (i * getD cs k 0)) (power nc (getD es k 0))
+
+-- of the first c of the chunks xs, n are listed, those but 0: each one's place in cs and the exponent of its content in
+-- es. They bring to each check all that the other chunks leave of it
+pub record Terms (nc n c : ℕ) (xs cs es : List ℕ) : Type 0 where
+  pub few : n ≤ c
+  pub places : Exponents nc cs
+  pub exponents : Exponents nc es
+  pub bring : (i : ℕ) → bitXor (sumTo n (term nc i cs es)) (checkFrom nc i c (drop c xs)) ≡ check nc i xs

@@ -1,6 +1,6 @@
--- The fields of 2 ^ nc elements, nc from 3 to 8, and the checks (document 01, "Rows, blocks, chunks"). An element is a number
--- below 2 ^ nc, its binary digits the coefficients of a polynomial over two elements; the sum of two is their exclusive or.
--- The checks are those of a Reed-Solomon code.
+-- The fields of 2 ^ nc elements, nc from 3 to 8, and the checks (document 01, "Rows, blocks, chunks"). An element is a
+-- number below 2 ^ nc, its binary digits the coefficients of a polynomial over two elements; the sum of two is their
+-- exclusive or. The checks are those of a Reed-Solomon code.
 use Prim.Native.Nat.{ℕ, zero, suc, _-_, _*_, _/_, _%_, _^_, _<_}
 use mathlib.Core.Path.{_≡_}
 use mathlib.Core.Bool.{cond}

@@ -14,5 +14,6 @@ xorEach (x ∷ xs) (y ∷ ys) = bitXor x y ∷ xorEach xs ys
 
 -- a check, f c of the chunks from chunk c on, is linear: it splits over exclusive or, and over a row cut in two
 pub record Linear (nc : ℕ) (f : ℕ → List ℕ → ℕ) : Type 0 where
-  pub over-xor : (c : ℕ) (xs ys : List ℕ) → length xs ≡ length ys → Elements nc xs → Elements nc ys → f c (xorEach xs ys) ≡ bitXor (f c xs) (f c ys)
+  pub over-xor : (c : ℕ) (xs ys : List ℕ) → length xs ≡ length ys → Elements nc xs → Elements nc ys
+      → f c (xorEach xs ys) ≡ bitXor (f c xs) (f c ys)
   pub over-cut : (c : ℕ) (xs ys : List ℕ) → f c (xs ++ ys) ≡ bitXor (f c xs) (f (c + length xs) ys)

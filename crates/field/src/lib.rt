@@ -5,7 +5,7 @@ ghost use Prim.Native.Nat.{ℕ, _+_, _-_, _*_, _^_, _<_, _≤_};
 ghost use lib.ListN.{length, getD};
 ghost use Rattle.field.specs.Field.{Element, Elements, power, times, Checks};
 ghost use Rattle.field.specs.Tables.{powers, start, withLogs, Logs};
-ghost use Rattle.field.specs.Exponents.{named, AllNamed, Names, sumAt};
+ghost use Rattle.field.specs.Exponents.{AllPowers, Exponents, sumTo, Terms};
 
 // The powers of 2 of the six fields one after another, 2 ^ nc - 1 for each.
 const POWERS: [u8; 498] = [
@@ -550,10 +550,10 @@ fn reduce(nc: usize, e: usize) -> usize
     if e < n { e } else { e - n }
 }
 
-// The element that each exponent names, at the exponent's place.
-pub fn fill_elements(nc: usize, p: &mut [u8])
+// The powers of 2, each at its exponent's place.
+pub fn fill_powers(nc: usize, p: &mut [u8])
     requires { ⌜ (3 ≤ nc) × (nc ≤ 8) × (2 ^ nc ≤ length (now p)) ⌝ }
-    ensures { λ _. ⌜ AllNamed nc (now (p .exit)) ⌝ }
+    ensures { λ _. ⌜ AllPowers nc (now (p .exit)) ⌝ }
 {
     let t = table();
     let n = order(nc);
@@ -562,12 +562,11 @@ pub fn fill_elements(nc: usize, p: &mut [u8])
         p[e] = entry(&t, nc, e);
         e += 1;
     }
-    p[n] = 0;
 }
 
-// Writes the log of each element but 0 at the element's place, and nothing else. p has the elements that exponents name.
+// Writes the log of each element but 0 at the element's place, and nothing else. p has the powers of 2.
 pub fn fill_logs(nc: usize, p: &[u8; 256], logs: &mut [u8])
-    requires { ⌜ (3 ≤ nc) × (nc ≤ 8) × AllNamed nc (now p) × (2 ^ nc ≤ length (now logs)) ⌝ }
+    requires { ⌜ (3 ≤ nc) × (nc ≤ 8) × AllPowers nc (now p) × (2 ^ nc ≤ length (now logs)) ⌝ }
     ensures { λ _. ⌜ (now (logs .exit) ≡ withLogs nc (2 ^ nc - 1) (now (logs .entry))) × Logs nc (now (logs .exit)) ⌝ }
 {
     let n = order(nc);
@@ -599,59 +598,55 @@ pub fn shift(t: &[u8; 498], nc: usize, logs: &[u8], e: usize, x: u8) -> u8
     entry(t, nc, reduce(nc, e + d))
 }
 
-// The exponent of an element: 2 ^ nc - 1 stands for that of 0, which has none.
-fn exponent_of(nc: usize, logs: &[u8], x: u8) -> u8
-    requires { ⌜ (3 ≤ nc) × (nc ≤ 8) × Logs nc (now logs) × Element nc x ⌝ }
-    ensures { λ r. ⌜ (r < 2 ^ nc) × (named nc r ≡ x) ⌝ }
-{
-    if x == 0 {
-        return order(nc) as u8;
-    }
-    log_of(nc, logs, x) as u8
-}
-
-// The exponent of 2 to the power c, times the element that e names. All bytes, so that a loop of it is done many at a time.
+// The exponent of 2 to the power c + e. All bytes and one choice, so that a loop of it is done many at a time.
 fn raise(nc: usize, e: u8, c: u8) -> u8
-    requires { ⌜ (3 ≤ nc) × (nc ≤ 8) × (e < 2 ^ nc) × (c < 2 ^ nc) ⌝ }
-    ensures { λ r. ⌜ (r < 2 ^ nc) × (named nc r ≡ times nc (power nc c) (named nc e)) ⌝ }
+    requires { ⌜ (3 ≤ nc) × (nc ≤ 8) × (e + 1 < 2 ^ nc) × (c + 1 < 2 ^ nc) ⌝ }
+    ensures { λ r. ⌜ (r + 1 < 2 ^ nc) × (power nc r ≡ times nc (power nc c) (power nc e)) ⌝ }
 {
-    let n = order(nc) as u8;
-    if e == n {
-        return n;
-    }
-    let d = n - c;
+    let d = order(nc) as u8 - c;
     if e < d { e + c } else { e - d }
 }
 
-// The exponents of elements at the start of a slice; what stands behind them stays.
-fn fill_exponents(nc: usize, logs: &[u8], xs: &[u8], es: &mut [u8])
-    requires { ⌜ (3 ≤ nc) × (nc ≤ 8) × Logs nc (now logs) × Elements nc (now xs) × (length (now xs) ≤ length (now es)) ⌝ }
-    ensures { λ _. ⌜ Names nc (length (now (xs .entry))) (now (es .exit)) (λ c. getD (now (xs .entry)) c 0)
-        × ((k : ℕ) → length (now (xs .entry)) ≤ k → getD (now (es .exit)) k 0 ≡ getD (now (es .entry)) k 0) ⌝ }
+// The chunks but those that are 0, at the start of two slices: their places, and the exponents of their contents. Answers how many
+// there are.
+fn fill_terms(nc: usize, logs: &[u8], xs: &[u8], cs: &mut [u8], es: &mut [u8]) -> usize
+    requires { ⌜ ((3 ≤ nc) × (nc ≤ 8) × Logs nc (now logs) × Elements nc (now xs))
+        × ((length (now xs) < 2 ^ nc) × (length (now xs) ≤ length (now cs)) × (length (now xs) ≤ length (now es)))
+        × (Exponents nc (now cs) × Exponents nc (now es)) ⌝ }
+    ensures { λ n. ⌜ Terms nc n (length (now (xs .entry))) (now (xs .entry)) (now (cs .exit)) (now (es .exit)) ⌝ }
 {
+    let mut n: usize = 0;
     let mut c: usize = 0;
     while c < xs.len() {
-        es[c] = exponent_of(nc, logs, xs[c]);
+        let x = xs[c];
+        if x != 0 {
+            cs[n] = c as u8;
+            es[n] = log_of(nc, logs, x) as u8;
+            n += 1;
+        }
         c += 1;
     }
+    n
 }
 
 // The first n exponents of one check's terms made those of the next check's.
-fn raise_all(nc: usize, n: usize, es: &mut [u8])
-    requires { ⌜ (3 ≤ nc) × (nc ≤ 8) × (n ≤ 2 ^ nc) × (n ≤ length (now es)) × ((c : ℕ) → c < n
-        → getD (now es) c 0 < 2 ^ nc) ⌝ }
-    ensures { λ _. ⌜ Names nc n (now (es .exit)) (λ c. times nc (power nc c) (named nc (getD (now (es .entry)) c 0))) ⌝ }
+fn raise_all(nc: usize, n: usize, cs: &[u8], es: &mut [u8])
+    requires { ⌜ ((3 ≤ nc) × (nc ≤ 8) × (n ≤ length (now cs)) × (n ≤ length (now es)))
+        × (Exponents nc (now cs) × Exponents nc (now es)) ⌝ }
+    ensures { λ _. ⌜ Exponents nc (now (es .exit))
+        × ((k : ℕ) → k < n → power nc (getD (now (es .exit)) k 0)
+        ≡ times nc (power nc (getD (now (cs .entry)) k 0)) (power nc (getD (now (es .entry)) k 0))) ⌝ }
 {
-    let mut c: usize = 0;
-    while c < n {
-        es[c] = raise(nc, es[c], c as u8);
-        c += 1;
+    let mut k: usize = 0;
+    while k < n {
+        es[k] = raise(nc, es[k], cs[k]);
+        k += 1;
     }
 }
 
 // The field sum of the entries of p at places.
 fn sum(p: &[u8; 256], places: &[u8]) -> u8
-    ensures { λ r. ⌜ r ≡ sumAt (now (p .entry)) (now (places .entry)) ⌝ }
+    ensures { λ r. ⌜ r ≡ sumTo (length (now (places .entry))) (λ k. getD (now (p .entry)) (getD (now (places .entry)) k 0) 0) ⌝ }
 {
     let mut s: u8 = 0;
     let mut c: usize = 0;
@@ -671,20 +666,20 @@ fn eights(nc: usize, n: usize) -> usize
 }
 
 // The first r checks of the chunks, at the start of a slice: the exponents of all terms of a check are made those of the next. p
-// has the elements that exponents name.
+// has the powers of 2.
 pub fn checks(nc: usize, r: usize, p: &[u8; 256], logs: &[u8], chunks: &[u8], out: &mut [u8])
-    requires { ⌜ ((3 ≤ nc) × (nc ≤ 8) × AllNamed nc (now p) × Logs nc (now logs) × Elements nc (now chunks))
+    requires { ⌜ ((3 ≤ nc) × (nc ≤ 8) × AllPowers nc (now p) × Logs nc (now logs) × Elements nc (now chunks))
         × ((length (now chunks) < 2 ^ nc) × (r ≤ length (now out))) ⌝ }
     ensures { λ _. ⌜ Checks nc r (now (chunks .entry)) (now (out .exit)) ⌝ }
 {
-    let n = chunks.len();
-    let m = eights(nc, n);
+    let mut cs: [u8; 256] = [0; 256];
     let mut es: [u8; 256] = [0; 256];
-    fill_exponents(nc, logs, chunks, &mut es);
+    let n = fill_terms(nc, logs, chunks, &mut cs, &mut es);
+    let m = eights(nc, n);
     let mut i: usize = 0;
     while i < r {
         if 0 < i {
-            raise_all(nc, m, &mut es);
+            raise_all(nc, m, &cs, &mut es);
         }
         out[i] = sum(p, &es[0..n]);
         i += 1;

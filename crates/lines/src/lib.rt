@@ -13,11 +13,15 @@ ghost use Rattle.vt.specs.Sum.{total, sum as sumOf};
 ghost use Rattle.vt.specs.Weights.{weights};
 ghost use Rattle.lines.specs.Lines.{line, Inside, Mendable};
 
-// The nc bits of a chunk from a place of a slice on.
+// The nc bits of a chunk from a place of a slice on: those of a byte are put there at once.
 fn put_chunk(nc: usize, v: u8, out: &mut [u8], at: usize)
     requires { ⌜ (nc ≤ 8) × (at + nc ≤ length (now out)) ⌝ }
     ensures { λ _. ⌜ now (out .exit) ≡ take at (now (out .entry)) ++ digits nc v ++ drop (at + nc) (now (out .entry)) ⌝ }
 {
+    if nc == 8 {
+        bits::unpack_byte(v, out, at);
+        return;
+    }
     let mut i: usize = 0;
     while i < nc {
         let shift = nc - 1 - i;

@@ -1,5 +1,5 @@
--- What listing answers and leaves in the slice: for the rows that a search found, for a refusal by 1 to 8, and where no such
--- refusal applies. Assumes nothing.
+-- What listing answers and leaves in the slice: for the rows that a search found, for a refusal by 1 to 8, and where no
+-- such refusal applies. Assumes nothing.
 use Prim.Native.Nat.{ℕ, _*_, _≤_}
 use mathlib.Core.Path.{_≡_, refl, sym, ap, ap₂, _∙_}
 use mathlib.Core.Bool.{Bool, true, false, cond}
@@ -74,7 +74,8 @@ module _ (s row : List ℕ) (m : ℕ) where
   message-decides n = refused-before (messageChecks s) (rowChecks s row m) n
 
   -- where the message is fit, the row decides
-  pub row-decides : messageRefusal s ≡ 0 → (n : ℕ) → bitsOf s ≡ n → firstRefusal (inputChecks s row m) ≡ rowRefusal n row m
+  pub row-decides : messageRefusal s ≡ 0 → (n : ℕ) → bitsOf s ≡ n
+      → firstRefusal (inputChecks s row m) ≡ rowRefusal n row m
   unfolding inputChecks messageRefusal
   row-decides e n k = passed-before (messageChecks s) (rowChecks s row m) (all-numbered s) e ∙ row-checks s row m n k
 
@@ -127,9 +128,11 @@ module _ (s row : List ℕ) (m : ℕ) (l : Layout) (numbers : List ℕ) (b : All
   room-is slice = ap (λ (q : Layout). roomFor (rowBits q) slice) (sym k)
 
   pub rows-listed : (slice : List ℕ) → firstRefusal (inputChecks s row m) ≡ 0 → (a : Answer) (exit : List ℕ)
-      → a ≡ rowsAnswer (roomFor (rowBits l) (length slice)) sent → exit ≡ rowsSlice (roomFor (rowBits l) (length slice)) sent slice
+      → a ≡ rowsAnswer (roomFor (rowBits l) (length slice)) sent
+      → exit ≡ rowsSlice (roomFor (rowBits l) (length slice)) sent slice
       → (a ≡ listAnswer s row m (length slice)) × (exit ≡ listSlice s row m slice)
   rows-listed slice z a exit p q = (
     p ∙ ap₂ rowsAnswer (room-is (length slice)) sent-are ∙ rows-answer s row m slice z,
-    q ∙ ap₂ (λ (c : ℕ) (xs : List (List ℕ)). rowsSlice c xs slice) (room-is (length slice)) sent-are ∙ rows-slice s row m slice z,
+    q ∙ ap₂ (λ (c : ℕ) (xs : List (List ℕ)). rowsSlice c xs slice) (room-is (length slice)) sent-are
+        ∙ rows-slice s row m slice z,
   )

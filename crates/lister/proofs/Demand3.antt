@@ -1,11 +1,11 @@
--- Demand 3, "the list is exact", of the operation `list` as callers have it: for every result r and every slice afterwards that
--- meet its contract (`Promised`, the `ensures` of `list` word for word).
--- - `exact`: "a list that was not refused holds, in dictionary order and each once, exactly the rows" that are consistent, "and the
---   count answered is the number of these rows".
+-- Demand 3, "the list is exact", of the operation `list` as callers have it: for every result r and every slice
+-- afterwards that meet its contract (`Promised`, the `ensures` of `list` word for word).
+-- - `exact`: "a list that was not refused holds, in dictionary order and each once, exactly the rows" that are
+-- consistent, "and the   count answered is the number of these rows".
 -- - `at-most-one`: "with none or one deleted it holds at most one row".
--- - `row-listed` and `row-among`: "for every legal layout, every row of its length and the row's own message under it: whichever of
---   the row's bits, at most 12, were deleted, and only deleted, the row is listed whenever the list fits its slice".
--- - `same-again`: the same message, row, bit count and slice give the same answer and the same slice.
+-- - `row-listed` and `row-among`: "for every legal layout, every row of its length and the row's own message under it:
+-- whichever of the row's bits, at most 12, were deleted, and only deleted, the row is listed whenever the list fits its
+-- slice". - `same-again`: the same message, row, bit count and slice give the same answer and the same slice.
 -- Assumes nothing.
 use Prim.Native.Nat.{ℕ, _-_, _≤_}
 use mathlib.Core.Path.{_≡_, refl, sym, ap, _∙_}
@@ -67,7 +67,8 @@ module _ (s row : List ℕ) (m : ℕ) (slice : List ℕ) (r : Listed) (exit : Li
 
   pub all-fit : length (wanted s row m) ≤ room s (length slice)
   all-fit =
-      ltb-false (room s (length slice)) (length (wanted s row m)) (passes _ (sym (by-room s row m slice input-fit) ∙ not-refused))
+      ltb-false (room s (length slice)) (length (wanted s row m))
+      (passes _ (sym (by-room s row m slice input-fit) ∙ not-refused))
     where
       passes : (t : Bool) → _≡_ {A = ℕ} (cond t 9 0) 0 → t ≡ false
       passes true h = absurd (omega arith)
@@ -82,9 +83,9 @@ module _ (s row : List ℕ) (m : ℕ) (slice : List ℕ) (r : Listed) (exit : Li
   rows-written = p .1 ∙ list-writes s row m slice input-fit all-fit
 
 -- ---- "the list is exact"
--- what a count of n says: there are rows, n of them, packed in the slice from its start, and beyond them the bytes as at entry;
--- they stand in dictionary order, each once; and they are exactly the strings of bits that are consistent with the message and
--- the row
+-- what a count of n says: there are rows, n of them, packed in the slice from its start, and beyond them the bytes as
+-- at entry; they stand in dictionary order, each once; and they are exactly the strings of bits that are consistent
+-- with the message and the row
 pub record Exact (s row : List ℕ) (m : ℕ) (slice : List ℕ) (n : ℕ) (exit : List ℕ) : Type 0 where
   pub rows : List (List ℕ)
   pub count : n ≡ length rows
@@ -119,16 +120,19 @@ at-most-one s row m slice r exit p n e h =
 
 -- ---- "the row is listed whenever the list fits its slice"
 -- x is a row of a legal layout l, y what is left of it where at most 12 bits were deleted
-module _ (l : Layout) (x : List ℕ) (k : ℕ) (y : List ℕ) (g : legal l ≡ true) (t : Row (rowBits l) x) (most : k ≤ mostLosses)
+module _ (l : Layout) (x : List ℕ) (k : ℕ) (y : List ℕ) (g : legal l ≡ true) (t : Row (rowBits l) x)
+    (most : k ≤ mostLosses)
     (c : comesFrom x k y ≡ true) where
   -- the list for the row's own message and y
   abbrev pub own : List (List ℕ)
   own = theList (message l x) (length y) y
 
-  module _ (slice : List ℕ) (r : Listed) (exit : List ℕ) (p : Promised (message l x) (pack y) (length y) slice r exit) where
+  module _ (slice : List ℕ) (r : Listed) (exit : List ℕ)
+      (p : Promised (message l x) (pack y) (length y) slice r exit) where
     -- where the list fits, it is answered and written whole, and x is on it
     pub row-listed : length own ≤ room (message l x) (length slice)
-        → (r ≡ Count (length own)) × (Mem x own × (exit ≡ flat (map pack own) ++ drop (length (flat (map pack own))) slice))
+        → (r ≡ Count (length own))
+        × (Mem x own × (exit ≡ flat (map pack own) ++ drop (length (flat (map pack own))) slice))
     row-listed h =
         let w = own-listed l x k y slice g t most c h in
         (counted r (length own) (p .0 ∙ w .counted), (w .among, p .1 ∙ w .written))
@@ -138,7 +142,10 @@ module _ (l : Layout) (x : List ℕ) (k : ℕ) (y : List ℕ) (g : legal l ≡ t
     row-among n q =
         let e = exact (message l x) (pack y) (length y) slice r exit p n q in
         let b = comes-bits x k y c (t .1) in
-        e .exactly x .1 (t .1, rw (unpack-pack y b) (of-consistent (message l x) (length y) y x (own-consistent l x k y t c)))
+        e .exactly x .1 (
+          t .1,
+          rw (unpack-pack y b) (of-consistent (message l x) (length y) y x (own-consistent l x k y t c)),
+        )
 
 -- ---- the archive
 -- the refusal with a number

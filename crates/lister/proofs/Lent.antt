@@ -22,7 +22,8 @@ row-low l g =
     let b = legal-bounds l g in
     omega (arith, mul-le-mul (mul-le-mul (b .l1-low) (b .l2-low)) (b .nc-low))
 
-module _ (l : Layout) (numbers row : List ℕ) (m : ℕ) (g : Given l numbers (take m (unpack row))) (h : m ≤ length row * 8) where
+module _ (l : Layout) (numbers row : List ℕ) (m : ℕ) (g : Given l numbers (take m (unpack row)))
+    (h : m ≤ length row * 8) where
   -- and at most 2,040
   pub row-high : rowBits l ≤ longest
   row-high = sizes l (legal-bounds l (g .is-legal)) .row

@@ -1,5 +1,5 @@
--- What reading a message gives a search: numbers that fit the local array, each in range, and with a fit row all that a search
--- is to be given. Assumes nothing.
+-- What reading a message gives a search: numbers that fit the local array, each in range, and with a fit row all that a
+-- search is to be given. Assumes nothing.
 use Prim.Native.Nat.{ℕ, zero, suc, _+_, _-_, _*_, _<_, _≤_}
 use mathlib.Core.Path.{_≡_, refl, sym, ap, ap₂, _∙_}
 use mathlib.Core.Bool.{true, cond}
@@ -55,11 +55,12 @@ reads-all s o n = go (messageRefusal s) refl
         refuses-nothing s o e (omega (arith, numbers-count s l refl, numbers-few l (fit-named s l e refl .0))) ∙ sym e
     go (suc q) e = refuses-message s o (λ z. omega arith)
 
--- what reading a message to an array of 272 entries gives: the answer is that of the message's own checks, and the first of the
--- entries afterwards are the numbers of a fit message
+-- what reading a message to an array of 272 entries gives: the answer is that of the message's own checks, and the
+-- first of the entries afterwards are the numbers of a fit message
 pub record Numbers (s : List ℕ) (a : Read) (entries : List ℕ) : Type 0 where
   pub answer : readOf a ≡ layoutAnswer (messageRefusal s) s
-  pub front : messageRefusal s ≡ 0 → (l : Layout) → layoutOf s ≡ l → take (l .l1 + l .l2 + l .r - 0) entries ≡ numbersRead s
+  pub front : messageRefusal s ≡ 0 → (l : Layout) → layoutOf s ≡ l
+      → take (l .l1 + l .l2 + l .r - 0) entries ≡ numbersRead s
 
 pub numbers-read : (s o entries : List ℕ) (a : Read) → length o ≡ 272
     → (readOf a ≡ layoutAnswer (readRefusal s (length o)) s) × (entries ≡ readTarget s o) → Numbers s a entries
@@ -69,7 +70,8 @@ numbers-read s o entries a n h = record {
   front =
       λ e l k.
       let c : l .l1 + l .l2 + l .r - 0 ≡ l .l1 + l .l2 + l .r = omega arith in
-      ap₂ take c (h .1 ∙ ap (λ (q : ℕ). cond (eqb q 0) (numbersRead s ++ drop (length (numbersRead s)) o) o) (reads-all s o n ∙ e))
+      ap₂ take c (h .1
+      ∙ ap (λ (q : ℕ). cond (eqb q 0) (numbersRead s ++ drop (length (numbersRead s)) o) o) (reads-all s o n ∙ e))
       ∙ take-at (numbersRead s) (drop (length (numbersRead s)) o) (l .l1 + l .l2 + l .r) (numbers-count s l k);
 }
 

@@ -73,7 +73,8 @@ module _ (n : ℕ) (row : List ℕ) (m : ℕ) where
 -- the same checks by the message that names the layout
 pub row-checks : (s row : List ℕ) (m n : ℕ) → bitsOf s ≡ n → firstRefusal (rowChecks s row m) ≡ rowRefusal n row m
 unfolding rowChecks rowRefusal
-row-checks s row m n e = ap (λ (k : ℕ). firstRefusal ((7, ltb k m || ltb mostLosses (k - m)) ∷ (8, not (fits m row)) ∷ [])) e
+row-checks s row m n e =
+    ap (λ (k : ℕ). firstRefusal ((7, ltb k m || ltb mostLosses (k - m)) ∷ (8, not (fits m row)) ∷ [])) e
 
 -- what the answer of a check of the row says: the number of a refusal, or that there is none
 pub row-refused : (a : Listed) (q : Refusal) (n : ℕ) → a ≡ Refused q

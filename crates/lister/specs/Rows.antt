@@ -1,5 +1,5 @@
--- The parts of listing, by what the head of the message and the slice give them: what is checked of the received row, how many rows
--- fit, and what is answered and written for a list of rows.
+-- The parts of listing, by what the head of the message and the slice give them: what is checked of the received row,
+-- how many rows fit, and what is answered and written for a list of rows.
 use Prim.Native.Nat.{ℕ, _-_, _/_, min}
 use mathlib.Core.Bool.{not, cond, _||_}
 use mathlib.Core.List.{List, [], _∷_, _++_, map}
@@ -22,7 +22,8 @@ roomFor n slice = min slice usedBytes / bytesFor n
 
 -- what is answered for a list of rows of which cap fit: their number, or refusal 9
 abbrev pub rowsAnswer : (cap : ℕ) (rows : List (List ℕ)) → Answer
-rowsAnswer cap rows = cond (ltb cap (length rows)) (record { refusal = 9; value = 0 }) (record { refusal = 0; value = length rows })
+rowsAnswer cap rows =
+    cond (ltb cap (length rows)) (record { refusal = 9; value = 0 }) (record { refusal = 0; value = length rows })
 
 -- the first cap rows, packed one after another
 unfoldable pub firstRows : (cap : ℕ) (rows : List (List ℕ)) → List ℕ

@@ -21,22 +21,28 @@ use Rattle.message.proofs.Numbers.{block-count, string-count, check-cou
 
 -- ---- what an answer says
 -- an answer with a layout: no refusal, and the layout is the one that the head names
-pub found : (s : List ℕ) (a : Read) (l : Layout) → a ≡ Found l → readOf a ≡ layoutAnswer (messageRefusal s) s → (messageRefusal s ≡ 0) × (layoutOf s ≡ l)
+pub found : (s : List ℕ) (a : Read) (l : Layout) → a ≡ Found l → readOf a ≡ layoutAnswer (messageRefusal s) s
+    → (messageRefusal s ≡ 0) × (layoutOf s ≡ l)
 unfolding layoutAnswer
 found s a l e h =
-    let q : messageRefusal s ≡ 0 = sym (ap (λ (p : LayoutAnswer). p .refusal) h) ∙ ap (λ (v : Read). readOf v .refusal) e in
-    let k : readOf a .layout ≡ cond (eqb (messageRefusal s) 0) (layoutOf s) noLayout = ap (λ (p : LayoutAnswer). p .layout) h in
+    let q : messageRefusal s ≡ 0 =
+    sym (ap (λ (p : LayoutAnswer). p .refusal) h) ∙ ap (λ (v : Read). readOf v .refusal) e in
+    let k : readOf a .layout ≡ cond (eqb (messageRefusal s) 0) (layoutOf s) noLayout =
+    ap (λ (p : LayoutAnswer). p .layout) h in
     (q, sym (ap (λ (v : Read). readOf v .layout) (sym e) ∙ k ∙ rw (eq-eqb (messageRefusal s) 0 q) refl))
 
 -- an answer without: the message is refused
-pub not-found : (s : List ℕ) (a : Read) (q : Refusal) → a ≡ Refused q → readOf a ≡ layoutAnswer (messageRefusal s) s → messageRefusal s ≡ 0 → ⊥
+pub not-found : (s : List ℕ) (a : Read) (q : Refusal) → a ≡ Refused q → readOf a ≡ layoutAnswer (messageRefusal s) s
+    → messageRefusal s ≡ 0 → ⊥
 unfolding layoutAnswer
 not-found s a q e h z =
-    let n : messageRefusal s ≡ numberOf q = sym (ap (λ (p : LayoutAnswer). p .refusal) h) ∙ ap (λ (v : Read). readOf v .refusal) e in
+    let n : messageRefusal s ≡ numberOf q =
+    sym (ap (λ (p : LayoutAnswer). p .refusal) h) ∙ ap (λ (v : Read). readOf v .refusal) e in
     omega (arith, numbered q)
 
 -- a fit message has a legal layout and the length that it gives
-pub fit-named : (s : List ℕ) (l : Layout) → messageRefusal s ≡ 0 → layoutOf s ≡ l → (legal l ≡ true) × (length s ≡ messageBytes l)
+pub fit-named : (s : List ℕ) (l : Layout) → messageRefusal s ≡ 0 → layoutOf s ≡ l
+    → (legal l ≡ true) × (length s ≡ messageBytes l)
 fit-named s l e k =
     let f : Fit s = fit s e in
     (sym (ap legal k) ∙ f .is-legal, f .is-long ∙ ap messageBytes k)
@@ -47,7 +53,8 @@ unfolding layoutAnswer
 refused-answer n q s e = rw (e, eqb·suc-zero q) refl
 
 -- and a fit message its layout
-pub fit-answer : (n : ℕ) (s : List ℕ) (l : Layout) → layoutOf s ≡ l → n ≡ 0 → record { refusal = 0; layout = l } ≡ layoutAnswer n s
+pub fit-answer : (n : ℕ) (s : List ℕ) (l : Layout) → layoutOf s ≡ l → n ≡ 0
+    → record { refusal = 0; layout = l } ≡ layoutAnswer n s
 unfolding layoutAnswer
 fit-answer n s l q e = rw (e, q) refl
 
@@ -62,7 +69,8 @@ module _ (s o : List ℕ) where
   unfolding readRefusal messageRefusal
   refuses-message n = refused-before (messageChecks s) ((10, ltb (length o) (length (numbersRead s))) ∷ []) n
 
-  by-target : messageRefusal s ≡ 0 → readRefusal s (length o) ≡ firstRefusal ((10, ltb (length o) (length (numbersRead s))) ∷ [])
+  by-target : messageRefusal s ≡ 0
+      → readRefusal s (length o) ≡ firstRefusal ((10, ltb (length o) (length (numbersRead s))) ∷ [])
   unfolding readRefusal messageRefusal
   by-target e = passed-before (messageChecks s) ((10, ltb (length o) (length (numbersRead s))) ∷ []) (all-numbered s) e
 
@@ -89,14 +97,26 @@ unfolding numbersRead
 numbers-count s l e =
     let k : Layout = layoutOf s in
     length-append (readBlockSums k s ++ readStringSums k s) (readChecks k s)
-    ∙ omega (arith, length-append (readBlockSums k s) (readStringSums k s), block-count k s, string-count k s, check-count k s, ap (λ (m : Layout). m .l1) e, ap (λ (m : Layout). m .l2) e, ap (λ (m : Layout). m .r) e)
+    ∙ omega (
+      arith,
+      length-append (readBlockSums k s) (readStringSums k s),
+      block-count k s,
+      string-count k s,
+      check-count k s,
+      ap (λ (m : Layout). m .l1) e,
+      ap (λ (m : Layout). m .l2) e,
+      ap (λ (m : Layout). m .r) e,
+    )
 
 -- and which they are
-numbers-are : (s : List ℕ) (l : Layout) → layoutOf s ≡ l → readBlockSums l s ++ readStringSums l s ++ readChecks l s ≡ numbersRead s
+numbers-are : (s : List ℕ) (l : Layout) → layoutOf s ≡ l
+    → readBlockSums l s ++ readStringSums l s ++ readChecks l s ≡ numbersRead s
 unfolding numbersRead
 numbers-are s l e = ap (λ (m : Layout). readBlockSums m s ++ readStringSums m s ++ readChecks m s) (sym e)
 
 -- the target with the numbers of a fit message at its start
-pub numbers-written : (s o q : List ℕ) (l : Layout) → layoutOf s ≡ l → readRefusal s (length o) ≡ 0 → q ≡ readBlockSums l s ++ readStringSums l s ++ readChecks l s ++ drop (l .l1 + l .l2 + l .r) o → q ≡ readTarget s o
+pub numbers-written : (s o q : List ℕ) (l : Layout) → layoutOf s ≡ l → readRefusal s (length o) ≡ 0
+    → q ≡ readBlockSums l s ++ readStringSums l s ++ readChecks l s ++ drop (l .l1 + l .l2 + l .r) o → q ≡ readTarget s o
 numbers-written s o q l k e h =
-    h ∙ ap (λ (t : List ℕ). t ++ drop (l .l1 + l .l2 + l .r) o) (numbers-are s l k) ∙ ap (λ (n : ℕ). numbersRead s ++ drop n o) (sym (numbers-count s l k)) ∙ touched s o e
+    h ∙ ap (λ (t : List ℕ). t ++ drop (l .l1 + l .l2 + l .r) o) (numbers-are s l k)
+    ∙ ap (λ (n : ℕ). numbersRead s ++ drop n o) (sym (numbers-count s l k)) ∙ touched s o e

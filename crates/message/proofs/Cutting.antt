@@ -1,5 +1,5 @@
--- How a row is cut into blocks, chunks and chunk-strings: how many pieces there are, how long each is and where it stands; and
--- which sums they have. Assumes nothing.
+-- How a row is cut into blocks, chunks and chunk-strings: how many pieces there are, how long each is and where it
+-- stands; and which sums they have. Assumes nothing.
 use Prim.Native.Nat.{ℕ, zero, suc, _+_, _*_, _<_, _≤_}
 use mathlib.Core.Path.{_≡_, refl, sym, ap, ap₂, _∙_}
 use mathlib.Core.List.{List, [], _∷_, _++_, flatMap, map}
@@ -33,7 +33,8 @@ unfolding cut
 cut-at zero w i x h = absurd (omega arith)
 cut-at (suc n) w zero x h = rw (zero-mul w) refl
 cut-at (suc n) w (suc i) x h =
-    cut-at n w i (drop w x) (omega arith) ∙ ap (take w) (drop-drop (i * w) w x ∙ ap (λ (m : ℕ). drop m x) (sym (suc-mul i w ∙ add-comm (i * w) w)))
+    cut-at n w i (drop w x) (omega arith)
+    ∙ ap (take w) (drop-drop (i * w) w x ∙ ap (λ (m : ℕ). drop m x) (sym (suc-mul i w ∙ add-comm (i * w) w)))
 
 pub length-numbers : (i n : ℕ) → length (numbers i n) ≡ n
 unfolding numbers
@@ -47,14 +48,16 @@ numbers-at i (suc n) zero h = sym (add-zero i)
 numbers-at i (suc n) (suc k) h = numbers-at (suc i) n k (omega arith) ∙ omega arith
 
 -- a map of a list that is long enough, by places
-pub map-at : {A B : Type 0} (f : A → B) (xs : List A) (i : ℕ) (d : A) (e : B) → i < length xs → getD (map f xs) i e ≡ f (getD xs i d)
+pub map-at : {A B : Type 0} (f : A → B) (xs : List A) (i : ℕ) (d : A) (e : B) → i < length xs
+    → getD (map f xs) i e ≡ f (getD xs i d)
 map-at f [] i d e h = absurd (omega arith)
 map-at f (x ∷ xs) zero d e h = refl
 map-at f (x ∷ xs) (suc i) d e h = map-at f xs i d e (omega arith)
 
 -- what is made of each number from 0 on, by places
 pub each-number : (f : ℕ → ℕ) (n i : ℕ) → i < n → getD (map f (numbers 0 n)) i 0 ≡ f i
-each-number f n i h = map-at f (numbers 0 n) i 0 0 (omega (arith, length-numbers 0 n)) ∙ ap f (numbers-at 0 n i h ∙ zero-add i)
+each-number f n i h =
+    map-at f (numbers 0 n) i 0 0 (omega (arith, length-numbers 0 n)) ∙ ap f (numbers-at 0 n i h ∙ zero-add i)
 
 -- chunks as numbers are consecutive fields
 pub number-cut : (n k : ℕ) (x : List ℕ) → map (number k) (cut n k x) ≡ fields n k x
@@ -77,13 +80,17 @@ take-inside a (suc b) (suc c) (v ∷ y) h = take-inside a b c y (omega arith)
 
 -- pieces joined, each of k bits
 module _ (f : List ℕ → List ℕ) where
-  pub length-joined : (k : ℕ) (ps : List (List ℕ)) → ((i : ℕ) → i < length ps → length (f (getD ps i [])) ≡ k) → length (flatMap f ps) ≡ length ps * k
+  pub length-joined : (k : ℕ) (ps : List (List ℕ)) → ((i : ℕ) → i < length ps → length (f (getD ps i [])) ≡ k)
+      → length (flatMap f ps) ≡ length ps * k
   unfolding flatMap
   length-joined k [] h = sym (zero-mul k)
-  length-joined k (p ∷ ps) h = length-append (f p) (flatMap f ps) ∙ omega (arith, h 0 (omega arith), length-joined k ps (λ i e. h (suc i) (omega arith)), suc-mul (length ps) k)
+  length-joined k (p ∷ ps) h =
+      length-append (f p) (flatMap f ps)
+      ∙ omega (arith, h 0 (omega arith), length-joined k ps (λ i e. h (suc i) (omega arith)), suc-mul (length ps) k)
 
   -- the pieces from piece i on, joined
-  pub joined-next : (ps : List (List ℕ)) (i : ℕ) → i < length ps → flatMap f (drop i ps) ≡ f (getD ps i []) ++ flatMap f (drop (i + 1) ps)
+  pub joined-next : (ps : List (List ℕ)) (i : ℕ) → i < length ps
+      → flatMap f (drop i ps) ≡ f (getD ps i []) ++ flatMap f (drop (i + 1) ps)
   unfolding flatMap
   joined-next ps i h = rw (add-one i, drop-cons ps i [] h) refl
 
@@ -108,7 +115,9 @@ module _ (l : Layout) (x : List ℕ) where
   -- chunk-strings by their places
   pub chunk-string-at : (j : ℕ) → j < l .l2 → getD (chunkStrings l x) j [] ≡ chunkString l x j
   unfolding chunkStrings
-  chunk-string-at j h = map-at (chunkString l x) (numbers 0 (l .l2)) j 0 [] (omega (arith, length-numbers 0 (l .l2))) ∙ ap (chunkString l x) (numbers-at 0 (l .l2) j h ∙ zero-add j)
+  chunk-string-at j h =
+      map-at (chunkString l x) (numbers 0 (l .l2)) j 0 [] (omega (arith, length-numbers 0 (l .l2)))
+      ∙ ap (chunkString l x) (numbers-at 0 (l .l2) j h ∙ zero-add j)
 
   -- sums by the places of their strings
   pub block-sum-at : (i : ℕ) → i < l .l1 → getD (blockSums l x) i 0 ≡ sum (take (blockBits l) (drop (i * blockBits l) x))
@@ -117,7 +126,8 @@ module _ (l : Layout) (x : List ℕ) where
 
   pub string-sum-at : (j : ℕ) → j < l .l2 → getD (stringSums l x) j 0 ≡ sum (chunkString l x j)
   unfolding stringSums
-  string-sum-at j h = map-at sum (chunkStrings l x) j [] 0 (omega (arith, length-chunk-strings)) ∙ ap sum (chunk-string-at j h)
+  string-sum-at j h =
+      map-at sum (chunkStrings l x) j [] 0 (omega (arith, length-chunk-strings)) ∙ ap sum (chunk-string-at j h)
 
   pub length-block-sums : length (blockSums l x) ≡ l .l1
   unfolding blockSums
@@ -129,7 +139,9 @@ module _ (l : Layout) (x : List ℕ) where
 
   pub length-checks : length (checks l x) ≡ l .r
   unfolding checks
-  length-checks = length-map (numbers 0 (l .r)) (λ (i : ℕ). check (l .nc) i (map (number (l .nc)) (chunks l x))) ∙ length-numbers 0 (l .r)
+  length-checks =
+      length-map (numbers 0 (l .r)) (λ (i : ℕ). check (l .nc) i (map (number (l .nc)) (chunks l x)))
+      ∙ length-numbers 0 (l .r)
 
   pub chunk-numbers : map (number (l .nc)) (chunks l x) ≡ fields (l .l1 * l .l2) (l .nc) x
   unfolding chunks
@@ -137,10 +149,12 @@ module _ (l : Layout) (x : List ℕ) where
 
   -- chunks as numbers are elements of the field
   pub chunk-elements : AllBits x → Elements (l .nc) (map (number (l .nc)) (chunks l x))
-  chunk-elements a = rw chunk-numbers (fit-elements (l .nc) (fields (l .l1 * l .l2) (l .nc) x) (fields-fit (l .l1 * l .l2) (l .nc) x a))
+  chunk-elements a =
+      rw chunk-numbers (fit-elements (l .nc) (fields (l .l1 * l .l2) (l .nc) x) (fields-fit (l .l1 * l .l2) (l .nc) x a))
 
   -- chunk j of block i stands in the row
-  pub chunk-at : (i j : ℕ) → i < l .l1 → j < l .l2 → chunk l j (getD (blocks l x) i []) ≡ take (l .nc) (drop (i * blockBits l + j * l .nc) x)
+  pub chunk-at : (i j : ℕ) → i < l .l1 → j < l .l2
+      → chunk l j (getD (blocks l x) i []) ≡ take (l .nc) (drop (i * blockBits l + j * l .nc) x)
   unfolding chunk
   chunk-at i j h k =
       ap (λ (b : List ℕ). take (l .nc) (drop (j * l .nc) b)) (block-at i h)
@@ -160,11 +174,14 @@ module _ (l : Layout) (x : List ℕ) where
     chunk-room i j h k = omega (arith, block-room i h, field-room (l .l2) (l .nc) j k)
 
     pub length-block : (i : ℕ) → i < l .l1 → length (take (blockBits l) (drop (i * blockBits l) x)) ≡ blockBits l
-    length-block i h = length-take-le (blockBits l) (drop (i * blockBits l) x) (simp length-drop (omega (arith, block-room i h)))
+    length-block i h =
+        length-take-le (blockBits l) (drop (i * blockBits l) x) (simp length-drop (omega (arith, block-room i h)))
 
     pub length-chunk : (i j : ℕ) → i < l .l1 → j < l .l2 → length (chunk l j (getD (blocks l x) i [])) ≡ l .nc
     length-chunk i j h k =
-        ap length (chunk-at i j h k) ∙ length-take-le (l .nc) (drop (i * blockBits l + j * l .nc) x) (simp length-drop (omega (arith, chunk-room i j h k)))
+        ap length (chunk-at i j h k)
+        ∙ length-take-le (l .nc) (drop (i * blockBits l + j * l .nc) x)
+        (simp length-drop (omega (arith, chunk-room i j h k)))
 
     pub length-chunk-string : (j : ℕ) → j < l .l2 → length (chunkString l x j) ≡ stringBits l
     unfolding chunkString
@@ -175,7 +192,10 @@ module _ (l : Layout) (x : List ℕ) where
 -- ---- sums are in range
 module _ (l : Layout) (x : List ℕ) (n : length x ≡ rowBits l) where
   pub block-sum-low : (i : ℕ) → i < l .l1 → getD (blockSums l x) i 0 ≤ blockBits l
-  block-sum-low i h = rw (block-sum-at l x i h) (omega (arith, sum-high (take (blockBits l) (drop (i * blockBits l) x)), length-block l x n i h))
+  block-sum-low i h =
+      rw (block-sum-at l x i h)
+      (omega (arith, sum-high (take (blockBits l) (drop (i * blockBits l) x)), length-block l x n i h))
 
   pub string-sum-low : (j : ℕ) → j < l .l2 → getD (stringSums l x) j 0 ≤ stringBits l
-  string-sum-low j h = rw (string-sum-at l x j h) (omega (arith, sum-high (chunkString l x j), length-chunk-string l x n j h))
+  string-sum-low j h =
+      rw (string-sum-at l x j h) (omega (arith, sum-high (chunkString l x j), length-chunk-string l x n j h))

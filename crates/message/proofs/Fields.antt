@@ -71,7 +71,8 @@ unfolding fields
 fields-at zero k i x h = absurd (omega arith)
 fields-at (suc n) k zero x h = rw (zero-mul k) refl
 fields-at (suc n) k (suc i) x h =
-    fields-at n k i (drop k x) (omega arith) ∙ ap (number k) (drop-drop (i * k) k x ∙ ap (λ (m : ℕ). drop m x) (sym (suc-mul i k ∙ add-comm (i * k) k)))
+    fields-at n k i (drop k x) (omega arith)
+    ∙ ap (number k) (drop-drop (i * k) k x ∙ ap (λ (m : ℕ). drop m x) (sym (suc-mul i k ∙ add-comm (i * k) k)))
 
 -- the field that a cursor reads after i fields
 pub field-value : (n k at i : ℕ) (x : List ℕ) → i < n → number k (drop (at + i * k) x) ≡ getD (fields n k (drop at x)) i 0
@@ -97,7 +98,9 @@ bits-flat k (v ∷ vs) = bits-append (digits k v) (flatMap (digits k) vs) (bits-
 pub length-flat : (k : ℕ) (vs : List ℕ) → length (flatMap (digits k) vs) ≡ length vs * k
 unfolding flatMap
 length-flat k [] = sym (zero-mul k)
-length-flat k (v ∷ vs) = length-append (digits k v) (flatMap (digits k) vs) ∙ omega (arith, length-digits k v, length-flat k vs, suc-mul (length vs) k)
+length-flat k (v ∷ vs) =
+    length-append (digits k v) (flatMap (digits k) vs)
+    ∙ omega (arith, length-digits k v, length-flat k vs, suc-mul (length vs) k)
 
 -- numbers written in fields of k bits are read from them again
 pub fields-flat : (n k : ℕ) (vs y : List ℕ) → length vs ≡ n → FitAll k vs → fields n k (flatMap (digits k) vs ++ y) ≡ vs
@@ -108,7 +111,8 @@ fields-flat (suc n) k [] y e f = absurd (omega arith)
 fields-flat (suc n) k (v ∷ vs) y e f =
     rw (append-assoc (digits k v) (flatMap (digits k) vs) y)
     (ap₂ (λ (a : ℕ) (b : List ℕ). a ∷ b) (number-digits k v (flatMap (digits k) vs ++ y) ∙ mod-eq-of-lt (f .0))
-    (ap (fields n k) (drop-at (digits k v) (flatMap (digits k) vs ++ y) k (length-digits k v)) ∙ fields-flat n k vs y (omega arith) (f .1)))
+    (ap (fields n k) (drop-at (digits k v) (flatMap (digits k) vs ++ y) k (length-digits k v))
+    ∙ fields-flat n k vs y (omega arith) (f .1)))
 
 fill-all : (k : ℕ) (x : List ℕ) → k ≤ length x → fill k x ≡ take k x
 unfolding fill
@@ -117,7 +121,8 @@ fill-all (suc k) [] h = absurd (omega arith)
 fill-all (suc k) (b ∷ x) h = ap (λ (l : List ℕ). b ∷ l) (fill-all k x (omega arith))
 
 -- fields that were read, written again, are the bits that they stood in
-pub flat-fields : (n k : ℕ) (x : List ℕ) → AllBits x → n * k ≤ length x → flatMap (digits k) (fields n k x) ≡ take (n * k) x
+pub flat-fields : (n k : ℕ) (x : List ℕ) → AllBits x → n * k ≤ length x
+    → flatMap (digits k) (fields n k x) ≡ take (n * k) x
 unfolding fields flatMap
 flat-fields zero k x a h = rw (zero-mul k) refl
 flat-fields (suc n) k x a h =
@@ -136,10 +141,12 @@ none-above w (v ∷ vs) a = rw (le-ltb w v (a .0)) (none-above w vs (a .1))
 pub at-most : (w : ℕ) (vs : List ℕ) → someAbove w vs ≡ false → AtMost w vs
 unfolding someAbove
 at-most w [] e = tt
-at-most w (v ∷ vs) e = (ltb-false w v (neither-left (ltb w v) (someAbove w vs) e), at-most w vs (neither-right (ltb w v) (someAbove w vs) e))
+at-most w (v ∷ vs) e =
+    (ltb-false w v (neither-left (ltb w v) (someAbove w vs) e), at-most w vs (neither-right (ltb w v) (someAbove w vs) e))
 
 -- looking at the numbers one by one
-pub above-next : (w : ℕ) (vs : List ℕ) (i : ℕ) → i < length vs → getD vs i 0 ≤ w → someAbove w (drop (i + 1) vs) ≡ someAbove w (drop i vs)
+pub above-next : (w : ℕ) (vs : List ℕ) (i : ℕ) → i < length vs → getD vs i 0 ≤ w
+    → someAbove w (drop (i + 1) vs) ≡ someAbove w (drop i vs)
 unfolding someAbove
 above-next w vs i h e = rw (drop-cons vs i 0 h, add-one i, le-ltb w (getD vs i 0) e) refl
 

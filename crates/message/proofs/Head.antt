@@ -23,8 +23,11 @@ mark s e =
     record {
       long = leb-true 9 (length s) (both-left (leb 9 (length s)) (eqb (getD s 0 0) 0x52) m2);
       first = eqb-true (getD s 0 0) 0x52 (both-right (leb 9 (length s)) (eqb (getD s 0 0) 0x52) m2);
-      second = eqb-true (getD s 1 0) 0x53 (both-right (leb 9 (length s) && eqb (getD s 0 0) 0x52) (eqb (getD s 1 0) 0x53) m3);
-      third = eqb-true (getD s 2 0) 0x4D (both-right (leb 9 (length s) && eqb (getD s 0 0) 0x52 && eqb (getD s 1 0) 0x53) (eqb (getD s 2 0) 0x4D) e);
+      second =
+          eqb-true (getD s 1 0) 0x53 (both-right (leb 9 (length s) && eqb (getD s 0 0) 0x52) (eqb (getD s 1 0) 0x53) m3);
+      third =
+          eqb-true (getD s 2 0) 0x4D
+          (both-right (leb 9 (length s) && eqb (getD s 0 0) 0x52 && eqb (getD s 1 0) 0x53) (eqb (getD s 2 0) 0x4D) e);
     }
 
 pub is-marked : (s : List ℕ) → Mark s → true ≡ marked s

@@ -24,8 +24,12 @@ pub record Bounds (l : Layout) : Type 0 where
 pub legal-bounds : (l : Layout) → legal l ≡ true → Bounds l
 unfolding legal
 legal-bounds l e =
-    let e5 = both-left (leb 1 (l .l1) && leb 1 (l .l2) && leb 3 (l .nc) && leb (l .nc) 8 && leb (l .l1 * l .l2) (2 ^ l .nc - 1)) (leb (l .r) 16) e in
-    let e4 = both-left (leb 1 (l .l1) && leb 1 (l .l2) && leb 3 (l .nc) && leb (l .nc) 8) (leb (l .l1 * l .l2) (2 ^ l .nc - 1)) e5 in
+    let e5 =
+    both-left (leb 1 (l .l1) && leb 1 (l .l2) && leb 3 (l .nc) && leb (l .nc) 8 && leb (l .l1 * l .l2) (2 ^ l .nc - 1))
+    (leb (l .r) 16) e in
+    let e4 =
+    both-left (leb 1 (l .l1) && leb 1 (l .l2) && leb 3 (l .nc) && leb (l .nc) 8) (leb (l .l1 * l .l2) (2 ^ l .nc - 1))
+    e5 in
     let e3 = both-left (leb 1 (l .l1) && leb 1 (l .l2) && leb 3 (l .nc)) (leb (l .nc) 8) e4 in
     let e2 = both-left (leb 1 (l .l1) && leb 1 (l .l2)) (leb 3 (l .nc)) e3 in
     record {
@@ -33,8 +37,14 @@ legal-bounds l e =
       l2-low = leb-true 1 (l .l2) (both-right (leb 1 (l .l1)) (leb 1 (l .l2)) e2);
       nc-low = leb-true 3 (l .nc) (both-right (leb 1 (l .l1) && leb 1 (l .l2)) (leb 3 (l .nc)) e3);
       nc-high = leb-true (l .nc) 8 (both-right (leb 1 (l .l1) && leb 1 (l .l2) && leb 3 (l .nc)) (leb (l .nc) 8) e4);
-      chunks-high = leb-true (l .l1 * l .l2) (2 ^ l .nc - 1) (both-right (leb 1 (l .l1) && leb 1 (l .l2) && leb 3 (l .nc) && leb (l .nc) 8) (leb (l .l1 * l .l2) (2 ^ l .nc - 1)) e5);
-      r-high = leb-true (l .r) 16 (both-right (leb 1 (l .l1) && leb 1 (l .l2) && leb 3 (l .nc) && leb (l .nc) 8 && leb (l .l1 * l .l2) (2 ^ l .nc - 1)) (leb (l .r) 16) e);
+      chunks-high =
+          leb-true (l .l1 * l .l2) (2 ^ l .nc - 1)
+          (both-right (leb 1 (l .l1) && leb 1 (l .l2) && leb 3 (l .nc) && leb (l .nc) 8)
+          (leb (l .l1 * l .l2) (2 ^ l .nc - 1)) e5);
+      r-high =
+          leb-true (l .r) 16
+          (both-right (leb 1 (l .l1) && leb 1 (l .l2) && leb 3 (l .nc) && leb (l .nc) 8
+          && leb (l .l1 * l .l2) (2 ^ l .nc - 1)) (leb (l .r) 16) e);
     }
 
 -- a layout that breaks a bound is not legal
@@ -42,9 +52,11 @@ pub illegal : (l : Layout) → (Bounds l → ⊥) → false ≡ legal l
 illegal l n = refuted (legal l) (λ e. n (legal-bounds l e))
 
 -- where the other bounds hold, the number of chunks decides
-pub legal-by-chunks : (l : Layout) → 1 ≤ l .l1 → 1 ≤ l .l2 → 3 ≤ l .nc → l .nc ≤ 8 → l .r ≤ 16 → leb (l .l1 * l .l2) (2 ^ l .nc - 1) ≡ legal l
+pub legal-by-chunks : (l : Layout) → 1 ≤ l .l1 → 1 ≤ l .l2 → 3 ≤ l .nc → l .nc ≤ 8 → l .r ≤ 16
+    → leb (l .l1 * l .l2) (2 ^ l .nc - 1) ≡ legal l
 unfolding legal
-legal-by-chunks l a b c d e = simp (le-leb 1 (l .l1) a, le-leb 1 (l .l2) b, le-leb 3 (l .nc) c, le-leb (l .nc) 8 d, le-leb (l .r) 16 e, and-true)
+legal-by-chunks l a b c d e =
+    simp (le-leb 1 (l .l1) a, le-leb 1 (l .l2) b, le-leb 3 (l .nc) c, le-leb (l .nc) 8 d, le-leb (l .r) 16 e, and-true)
 
 -- what follows of the products
 pub record Sizes (l : Layout) : Type 0 where

@@ -1,4 +1,5 @@
--- "The longest message has 154 bytes": one test, computed over all legal block and chunk counts of all six fields. Assumes nothing.
+-- "The longest message has 154 bytes": one test, computed over all legal block and chunk counts of all six fields.
+-- Assumes nothing.
 use Prim.Native.Nat.{ℕ, zero, suc, _+_, _*_, _/_, _≤_}
 use mathlib.Core.Path.{_≡_, refl}
 use mathlib.Core.Bool.{Bool, true, _&&_}
@@ -48,7 +49,8 @@ tested = refl
 short-at : (nc a b : ℕ) → 1 ≤ nc → nc ≤ 8 → 1 ≤ a → 1 ≤ b → a * b ≤ 255 → a ≤ 255 → short nc a b ≡ true
 unfolding all-short
 short-at nc a b lo hi la lb h ha =
-    upTo-at (short nc a) (255 / a) b (upTo-at (λ (a : ℕ). upTo (short nc a) (255 / a)) 255 a (upTo-at all-short 8 nc tested lo hi) la ha) lb
+    upTo-at (short nc a) (255 / a) b
+    (upTo-at (λ (a : ℕ). upTo (short nc a) (255 / a)) 255 a (upTo-at all-short 8 nc tested lo hi) la ha) lb
     (le-div-iff-mul-le la .1 (rw (mul-comm b a) h))
 
 -- the fields of a legal layout take at most 1,160 bits
@@ -57,7 +59,13 @@ unfolding fieldsLength short
 fields-high l e =
     let b : Bounds l = legal-bounds l e in
     let z : Sizes l = sizes l b in
-    omega (arith, leb-true (l .l1 * width (l .l2 * l .nc) + l .l2 * width (l .nc * l .l1) + 16 * l .nc) 1160 (short-at (l .nc) (l .l1) (l .l2) (omega (arith, b .nc-low)) (b .nc-high) (b .l1-low) (b .l2-low) (z .chunks) (z .l1-high)), mul-le-mul-right (l .nc) (b .r-high))
+    omega (
+      arith,
+      leb-true (l .l1 * width (l .l2 * l .nc) + l .l2 * width (l .nc * l .l1) + 16 * l .nc) 1160
+          (short-at (l .nc) (l .l1) (l .l2) (omega (arith, b .nc-low)) (b .nc-high) (b .l1-low) (b .l2-low) (z .chunks)
+          (z .l1-high)),
+      mul-le-mul-right (l .nc) (b .r-high),
+    )
 
 pub message-high : (l : Layout) → legal l ≡ true → messageBytes l ≤ 154
 unfolding messageBytes

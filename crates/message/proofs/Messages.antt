@@ -35,7 +35,10 @@ module _ (l : Layout) (bs ss cs : List ℕ) where
 
   pub bits-fields : AllBits (fieldBits l bs ss cs)
   unfolding fieldBits
-  bits-fields = bits-append (blockPart ++ stringPart) checkPart (bits-append blockPart stringPart (bits-flat (width (blockBits l)) bs) (bits-flat (width (stringBits l)) ss)) (bits-flat (l .nc) cs)
+  bits-fields =
+      bits-append (blockPart ++ stringPart) checkPart
+      (bits-append blockPart stringPart (bits-flat (width (blockBits l)) bs) (bits-flat (width (stringBits l)) ss))
+      (bits-flat (l .nc) cs)
 
   module _ (p : length bs ≡ l .l1) (q : length ss ≡ l .l2) (t : length cs ≡ l .r) where
     length-block-part : length blockPart ≡ l .l1 * width (blockBits l)
@@ -49,19 +52,26 @@ module _ (l : Layout) (bs ss cs : List ℕ) where
 
     pub length-field-bits : length (fieldBits l bs ss cs) ≡ fieldsLength l
     unfolding fieldBits fieldsLength
-    length-field-bits = length-append (blockPart ++ stringPart) checkPart ∙ omega (arith, length-append blockPart stringPart, length-block-part, length-string-part, length-check-part)
+    length-field-bits =
+        length-append (blockPart ++ stringPart) checkPart
+        ∙ omega (arith, length-append blockPart stringPart, length-block-part, length-string-part, length-check-part)
 
     pub length-encode : length (encode l bs ss cs) ≡ messageBytes l
     unfolding encode head messageBytes
-    length-encode = length-append (head l) (pack (fieldBits l bs ss cs)) ∙ ap (λ (n : ℕ). 9 + n) (length-pack (fieldBits l bs ss cs) ∙ ap bytesFor length-field-bits)
+    length-encode =
+        length-append (head l) (pack (fieldBits l bs ss cs))
+        ∙ ap (λ (n : ℕ). 9 + n) (length-pack (fieldBits l bs ss cs) ∙ ap bytesFor length-field-bits)
 
 -- ---- reading what was encoded
 -- the bits after the head are the fields and then the spare bits
-body-encode : (l : Layout) (bs ss cs : List ℕ) → body (encode l bs ss cs) ≡ fieldBits l bs ss cs ++ drop (length (fieldBits l bs ss cs)) (unpack (pack (fieldBits l bs ss cs)))
+body-encode : (l : Layout) (bs ss cs : List ℕ)
+    → body (encode l bs ss cs) ≡ fieldBits l bs ss cs
+    ++ drop (length (fieldBits l bs ss cs)) (unpack (pack (fieldBits l bs ss cs)))
 unfolding body encode head
 body-encode l bs ss cs =
     let f : List ℕ = fieldBits l bs ss cs in
-    sym (ap (λ (x : List ℕ). x ++ drop (length f) (unpack (pack f))) (sym (unpack-pack f (bits-fields l bs ss cs))) ∙ take-append-drop (length f) (unpack (pack f)))
+    sym (ap (λ (x : List ℕ). x ++ drop (length f) (unpack (pack f))) (sym (unpack-pack f (bits-fields l bs ss cs)))
+    ∙ take-append-drop (length f) (unpack (pack f)))
 
 layout-encode : (l : Layout) (bs ss cs : List ℕ) → layoutOf (encode l bs ss cs) ≡ l
 unfolding layoutOf encode head
@@ -91,20 +101,31 @@ module _ (l : Layout) (bs ss cs : List ℕ) (e : Encodable l bs ss cs) where
   unfolding fieldBits
   parts = body-encode l bs ss cs ∙ simp append-assoc
 
-  after-blocks : drop (l .l1 * width (blockBits l)) (body (encode l bs ss cs)) ≡ stringPart l bs ss cs ++ (checkPart l bs ss cs ++ spare)
-  after-blocks = rw parts (drop-at (blockPart l bs ss cs) (stringPart l bs ss cs ++ (checkPart l bs ss cs ++ spare)) (l .l1 * width (blockBits l)) (length-block-part l bs ss cs (e .block-count) (e .string-count) (e .check-count)))
+  after-blocks : drop (l .l1 * width (blockBits l)) (body (encode l bs ss cs))
+      ≡ stringPart l bs ss cs ++ (checkPart l bs ss cs ++ spare)
+  after-blocks =
+      rw parts (drop-at (blockPart l bs ss cs) (stringPart l bs ss cs ++ (checkPart l bs ss cs ++ spare))
+      (l .l1 * width (blockBits l)) (length-block-part l bs ss cs (e .block-count) (e .string-count) (e .check-count)))
 
-  after-strings : drop (l .l1 * width (blockBits l) + l .l2 * width (stringBits l)) (body (encode l bs ss cs)) ≡ checkPart l bs ss cs ++ spare
+  after-strings : drop (l .l1 * width (blockBits l) + l .l2 * width (stringBits l)) (body (encode l bs ss cs))
+      ≡ checkPart l bs ss cs ++ spare
   after-strings =
       sym (drop-drop (l .l2 * width (stringBits l)) (l .l1 * width (blockBits l)) (body (encode l bs ss cs)))
-      ∙ rw after-blocks (drop-at (stringPart l bs ss cs) (checkPart l bs ss cs ++ spare) (l .l2 * width (stringBits l)) (length-string-part l bs ss cs (e .block-count) (e .string-count) (e .check-count)))
+      ∙ rw after-blocks
+      (drop-at (stringPart l bs ss cs) (checkPart l bs ss cs ++ spare) (l .l2 * width (stringBits l))
+      (length-string-part l bs ss cs (e .block-count) (e .string-count) (e .check-count)))
 
   pub reads-encoded : ReadsAs (encode l bs ss cs) l bs ss cs
   unfolding readBlockSums readStringSums readChecks
   reads-encoded = record {
     layout = layout-encode l bs ss cs;
-    block-sums = rw parts (fields-flat (l .l1) (width (blockBits l)) bs (stringPart l bs ss cs ++ (checkPart l bs ss cs ++ spare)) (e .block-count) (fit-width (blockBits l) bs (e .block-range)));
-    string-sums = rw after-blocks (fields-flat (l .l2) (width (stringBits l)) ss (checkPart l bs ss cs ++ spare) (e .string-count) (fit-width (stringBits l) ss (e .string-range)));
+    block-sums =
+        rw parts (fields-flat (l .l1) (width (blockBits l)) bs
+        (stringPart l bs ss cs ++ (checkPart l bs ss cs ++ spare)) (e .block-count)
+        (fit-width (blockBits l) bs (e .block-range)));
+    string-sums =
+        rw after-blocks (fields-flat (l .l2) (width (stringBits l)) ss (checkPart l bs ss cs ++ spare) (e .string-count)
+        (fit-width (stringBits l) ss (e .string-range)));
     checks = rw after-strings (fields-flat (l .r) (l .nc) cs spare (e .check-count) (e .check-range));
   }
 
@@ -122,14 +143,24 @@ module _ (s : List ℕ) where
 
   pub not-refused : Fit → messageRefusal s ≡ 0
   unfolding messageRefusal
-  not-refused f = simp (f .is-marked, f .is-version, f .is-legal, eq-eqb (length s) (messageBytes (layoutOf s)) (f .is-long), f .blocks-low, f .strings-low, f .is-blank)
+  not-refused f =
+      simp (
+        f .is-marked,
+        f .is-version,
+        f .is-legal,
+        eq-eqb (length s) (messageBytes (layoutOf s)) (f .is-long),
+        f .blocks-low,
+        f .strings-low,
+        f .is-blank,
+      )
 
   pub fit : messageRefusal s ≡ 0 → Fit
   unfolding messageRefusal
   fit e =
       let l : Layout = layoutOf s in
       let c6 : Check = (6, not (blank (drop (fieldsLength l) (body s)))) in
-      let c5 : Check = (5, someAbove (blockBits l) (readBlockSums l s) || someAbove (stringBits l) (readStringSums l s)) in
+      let c5 : Check =
+      (5, someAbove (blockBits l) (readBlockSums l s) || someAbove (stringBits l) (readStringSums l s)) in
       let c4 : Check = (4, not (eqb (length s) (messageBytes l))) in
       let c3 : Check = (3, not (legal l)) in
       let c2 : Check = (2, not (versionOne s)) in
@@ -144,8 +175,12 @@ module _ (s : List ℕ) where
         is-version = not-false (versionOne s) (p2 .0);
         is-legal = not-false (legal l) (p3 .0);
         is-long = eqb-true (length s) (messageBytes l) (not-false (eqb (length s) (messageBytes l)) (p4 .0));
-        blocks-low = neither-left (someAbove (blockBits l) (readBlockSums l s)) (someAbove (stringBits l) (readStringSums l s)) (p5 .0);
-        strings-low = neither-right (someAbove (blockBits l) (readBlockSums l s)) (someAbove (stringBits l) (readStringSums l s)) (p5 .0);
+        blocks-low =
+            neither-left (someAbove (blockBits l) (readBlockSums l s)) (someAbove (stringBits l) (readStringSums l s))
+            (p5 .0);
+        strings-low =
+            neither-right (someAbove (blockBits l) (readBlockSums l s)) (someAbove (stringBits l) (readStringSums l s))
+            (p5 .0);
         is-blank = not-false (blank (drop (fieldsLength l) (body s))) (p6 .0);
       }
 
@@ -173,15 +208,18 @@ module _ (s : List ℕ) (m : marked s ≡ true) (v : versionOne s ≡ true) wher
   unfolding messageRefusal
   refused-4′ k a = simp (m, v, k, ne-eqb (length s) (messageBytes (layoutOf s)) a)
 
-  refused-5′ : legal (layoutOf s) ≡ true → length s ≡ messageBytes (layoutOf s) → sumHigh (layoutOf s) s ≡ true → messageRefusal s ≡ 5
+  refused-5′ : legal (layoutOf s) ≡ true → length s ≡ messageBytes (layoutOf s) → sumHigh (layoutOf s) s ≡ true
+      → messageRefusal s ≡ 5
   unfolding messageRefusal
   refused-5′ k n a = simp (m, v, k, eq-eqb (length s) (messageBytes (layoutOf s)) n, a)
 
-  refused-6′ : legal (layoutOf s) ≡ true → length s ≡ messageBytes (layoutOf s) → sumHigh (layoutOf s) s ≡ false → blank (drop (fieldsLength (layoutOf s)) (body s)) ≡ false → messageRefusal s ≡ 6
+  refused-6′ : legal (layoutOf s) ≡ true → length s ≡ messageBytes (layoutOf s) → sumHigh (layoutOf s) s ≡ false
+      → blank (drop (fieldsLength (layoutOf s)) (body s)) ≡ false → messageRefusal s ≡ 6
   unfolding messageRefusal
   refused-6′ k n h a = simp (m, v, k, eq-eqb (length s) (messageBytes (layoutOf s)) n, h, a)
 
-  refused-not′ : legal (layoutOf s) ≡ true → length s ≡ messageBytes (layoutOf s) → sumHigh (layoutOf s) s ≡ false → blank (drop (fieldsLength (layoutOf s)) (body s)) ≡ true → messageRefusal s ≡ 0
+  refused-not′ : legal (layoutOf s) ≡ true → length s ≡ messageBytes (layoutOf s) → sumHigh (layoutOf s) s ≡ false
+      → blank (drop (fieldsLength (layoutOf s)) (body s)) ≡ true → messageRefusal s ≡ 0
   unfolding messageRefusal
   refused-not′ k n h a = simp (m, v, k, eq-eqb (length s) (messageBytes (layoutOf s)) n, h, a)
 
@@ -195,10 +233,12 @@ module _ (s : List ℕ) (m : marked s ≡ true) (v : versionOne s ≡ true) wher
     pub refused-5 : legal l ≡ true → length s ≡ messageBytes l → sumHigh l s ≡ true → messageRefusal s ≡ 5
     refused-5 k n a = refused-5′ (rw q k) (rw q n) (rw q a)
 
-    pub refused-6 : legal l ≡ true → length s ≡ messageBytes l → sumHigh l s ≡ false → blank (drop (fieldsLength l) (body s)) ≡ false → messageRefusal s ≡ 6
+    pub refused-6 : legal l ≡ true → length s ≡ messageBytes l → sumHigh l s ≡ false
+        → blank (drop (fieldsLength l) (body s)) ≡ false → messageRefusal s ≡ 6
     refused-6 k n h a = refused-6′ (rw q k) (rw q n) (rw q h) (rw q a)
 
-    pub refused-not : legal l ≡ true → length s ≡ messageBytes l → sumHigh l s ≡ false → blank (drop (fieldsLength l) (body s)) ≡ true → messageRefusal s ≡ 0
+    pub refused-not : legal l ≡ true → length s ≡ messageBytes l → sumHigh l s ≡ false
+        → blank (drop (fieldsLength l) (body s)) ≡ true → messageRefusal s ≡ 0
     refused-not k n h a = refused-not′ (rw q k) (rw q n) (rw q h) (rw q a)
 
 -- ---- a message is fit exactly when some layout and values have it as their encoding
@@ -210,7 +250,8 @@ encoded-fit l bs ss cs e =
     let k : layoutOf s ≡ l = layout-encode l bs ss cs in
     let r : ReadsAs (encode l bs ss cs) l bs ss cs = reads-encoded l bs ss cs e in
     let f : List ℕ = fieldBits l bs ss cs in
-    let n : length f ≡ fieldsLength l = length-field-bits l bs ss cs (e .block-count) (e .string-count) (e .check-count) in
+    let n : length f ≡ fieldsLength l =
+    length-field-bits l bs ss cs (e .block-count) (e .string-count) (e .check-count) in
     not-refused s
     (record {
       is-marked = marked-encode l bs ss cs;
@@ -226,7 +267,8 @@ encoded-fit l bs ss cs e =
 take-each : (s : List ℕ) (j n : ℕ) → j + n ≤ length s → take n (drop j s) ≡ map (λ (i : ℕ). getD s i 0) (numbers j n)
 unfolding numbers
 take-each s j zero h = refl
-take-each s j (suc n) h = rw (drop-cons s j 0 (omega arith)) (ap (λ (t : List ℕ). getD s j 0 ∷ t) (take-each s (suc j) n (omega arith)))
+take-each s j (suc n) h =
+    rw (drop-cons s j 0 (omega arith)) (ap (λ (t : List ℕ). getD s j 0 ∷ t) (take-each s (suc j) n (omega arith)))
 
 -- the head says what was read in it
 head-read : (s : List ℕ) → Mark s → VersionOne s → head (layoutOf s) ≡ take 9 s
@@ -240,7 +282,8 @@ head-read s m v =
     sym (take-each s 0 9 (m .long) ∙ (cc))
 
 -- the fields that were read are the bits after the head, but for the spare ones
-field-bits-read : (l : Layout) (s : List ℕ) → fieldsLength l ≤ length (body s) → fieldBits l (readBlockSums l s) (readStringSums l s) (readChecks l s) ≡ take (fieldsLength l) (body s)
+field-bits-read : (l : Layout) (s : List ℕ) → fieldsLength l ≤ length (body s)
+    → fieldBits l (readBlockSums l s) (readStringSums l s) (readChecks l s) ≡ take (fieldsLength l) (body s)
 unfolding fieldBits readBlockSums readStringSums readChecks fieldsLength body
 field-bits-read l s h =
     let x : List ℕ = body s in
@@ -249,12 +292,15 @@ field-bits-read l s h =
     let q : ℕ = l .l2 * width (stringBits l) in
     let t : ℕ = l .r * l .nc in
     ap₂ (λ (u v : List ℕ). u ++ v)
-    (ap₂ (λ (u v : List ℕ). u ++ v) (flat-fields (l .l1) (width (blockBits l)) x a (omega arith)) (flat-fields (l .l2) (width (stringBits l)) (drop p x) (bits-drop p x a) (simp length-drop (omega arith))) ∙ sym (take-add p q x))
+    (ap₂ (λ (u v : List ℕ). u ++ v) (flat-fields (l .l1) (width (blockBits l)) x a (omega arith))
+    (flat-fields (l .l2) (width (stringBits l)) (drop p x) (bits-drop p x a) (simp length-drop (omega arith)))
+    ∙ sym (take-add p q x))
     (flat-fields (l .r) (l .nc) (drop (p + q) x) (bits-drop (p + q) x a) (simp length-drop (omega arith)))
     ∙ sym (take-add (p + q) t x)
 
 -- encoding what was read of a fit message gives the same bytes back
-pub encode-read : (s : List ℕ) → AllBytes s → messageRefusal s ≡ 0 → encode (layoutOf s) (readBlockSums (layoutOf s) s) (readStringSums (layoutOf s) s) (readChecks (layoutOf s) s) ≡ s
+pub encode-read : (s : List ℕ) → AllBytes s → messageRefusal s ≡ 0
+    → encode (layoutOf s) (readBlockSums (layoutOf s) s) (readStringSums (layoutOf s) s) (readChecks (layoutOf s) s) ≡ s
 unfolding encode messageBytes body
 encode-read s b e =
     let f : Fit s = fit s e in
@@ -267,7 +313,8 @@ encode-read s b e =
     ∙ take-append-drop 9 s
 
 -- a fit message is the encoding of a legal layout, sums in range and checks
-pub read-encodable : (s : List ℕ) → messageRefusal s ≡ 0 → Encodable (layoutOf s) (readBlockSums (layoutOf s) s) (readStringSums (layoutOf s) s) (readChecks (layoutOf s) s)
+pub read-encodable : (s : List ℕ) → messageRefusal s ≡ 0
+    → Encodable (layoutOf s) (readBlockSums (layoutOf s) s) (readStringSums (layoutOf s) s) (readChecks (layoutOf s) s)
 unfolding readBlockSums readStringSums readChecks body
 read-encodable s e =
     let f : Fit s = fit s e in
@@ -285,10 +332,19 @@ read-encodable s e =
       check-range = fields-fit (l .r) (l .nc) (drop (p + q) x) (bits-drop (p + q) x (bits-unpack (drop 9 s)));
     }
 
--- "a message that no layout and values could have produced is refused": a message is not refused by 1 to 6 exactly when some
--- legal layout, sums in range and checks have it as their encoding
-pub fit-exactly : (s : List ℕ) → AllBytes s → (messageRefusal s ≡ 0) ↔ ((l : Layout) × (bs : List ℕ) × (ss : List ℕ) × (cs : List ℕ) × Encodable l bs ss cs × (encode l bs ss cs ≡ s))
+-- "a message that no layout and values could have produced is refused": a message is not refused by 1 to 6 exactly when
+-- some legal layout, sums in range and checks have it as their encoding
+pub fit-exactly : (s : List ℕ) → AllBytes s
+    → (messageRefusal s ≡ 0) ↔
+    ((l : Layout) × (bs : List ℕ) × (ss : List ℕ) × (cs : List ℕ) × Encodable l bs ss cs × (encode l bs ss cs ≡ s))
 fit-exactly s b = (
-  λ e. (layoutOf s, readBlockSums (layoutOf s) s, readStringSums (layoutOf s) s, readChecks (layoutOf s) s, read-encodable s e, encode-read s b e),
+  λ e. (
+    layoutOf s,
+    readBlockSums (layoutOf s) s,
+    readStringSums (layoutOf s) s,
+    readChecks (layoutOf s) s,
+    read-encodable s e,
+    encode-read s b e,
+  ),
   λ w. rw (w .5) at (encoded-fit (w .0) (w .1) (w .2) (w .3) (w .4)),
 )

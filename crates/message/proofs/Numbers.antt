@@ -41,15 +41,19 @@ module _ (l : Layout) (s : List ℕ) where
     block-written = rw (after-head-bits 0 72 refl, eb, zero-add) refl
 
     pub string-written : (o₁ : List ℕ) → o₁ ≡ readBlockSums l s ++ drop (l .l1) o
-        → take (l .l1) o₁ ++ fields (l .l2) ws (drop (72 + l .l1 * wb) (unpack s)) ++ drop (l .l1 + l .l2) o₁ ≡ readBlockSums l s ++ readStringSums l s ++ drop (l .l1 + l .l2) o
+        → take (l .l1) o₁ ++ fields (l .l2) ws (drop (72 + l .l1 * wb) (unpack s)) ++ drop (l .l1 + l .l2) o₁
+        ≡ readBlockSums l s ++ readStringSums l s ++ drop (l .l1 + l .l2) o
     unfolding readStringSums
     string-written o₁ e =
         rw (e, after-head-bits (l .l1 * wb) (72 + l .l1 * wb) refl, eb, es)
         (part-next (readBlockSums l s) (readStringSums l s) o (l .l1) (l .l2) block-count)
 
     pub check-written : (o₂ : List ℕ) → o₂ ≡ readBlockSums l s ++ readStringSums l s ++ drop (l .l1 + l .l2) o
-        → take (l .l1 + l .l2) o₂ ++ fields (l .r) (l .nc) (drop (72 + l .l1 * wb + l .l2 * ws) (unpack s)) ++ drop (l .l1 + l .l2 + l .r) o₂ ≡ readBlockSums l s ++ readStringSums l s ++ readChecks l s ++ drop (l .l1 + l .l2 + l .r) o
+        → take (l .l1 + l .l2) o₂ ++ fields (l .r) (l .nc) (drop (72 + l .l1 * wb + l .l2 * ws) (unpack s))
+        ++ drop (l .l1 + l .l2 + l .r) o₂
+        ≡ readBlockSums l s ++ readStringSums l s ++ readChecks l s ++ drop (l .l1 + l .l2 + l .r) o
     unfolding readChecks
     check-written o₂ e =
         rw (e, after-head-bits (l .l1 * wb + l .l2 * ws) (72 + l .l1 * wb + l .l2 * ws) (omega arith), eb, es)
-        (part-next (readBlockSums l s ++ readStringSums l s) (readChecks l s) o (l .l1 + l .l2) (l .r) (length-append (readBlockSums l s) (readStringSums l s) ∙ omega (arith, block-count, string-count)))
+        (part-next (readBlockSums l s ++ readStringSums l s) (readChecks l s) o (l .l1 + l .l2) (l .r)
+        (length-append (readBlockSums l s) (readStringSums l s) ∙ omega (arith, block-count, string-count)))

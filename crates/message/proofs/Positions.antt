@@ -1,4 +1,5 @@
--- The total of the positions of the ones: of a string in parts, from a bit on, and how high it and the sum are. Assumes nothing.
+-- The total of the positions of the ones: of a string in parts, from a bit on, and how high it and the sum are. Assumes
+-- nothing.
 use Prim.Native.Nat.{ℕ, suc, _+_, _*_, _≤_}
 use mathlib.Core.Path.{_≡_}
 use mathlib.Core.List.{List, [], _∷_, _++_}

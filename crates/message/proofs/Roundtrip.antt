@@ -41,8 +41,12 @@ module _ (l : Layout) (x : List ℕ) (e : legal l ≡ true) (a : AllBits x) (n :
     block-count = length-block-sums l x;
     string-count = length-string-sums l x;
     check-count = length-checks l x;
-    block-range = at-most-each (blockBits l) (blockSums l x) (λ i h. block-sum-low l x n i (omega (arith, h, length-block-sums l x)));
-    string-range = at-most-each (stringBits l) (stringSums l x) (λ j h. string-sum-low l x n j (omega (arith, h, length-string-sums l x)));
+    block-range =
+        at-most-each (blockBits l) (blockSums l x)
+        (λ i h. block-sum-low l x n i (omega (arith, h, length-block-sums l x)));
+    string-range =
+        at-most-each (stringBits l) (stringSums l x)
+        (λ j h. string-sum-low l x n j (omega (arith, h, length-string-sums l x)));
     check-range = fit-each (l .nc) (checks l x) (λ i h. check-low i (omega (arith, h, length-checks l x)));
   }
 

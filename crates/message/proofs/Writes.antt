@@ -31,12 +31,14 @@ module _ (l : Layout) (p : List ℕ) (room : ℕ) where
   not-refused k f a = simp (k, f, le-ltb room (messageBytes l) a)
 
 -- a refusal answers its number alone and leaves the target
-pub refused : (l : Layout) (p t : List ℕ) (q : ℕ) → writeRefusal l p (length t) ≡ suc q → (record { refusal = suc q; value = 0 } ≡ writeAnswer l p (length t)) × (t ≡ writeTarget l p t)
+pub refused : (l : Layout) (p t : List ℕ) (q : ℕ) → writeRefusal l p (length t) ≡ suc q
+    → (record { refusal = suc q; value = 0 } ≡ writeAnswer l p (length t)) × (t ≡ writeTarget l p t)
 unfolding writeAnswer writeTarget
 refused l p t q e = (rw (e, eqb·suc-zero q) refl, rw (e, eqb·suc-zero q) refl)
 
 -- otherwise the length is answered and the target holds the message
-pub written : (l : Layout) (p t : List ℕ) (n : ℕ) (u : List ℕ) → writeRefusal l p (length t) ≡ 0 → n ≡ messageBytes l → u ≡ message l (take (rowBits l) (unpack p)) ++ drop (messageBytes l) t
+pub written : (l : Layout) (p t : List ℕ) (n : ℕ) (u : List ℕ) → writeRefusal l p (length t) ≡ 0 → n ≡ messageBytes l
+    → u ≡ message l (take (rowBits l) (unpack p)) ++ drop (messageBytes l) t
     → (record { refusal = 0; value = n } ≡ writeAnswer l p (length t)) × (u ≡ writeTarget l p t)
 unfolding writeAnswer writeTarget
 written l p t n u e f g = (rw (e, f) refl, rw e g)

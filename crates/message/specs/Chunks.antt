@@ -15,8 +15,8 @@ rowOf nc cs = flatMap (digits nc) cs
 abbrev pub Chunked : Layout → List ℕ → Type 0
 Chunked l cs = (length cs ≡ l .l1 * l .l2) × Elements (l .nc) cs
 
--- count of the numbers, from a first one on, each stride after the last: those of a block are neighbours, those of a chunk-string
--- stand l2 apart
+-- count of the numbers, from a first one on, each stride after the last: those of a block are neighbours, those of a
+-- chunk-string stand l2 apart
 unfoldable pub picked : (start stride count : ℕ) → List ℕ → List ℕ
 picked start stride zero cs = []
 picked start stride (suc n) cs = getD cs start 0 ∷ picked (start + stride) stride n cs

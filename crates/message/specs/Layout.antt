@@ -14,7 +14,8 @@ layout l1 l2 nc r = record { l1 = l1; l2 = l2; nc = nc; r = r }
 -- "l1 and l2 at least 1; nc from 3 to 8; l1 × l2 at most 2^nc − 1; r from 0 to 16"
 unfoldable pub legal : Layout → Bool
 legal l =
-    leb 1 (l .l1) && leb 1 (l .l2) && leb 3 (l .nc) && leb (l .nc) 8 && leb (l .l1 * l .l2) (2 ^ l .nc - 1) && leb (l .r) 16
+    leb 1 (l .l1) && leb 1 (l .l2) && leb 3 (l .nc) && leb (l .nc) 8 && leb (l .l1 * l .l2) (2 ^ l .nc - 1)
+    && leb (l .r) 16
 
 -- n, the bits of a row
 abbrev pub rowBits : Layout → ℕ

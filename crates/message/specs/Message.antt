@@ -47,8 +47,8 @@ checks l x = map (λ (i : ℕ). check (l .nc) i (map (number (l .nc)) (chunks l 
 unfoldable pub head : Layout → List ℕ
 head l = 0x52 ∷ 0x53 ∷ 0x4D ∷ 0x00 ∷ 0x01 ∷ l .l1 ∷ l .l2 ∷ l .nc ∷ l .r ∷ []
 
--- the bits after the head: "packed without gaps: l1 block sums, l2 chunk-string sums, r checks. A sum of a string of length w
--- takes as many bits as w needs in binary; a check takes nc bits"
+-- the bits after the head: "packed without gaps: l1 block sums, l2 chunk-string sums, r checks. A sum of a string of
+-- length w takes as many bits as w needs in binary; a check takes nc bits"
 unfoldable pub fieldBits : Layout → (blockSums stringSums checks : List ℕ) → List ℕ
 unfolding width digits flatMap
 fieldBits l bs ss cs =

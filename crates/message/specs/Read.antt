@@ -105,4 +105,5 @@ layoutAnswer q s = record { refusal = q; layout = cond (eqb q 0) (layoutOf s) no
 -- the target afterwards: the numbers at its start; unchanged where reading refuses
 unfoldable pub readTarget : (s target : List ℕ) → List ℕ
 unfolding readRefusal numbersRead
-readTarget s target = cond (eqb (readRefusal s (length target)) 0) (numbersRead s ++ drop (length (numbersRead s)) target) target
+readTarget s target =
+    cond (eqb (readRefusal s (length target)) 0) (numbersRead s ++ drop (length (numbersRead s)) target) target

@@ -27,10 +27,14 @@ writeRefusal l packed target =
 unfoldable pub writeAnswer : Layout → (packed : List ℕ) (target : ℕ) → Answer
 unfolding writeRefusal
 writeAnswer l packed target =
-    record { refusal = writeRefusal l packed target; value = cond (eqb (writeRefusal l packed target) 0) (messageBytes l) 0 }
+    record {
+      refusal = writeRefusal l packed target;
+      value = cond (eqb (writeRefusal l packed target) 0) (messageBytes l) 0;
+    }
 
 -- the target afterwards: the message of the row at its start; unchanged where writing refuses
 unfoldable pub writeTarget : Layout → (packed target : List ℕ) → List ℕ
 unfolding writeRefusal message unpack
 writeTarget l packed target =
-    cond (eqb (writeRefusal l packed (length target)) 0) (message l (take (rowBits l) (unpack packed)) ++ drop (messageBytes l) target) target
+    cond (eqb (writeRefusal l packed (length target)) 0)
+    (message l (take (rowBits l) (unpack packed)) ++ drop (messageBytes l) target) target

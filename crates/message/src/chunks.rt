@@ -29,11 +29,14 @@ pub fn fill(s: &[u8], n: usize, nc: usize, out: &mut [u8])
     }
 }
 
-// The number that the k bits from a place on spell.
+// The number that the k bits from a place on spell: a byte is read at once.
 pub fn number_at(bits: &[u8], at: usize, k: usize) -> u8
     requires { ⌜ AllBits (now bits) × ((k ≤ 8) × (at + k ≤ length (now bits))) ⌝ }
     ensures { λ v. ⌜ v ≡ number k (drop at (now (bits .entry))) ⌝ }
 {
+    if k == 8 {
+        return bits::whole_byte(bits, at);
+    }
     let mut v: u8 = 0;
     let mut i: usize = 0;
     while i < k {
@@ -121,7 +124,7 @@ pub fn fill_checks(l1: usize, l2: usize, nc: usize, r: usize, chunks: &[u8], out
         return;
     }
     let mut p: [u8; 256] = [0; 256];
-    field::fill_elements(nc, &mut p);
+    field::fill_powers(nc, &mut p);
     let mut logs: [u8; 256] = [0; 256];
     field::fill_logs(nc, &p, &mut logs);
     field::checks(nc, r, &p, &logs, chunks, out);

@@ -9,7 +9,7 @@ ghost use mathlib.Core.List.{List};
 ghost use lib.ListN.{length, getD, take};
 ghost use Rattle.field.specs.Field.{Elements};
 ghost use Rattle.field.specs.Tables.{Logs};
-ghost use Rattle.field.specs.Exponents.{AllNamed};
+ghost use Rattle.field.specs.Exponents.{AllPowers};
 ghost use Rattle.message.specs.Layout.{legal as isLegal};
 ghost use Rattle.cells.specs.Cells.{chunkOf, Under};
 ghost use Rattle.found.specs.Found.{Given, Sent, InHand};
@@ -128,7 +128,7 @@ fn missing(
     numbers: &[u16],
     chunks: &[u8],
 ) -> [u8; 16]
-    requires { ⌜ ((isLegal l ≡ true) × (n ≤ l .r)) × ((AllNamed (l .nc) (now p) × Logs (l .nc) (now logs)
+    requires { ⌜ ((isLegal l ≡ true) × (n ≤ l .r)) × ((AllPowers (l .nc) (now p) × Logs (l .nc) (now logs)
         × (length (now numbers) ≡ l .l1 + l .l2 + l .r))
         × (Elements (l .nc) (now chunks) × (length (now chunks) < 2 ^ l .nc))) ⌝ }
     ensures { λ r. ⌜ Elements (l .nc) r × Missing l n (now (numbers .entry)) (now (chunks .entry)) r ⌝ }
@@ -156,7 +156,7 @@ pub fn recover(l: Layout, numbers: &[u16], e: Erased, row: &[u8; 255]) -> [u8; 2
 {
     let nc = l.nc;
     let mut p: [u8; 256] = [0; 256];
-    field::fill_elements(nc, &mut p);
+    field::fill_powers(nc, &mut p);
     let mut logs: [u8; 256] = [0; 256];
     field::fill_logs(nc, &p, &mut logs);
     let t = field::table();

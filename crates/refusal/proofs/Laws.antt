@@ -19,7 +19,9 @@ unfolding firstRefusal
 refused-before [] ds n = absurd (n refl)
 refused-before (c ∷ cs) ds n = go (c .1) n (refused-before cs ds)
   where
-    go : (t : Bool) → (cond t (c .0) (firstRefusal cs) ≡ 0 → ⊥) → ((firstRefusal cs ≡ 0 → ⊥) → firstRefusal (cs ++ ds) ≡ firstRefusal cs) → cond t (c .0) (firstRefusal (cs ++ ds)) ≡ cond t (c .0) (firstRefusal cs)
+    go : (t : Bool) → (cond t (c .0) (firstRefusal cs) ≡ 0 → ⊥)
+        → ((firstRefusal cs ≡ 0 → ⊥) → firstRefusal (cs ++ ds) ≡ firstRefusal cs)
+        → cond t (c .0) (firstRefusal (cs ++ ds)) ≡ cond t (c .0) (firstRefusal cs)
     go true n ih = refl
     go false n ih = ih n
 
@@ -29,12 +31,15 @@ unfolding firstRefusal
 passed-before [] ds k e = refl
 passed-before (c ∷ cs) ds k e = go (c .1) e (passed-before cs ds (k .1))
   where
-    go : (t : Bool) → cond t (c .0) (firstRefusal cs) ≡ 0 → (firstRefusal cs ≡ 0 → firstRefusal (cs ++ ds) ≡ firstRefusal ds) → cond t (c .0) (firstRefusal (cs ++ ds)) ≡ firstRefusal ds
+    go : (t : Bool) → cond t (c .0) (firstRefusal cs) ≡ 0
+        → (firstRefusal cs ≡ 0 → firstRefusal (cs ++ ds) ≡ firstRefusal ds)
+        → cond t (c .0) (firstRefusal (cs ++ ds)) ≡ firstRefusal ds
     go true e ih = absurd (k .0 e)
     go false e ih = ih e
 
 -- a check that passed has a condition that does not hold
-pub passed : (c : Check) (cs : List Check) → (c .0 ≡ 0 → ⊥) → firstRefusal (c ∷ cs) ≡ 0 → (c .1 ≡ false) × (firstRefusal cs ≡ 0)
+pub passed : (c : Check) (cs : List Check) → (c .0 ≡ 0 → ⊥) → firstRefusal (c ∷ cs) ≡ 0
+    → (c .1 ≡ false) × (firstRefusal cs ≡ 0)
 unfolding firstRefusal
 passed c cs n e = go (c .1) refl e
   where
@@ -48,7 +53,8 @@ unfolding firstRefusal
 passed-first [] ds e = refl
 passed-first (c ∷ cs) ds e = go (c .1) e (passed-first cs ds)
   where
-    go : (t : Bool) → cond t (c .0) (firstRefusal (cs ++ ds)) ≡ 0 → (firstRefusal (cs ++ ds) ≡ 0 → firstRefusal cs ≡ 0) → cond t (c .0) (firstRefusal cs) ≡ 0
+    go : (t : Bool) → cond t (c .0) (firstRefusal (cs ++ ds)) ≡ 0 → (firstRefusal (cs ++ ds) ≡ 0 → firstRefusal cs ≡ 0)
+        → cond t (c .0) (firstRefusal cs) ≡ 0
     go true e f = e
     go false e f = f e
 

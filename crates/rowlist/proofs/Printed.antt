@@ -100,7 +100,8 @@ module _ (s slice : List ℕ) (r : Listed) (exit : List ℕ) (p : Asked s slice 
   -- a refusal
   refused-printed : (q : Refusal) → r ≡ Refused q → refusedText (numberOf q) ≡ printed s
   refused-printed q e =
-      let n = sym (number-is (messageIn s) (rowIn s) (bitsIn s) slice r exit p) ∙ ap (λ (v : Listed). listedOf v .refusal) e in
+      let n =
+      sym (number-is (messageIn s) (rowIn s) (bitsIn s) slice r exit p) ∙ ap (λ (v : Listed). listedOf v .refusal) e in
       let z : eqb (numberOf q) 0 ≡ false = ne-eqb (numberOf q) 0 (λ z. omega (arith, numbered q)) in
       rw z at (printed-by (numberOf q) n)
 

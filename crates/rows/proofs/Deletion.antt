@@ -39,7 +39,8 @@ stays-test : (b k : ℕ) (x y : List ℕ) → comesFrom x k y ≡ true → comes
 unfolding comesFrom
 stays-test b zero x y h = both (eqb b b) (comesFrom x 0 y) (eq-eqb b b refl) h
 stays-test b (suc k) x y h =
-    right (comesFrom x k (b ∷ y)) (eqb b b && comesFrom x (suc k) y) (both (eqb b b) (comesFrom x (suc k) y) (eq-eqb b b refl) h)
+    right (comesFrom x k (b ∷ y)) (eqb b b && comesFrom x (suc k) y)
+    (both (eqb b b) (comesFrom x (suc k) y) (eq-eqb b b refl) h)
 
 struck-test : (b k : ℕ) (x y : List ℕ) → comesFrom x k y ≡ true → comesFrom (b ∷ x) (suc k) y ≡ true
 unfolding comesFrom
@@ -61,11 +62,13 @@ strikes [] zero (c ∷ y) h = absurd (false≢true h)
 strikes [] (suc k) y h = absurd (false≢true h)
 strikes (b ∷ x) zero [] h = absurd (false≢true h)
 strikes (b ∷ x) zero (c ∷ y) h =
-    keeps b c 0 x y (eqb-true b c (both-left (eqb b c) (comesFrom x 0 y) h)) (strikes x 0 y (both-right (eqb b c) (comesFrom x 0 y) h))
+    keeps b c 0 x y (eqb-true b c (both-left (eqb b c) (comesFrom x 0 y) h))
+    (strikes x 0 y (both-right (eqb b c) (comesFrom x 0 y) h))
 strikes (b ∷ x) (suc k) [] h = struck (strikes x k [] h)
 strikes (b ∷ x) (suc k) (c ∷ y) h = go (comesFrom x k (c ∷ y)) refl h (strikes x k (c ∷ y)) (strikes x (suc k) y)
   where
-    go : (t : Bool) → comesFrom x k (c ∷ y) ≡ t → (t || (eqb b c && comesFrom x (suc k) y)) ≡ true → (comesFrom x k (c ∷ y) ≡ true → Strikes x k (c ∷ y)) → (comesFrom x (suc k) y ≡ true → Strikes x (suc k) y)
+    go : (t : Bool) → comesFrom x k (c ∷ y) ≡ t → (t || (eqb b c && comesFrom x (suc k) y)) ≡ true
+        → (comesFrom x k (c ∷ y) ≡ true → Strikes x k (c ∷ y)) → (comesFrom x (suc k) y ≡ true → Strikes x (suc k) y)
         → Strikes (b ∷ x) (suc k) (c ∷ y)
     go true e h f g = struck (f e)
     go false e h f g =

@@ -1,4 +1,5 @@
--- The bounded ordered list: rows can be added in any order and in any parts, on a list that is already cut too. Assumes nothing.
+-- The bounded ordered list: rows can be added in any order and in any parts, on a list that is already cut too. Assumes
+-- nothing.
 use Prim.Native.Nat.{ℕ, zero, suc, _<_, _≤_, Ordering, Ordering·lt, Ordering·eq, Ordering·gt}
 use mathlib.Core.Path.{_≡_, refl, sym, ap, _∙_, subst}
 use mathlib.Core.Bool.{Bool, true, false, _||_, false≢true}
@@ -89,7 +90,8 @@ insert-take (suc c) x [] = refl
 insert-take (suc c) x (y ∷ ys) = go (order x y) (insert-take c x ys)
   where
     go : (o : Ordering) → take c (insert x (take c ys)) ≡ take c (insert x ys)
-        → take (suc c) (byOrder o (x ∷ (y ∷ take c ys)) (y ∷ take c ys) (y ∷ insert x (take c ys))) ≡ take (suc c) (byOrder o (x ∷ (y ∷ ys)) (y ∷ ys) (y ∷ insert x ys))
+        → take (suc c) (byOrder o (x ∷ (y ∷ take c ys)) (y ∷ take c ys) (y ∷ insert x (take c ys)))
+        ≡ take (suc c) (byOrder o (x ∷ (y ∷ ys)) (y ∷ ys) (y ∷ insert x ys))
     go Ordering·lt r = ap (λ (m : List (List ℕ)). x ∷ m) (take-less c y ys)
     go Ordering·eq r = ap (λ (m : List (List ℕ)). y ∷ m) (take-take c c ys (omega arith))
     go Ordering·gt r = ap (λ (m : List (List ℕ)). y ∷ m) r
@@ -105,7 +107,8 @@ insert-held x ys a m =
 pub insert-last : (x : List ℕ) (ys : List (List ℕ)) → After ys x → insert x ys ≡ ys ++ (x ∷ [])
 unfolding insert
 insert-last x [] a = refl
-insert-last x (y ∷ ys) a = rw (answer x y Ordering·gt (a .0)) (ap (λ (l : List (List ℕ)). y ∷ l) (insert-last x ys (a .1)))
+insert-last x (y ∷ ys) a =
+    rw (answer x y Ordering·gt (a .0)) (ap (λ (l : List (List ℕ)). y ∷ l) (insert-last x ys (a .1)))
 
 -- ---- the ordered union
 pub union-mem : (z : List ℕ) (ys xs : List (List ℕ)) → Mem z ys ⊎ Mem z xs → Mem z (union ys xs)
@@ -223,22 +226,27 @@ more-more cap m u b = go m (ltb cap (length u)) refl
     go false true e =
         let l = ltb-true cap (length u) e in
         sym (lt-ltb cap (length (union u b)) (omega (arith, union-length u b)))
-    go false false e = ap (λ (v : List (List ℕ)). ltb cap (length (union v b))) (take-all cap u (ltb-false cap (length u) e))
+    go false false e =
+        ap (λ (v : List (List ℕ)). ltb cap (length (union v b))) (take-all cap u (ltb-false cap (length u) e))
 
 -- adding one part after another is adding them together, whatever is held and cut
 pub add-add : (cap : ℕ) (h : Held) (a b : List (List ℕ)) → add cap (add cap h a) b ≡ add cap h (a ++ b)
 unfolding add
 add-add cap h a b =
     let u = union (h .rows) a in
-    held-path (Clip cap (h .more || ltb cap (length u)) (union (take cap u) b)) (Clip cap (h .more) (union u b)) (union-take cap u b) (more-more cap (h .more) u b)
+    held-path (Clip cap (h .more || ltb cap (length u)) (union (take cap u) b)) (Clip cap (h .more) (union u b))
+    (union-take cap u b) (more-more cap (h .more) u b)
     ∙ ap (Clip cap (h .more)) (union-union (h .rows) a b)
 
 -- of an ascending list added to nothing the first cap rows are held, and that there are more exactly when there are
-pub add-all : (cap : ℕ) (xs : List (List ℕ)) → Ascending xs → add cap none xs ≡ record { rows = take cap xs; more = ltb cap (length xs) }
+pub add-all : (cap : ℕ) (xs : List (List ℕ)) → Ascending xs
+    → add cap none xs ≡ record { rows = take cap xs; more = ltb cap (length xs) }
 unfolding add
 add-all cap xs a = ap (Clip cap false) (union-none xs a)
 
-pub add-kept : (cap n : ℕ) (f : List ℕ → Bool) → add cap none (keep f (allRows n)) ≡ record { rows = take cap (keep f (allRows n)); more = ltb cap (length (keep f (allRows n))) }
+pub add-kept : (cap n : ℕ) (f : List ℕ → Bool)
+    → add cap none (keep f (allRows n))
+    ≡ record { rows = take cap (keep f (allRows n)); more = ltb cap (length (keep f (allRows n))) }
 add-kept cap n f = add-all cap (keep f (allRows n)) (keep-ascending f (allRows n) (rows-ascending n))
 
 -- the rows held do not become fewer
@@ -299,7 +307,8 @@ module _ {cap n : ℕ} {f : List ℕ → Bool} {h : Held} (w : WellHeld cap n f 
   -- what is known stays known
   pub known-stays : (a : List (List ℕ)) (x : List ℕ) → Known h x → Known (add cap h a) x
   known-stays a x k =
-      let one : add cap h (x ∷ []) ≡ h = add-known (x ∷ []) (λ z m. ⊎-elim (λ e. subst (λ (v : List ℕ). Known h v) (sym e) k) (λ p. absurd p) m) in
+      let one : add cap h (x ∷ []) ≡ h =
+      add-known (x ∷ []) (λ z m. ⊎-elim (λ e. subst (λ (v : List ℕ). Known h v) (sym e) k) (λ p. absurd p) m) in
       let both : add cap h (x ∷ a) ≡ add cap h a = sym (add-add cap h (x ∷ []) a) ∙ ap (λ (g : Held). add cap g a) one in
       subst (λ (g : Held). Known g x) both (known-added cap h (x ∷ a) x (w .ascending) (inr (inl refl)))
 
@@ -310,12 +319,15 @@ module _ {cap n : ℕ} {f : List ℕ → Bool} {h : Held} (w : WellHeld cap n f 
       add-add cap h (keep f xs) (keep g xs)
       ∙ add-members cap h (keep f xs ++ keep g xs) (keep (λ (x : List ℕ). f x || g x) xs) (w .ascending) there back
     where
-      there : (z : List ℕ) → Mem z (keep f xs ++ keep g xs) → Mem z (h .rows) ⊎ Mem z (keep (λ (x : List ℕ). f x || g x) xs)
+      there : (z : List ℕ) → Mem z (keep f xs ++ keep g xs)
+          → Mem z (h .rows) ⊎ Mem z (keep (λ (x : List ℕ). f x || g x) xs)
       there z m =
           inr
           (⊎-elim
-          (λ p. let k = keep-sound f z xs p in keep-complete (λ (x : List ℕ). f x || g x) z xs (k .0) (ap (λ (t : Bool). t || g z) (k .1)))
-          (λ p. let k = keep-sound g z xs p in keep-complete (λ (x : List ℕ). f x || g x) z xs (k .0) (ap (λ (t : Bool). f z || t) (k .1) ∙ or-true (f z)))
+          (λ p. let k = keep-sound f z xs p in
+          keep-complete (λ (x : List ℕ). f x || g x) z xs (k .0) (ap (λ (t : Bool). t || g z) (k .1)))
+          (λ p. let k = keep-sound g z xs p in
+          keep-complete (λ (x : List ℕ). f x || g x) z xs (k .0) (ap (λ (t : Bool). f z || t) (k .1) ∙ or-true (f z)))
           (mem-append z (keep f xs) (keep g xs) m))
 
       one-of : (z : List ℕ) (t : Bool) → f z ≡ t → f z || g z ≡ true → Mem z xs → Mem z (keep f xs ++ keep g xs)
@@ -323,7 +335,8 @@ module _ {cap n : ℕ} {f : List ℕ → Bool} {h : Held} (w : WellHeld cap n f 
       one-of z false e q m =
           mem-right z (keep f xs) (keep g xs) (keep-complete g z xs m (ap (λ (t : Bool). t || g z) (sym e) ∙ q))
 
-      back : (z : List ℕ) → Mem z (keep (λ (x : List ℕ). f x || g x) xs) → Mem z (h .rows) ⊎ Mem z (keep f xs ++ keep g xs)
+      back : (z : List ℕ) → Mem z (keep (λ (x : List ℕ). f x || g x) xs)
+          → Mem z (h .rows) ⊎ Mem z (keep f xs ++ keep g xs)
       back z m = let k = keep-sound (λ (x : List ℕ). f x || g x) z xs m in inr (one-of z (f z) refl (k .1) (k .0))
 
   -- adding rows of n bits that pass the test keeps the list well held
@@ -352,5 +365,7 @@ keep-same f g (x ∷ xs) e = rw (e x (inl refl), keep-same f g xs (λ z m. e z (
 -- what comes after the last row of an ascending list comes after all
 pub after-last : (ys : List (List ℕ)) (y x : List ℕ) → Ascending (ys ++ (y ∷ [])) → Less y x → After (ys ++ (y ∷ [])) x
 after-last [] y x a l = (l, tt)
-after-last (z ∷ zs) y x a l =
-    (less-trans z y x (mem-before z y (zs ++ (y ∷ [])) (a .0) (mem-right y zs (y ∷ []) (inl refl))) l, after-last zs y x (a .1) l)
+after-last (z ∷ zs) y x a l = (
+  less-trans z y x (mem-before z y (zs ++ (y ∷ [])) (a .0) (mem-right y zs (y ∷ []) (inl refl))) l,
+  after-last zs y x (a .1) l,
+)

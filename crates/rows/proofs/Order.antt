@@ -1,5 +1,5 @@
--- Dictionary order: its laws; two ascending lists with the same members are the same list; the list of all rows is ascending and
--- holds exactly the rows of n bits; what `keep` keeps. Assumes nothing.
+-- Dictionary order: its laws; two ascending lists with the same members are the same list; the list of all rows is
+-- ascending and holds exactly the rows of n bits; what `keep` keeps. Assumes nothing.
 use Prim.Native.Nat.{ℕ, zero, suc, _<_, compare, Ordering, Ordering·lt, Ordering·eq, Ordering·gt}
 use mathlib.Core.Path.{_≡_, refl, sym, ap, _∙_, subst}
 use mathlib.Core.Bool.{Bool, true, false, cond}
@@ -151,7 +151,8 @@ head-same x y xs ys bx by (inr m) (inl e) = sym e
 head-same x y xs ys bx by (inr m) (inr n) = absurd (less-not x y (mem-before x y xs bx n) (mem-before y x ys by m))
 
 tail-mem : (x y z : List ℕ) (xs ys : List (List ℕ)) → x ≡ y → Before x xs → Mem z xs → Mem z (y ∷ ys) → Mem z ys
-tail-mem x y z xs ys e bx m (inl p) = absurd (less-irrefl x (subst (λ (v : List ℕ). Less x v) (p ∙ sym e) (mem-before x z xs bx m)))
+tail-mem x y z xs ys e bx m (inl p) =
+    absurd (less-irrefl x (subst (λ (v : List ℕ). Less x v) (p ∙ sym e) (mem-before x z xs bx m)))
 tail-mem x y z xs ys e bx m (inr n) = n
 
 pub same-members : (xs ys : List (List ℕ)) → Ascending xs → Ascending ys → ((z : List ℕ) → Mem z xs → Mem z ys)
@@ -161,7 +162,9 @@ same-members [] (y ∷ ys) a b f g = absurd (g y (inl refl))
 same-members (x ∷ xs) [] a b f g = absurd (f x (inl refl))
 same-members (x ∷ xs) (y ∷ ys) a b f g =
     let e : x ≡ y = head-same x y xs ys (a .0) (b .0) (f x (inl refl)) (g y (inl refl)) in
-    let t : xs ≡ ys = same-members xs ys (a .1) (b .1) (λ z m. tail-mem x y z xs ys e (a .0) m (f z (inr m))) (λ z m. tail-mem y x z ys xs (sym e) (b .0) m (g z (inr m))) in
+    let t : xs ≡ ys =
+    same-members xs ys (a .1) (b .1) (λ z m. tail-mem x y z xs ys e (a .0) m (f z (inr m)))
+    (λ z m. tail-mem y x z ys xs (sym e) (b .0) m (g z (inr m))) in
     cc
 
 -- ---- all rows
@@ -180,9 +183,11 @@ rows-complete zero [] r = inl refl
 rows-complete zero (b ∷ x) r = absurd (omega (arith, r .0))
 rows-complete (suc n) [] r = absurd (omega (arith, r .0))
 rows-complete (suc n) (zero ∷ x) r =
-    mem-left (0 ∷ x) (Cons 0 (allRows n)) (Cons 1 (allRows n)) (mem-cons 0 x (allRows n) (rows-complete n x (omega (arith, r .0), r .1 .1)))
+    mem-left (0 ∷ x) (Cons 0 (allRows n)) (Cons 1 (allRows n))
+    (mem-cons 0 x (allRows n) (rows-complete n x (omega (arith, r .0), r .1 .1)))
 rows-complete (suc n) (suc zero ∷ x) r =
-    mem-right (1 ∷ x) (Cons 0 (allRows n)) (Cons 1 (allRows n)) (mem-cons 1 x (allRows n) (rows-complete n x (omega (arith, r .0), r .1 .1)))
+    mem-right (1 ∷ x) (Cons 0 (allRows n)) (Cons 1 (allRows n))
+    (mem-cons 1 x (allRows n) (rows-complete n x (omega (arith, r .0), r .1 .1)))
 rows-complete (suc n) (suc (suc b) ∷ x) r = absurd (omega (arith, r .1 .0))
 
 row-cons : (v n : ℕ) (z : List ℕ) (a : List (List ℕ)) → v < 2 → ((y : List ℕ) → Mem y a → Row n y) → Mem z (Cons v a)
@@ -222,8 +227,10 @@ ascending-cons v (x ∷ xs) p = (before-cons v x xs (p .0), ascending-cons v xs 
 
 ascending-two : (a b : List (List ℕ)) → Ascending a → Ascending b → Ascending (Cons 0 a ++ Cons 1 b)
 ascending-two [] b p q = ascending-cons 1 b q
-ascending-two (x ∷ xs) b p q =
-    (before-append (0 ∷ x) (Cons 0 xs) (Cons 1 b) (before-cons 0 x xs (p .0)) (before-one x b), ascending-two xs b (p .1) q)
+ascending-two (x ∷ xs) b p q = (
+  before-append (0 ∷ x) (Cons 0 xs) (Cons 1 b) (before-cons 0 x xs (p .0)) (before-one x b),
+  ascending-two xs b (p .1) q,
+)
 
 pub rows-ascending : (n : ℕ) → Ascending (allRows n)
 unfolding allRows

@@ -1,5 +1,5 @@
--- Packing keeps dictionary order, so what is held can be kept packed: adding packed rows is packing what is added. Assumes
--- nothing.
+-- Packing keeps dictionary order, so what is held can be kept packed: adding packed rows is packing what is added.
+-- Assumes nothing.
 use Prim.Native.Nat.{ℕ, zero, suc, _+_, _*_, _^_, _<_, _≤_, compare, Ordering, Ordering·lt, Ordering·eq, Ordering·gt}
 use mathlib.Core.Path.{_≡_, refl, sym, ap, _∙_, subst}
 use mathlib.Core.Bool.{Bool, true, false, _||_}
@@ -41,13 +41,17 @@ order-number (suc j) (b ∷ x) (c ∷ y) e p q = go b c (p .0) (q .0) (order-num
   where
     go : (b c : ℕ) → b < 2 → c < 2
         → order x y ≡ byOrder (compare (number j x) (number j y)) Ordering·lt (order (drop j x) (drop j y)) Ordering·gt
-        → byOrder (compare b c) Ordering·lt (order x y) Ordering·gt ≡ byOrder (compare (b * 2 ^ j + number j x) (c * 2 ^ j + number j y)) Ordering·lt (order (drop j x) (drop j y)) Ordering·gt
+        → byOrder (compare b c) Ordering·lt (order x y) Ordering·gt
+        ≡ byOrder (compare (b * 2 ^ j + number j x) (c * 2 ^ j + number j y)) Ordering·lt (order (drop j x) (drop j y))
+        Ordering·gt
     go zero zero h k r = rw (compare-plus (0 * 2 ^ j) (number j x) (number j y)) r
     go (suc zero) (suc zero) h k r = rw (compare-plus (1 * 2 ^ j) (number j x) (number j y)) r
     go zero (suc zero) h k r =
-        rw (answer-n (0 * 2 ^ j + number j x) (1 * 2 ^ j + number j y) Ordering·lt (omega (arith, number-lt j x (p .1)))) refl
+        rw (answer-n (0 * 2 ^ j + number j x) (1 * 2 ^ j + number j y) Ordering·lt
+        (omega (arith, number-lt j x (p .1)))) refl
     go (suc zero) zero h k r =
-        rw (answer-n (1 * 2 ^ j + number j x) (0 * 2 ^ j + number j y) Ordering·gt (omega (arith, number-lt j y (q .1)))) refl
+        rw (answer-n (1 * 2 ^ j + number j x) (0 * 2 ^ j + number j y) Ordering·gt
+        (omega (arith, number-lt j y (q .1)))) refl
     go zero (suc (suc c)) h k r = absurd (omega arith)
     go (suc zero) (suc (suc c)) h k r = absurd (omega arith)
     go (suc (suc b)) c h k r = absurd (omega arith)
@@ -59,7 +63,9 @@ bytes-order zero [] [] e l a b = refl
 bytes-order zero [] (c ∷ y) e l a b = absurd (omega (arith, e))
 bytes-order zero (c ∷ x) y e l a b = absurd (omega (arith, l))
 bytes-order (suc k) x y e l a b =
-    let r = bytes-order k (drop 8 x) (drop 8 y) (simp length-drop (omega arith)) (simp length-drop (omega arith)) (bits-drop 8 x a) (bits-drop 8 y b) in
+    let r =
+    bytes-order k (drop 8 x) (drop 8 y) (simp length-drop (omega arith)) (simp length-drop (omega arith))
+    (bits-drop 8 x a) (bits-drop 8 y b) in
     rw r (sym (order-number 8 x y e a b))
 
 -- packed rows of one length stand in the order of their bits
@@ -84,10 +90,12 @@ pack-insert : (n : ℕ) (x : List ℕ) (ys : List (List ℕ)) → Row n x → Ro
     → insert (pack x) (map pack ys) ≡ map pack (insert x ys)
 unfolding insert
 pack-insert n x [] r s = refl
-pack-insert n x (y ∷ ys) r s = rw (pack-order n x y r (s y (inl refl))) (go (order x y) (pack-insert n x ys r (λ z m. s z (inr m))))
+pack-insert n x (y ∷ ys) r s =
+    rw (pack-order n x y r (s y (inl refl))) (go (order x y) (pack-insert n x ys r (λ z m. s z (inr m))))
   where
     go : (o : Ordering) → insert (pack x) (map pack ys) ≡ map pack (insert x ys)
-        → byOrder o (pack x ∷ (pack y ∷ map pack ys)) (pack y ∷ map pack ys) (pack y ∷ insert (pack x) (map pack ys)) ≡ map pack (byOrder o (x ∷ (y ∷ ys)) (y ∷ ys) (y ∷ insert x ys))
+        → byOrder o (pack x ∷ (pack y ∷ map pack ys)) (pack y ∷ map pack ys) (pack y ∷ insert (pack x) (map pack ys))
+        ≡ map pack (byOrder o (x ∷ (y ∷ ys)) (y ∷ ys) (y ∷ insert x ys))
     go Ordering·lt e = refl
     go Ordering·eq e = refl
     go Ordering·gt e = ap (λ (l : List (List ℕ)). pack y ∷ l) e
@@ -109,14 +117,19 @@ pub packed-add : (cap n : ℕ) (h : Held) (xs : List (List ℕ)) → Rows n (h .
 unfolding add
 packed-add cap n h xs s r =
     rw (pack-union n (h .rows) xs s r)
-    (λ i. record { rows = map-take cap (union (h .rows) xs) i; more = h .more || ltb cap (length-map (union (h .rows) xs) pack i) })
+    (λ i. record {
+      rows = map-take cap (union (h .rows) xs) i;
+      more = h .more || ltb cap (length-map (union (h .rows) xs) pack i);
+    })
 
 -- ---- rows of n bits, packed in a slice
 before-packed : (n : ℕ) (x : List ℕ) (ys : List (List ℕ)) → Row n x → Rows n ys → Before x ys
     → Before (pack x) (map pack ys)
 before-packed n x [] r s b = tt
-before-packed n x (y ∷ ys) r s b =
-    (order-less (pack x) (pack y) (pack-order n x y r (s y (inl refl)) ∙ answer x y Ordering·lt (b .0)), before-packed n x ys r (λ z m. s z (inr m)) (b .1))
+before-packed n x (y ∷ ys) r s b = (
+  order-less (pack x) (pack y) (pack-order n x y r (s y (inl refl)) ∙ answer x y Ordering·lt (b .0)),
+  before-packed n x ys r (λ z m. s z (inr m)) (b .1),
+)
 
 pub packed-ascending : (n : ℕ) (xs : List (List ℕ)) → Rows n xs → Ascending xs → Ascending (map pack xs)
 packed-ascending n [] s a = tt
@@ -156,17 +169,20 @@ module _ {cap n : ℕ} {f : List ℕ → Bool} {h : Held} (w : WellHeld cap n f 
       (omega (arith, w .atMost), subst Ascending (sym rows) (packed-ascending n (h .rows) rows-held (w .ascending)))
 
   -- what it leaves there: h with the row y added, packed
-  pub insert-packed : (s exit : List ℕ) (c d : ℕ) (m o : Bool) (y : List ℕ) → Row n y → heldIn (bytesFor n) s c m ≡ packed h
+  pub insert-packed : (s exit : List ℕ) (c d : ℕ) (m o : Bool) (y : List ℕ) → Row n y
+      → heldIn (bytesFor n) s c m ≡ packed h
       → Written (bytesFor n) (add cap (heldIn (bytesFor n) s c m) (pack y ∷ [])) s exit d o
       → Written (bytesFor n) (packed (add cap h (y ∷ []))) s exit d o
   insert-packed s exit c d m o y r e k =
       let only : Rows n (y ∷ []) = λ z p. ⊎-elim (λ q. subst (λ (v : List ℕ). Row n v) (sym q) r) (λ q. absurd q) p in
-      subst (λ (g : Held). Written (bytesFor n) g s exit d o) (ap (λ (g : Held). add cap g (pack y ∷ [])) e ∙ packed-add cap n h (y ∷ []) rows-held only) k
+      subst (λ (g : Held). Written (bytesFor n) g s exit d o)
+      (ap (λ (g : Held). add cap g (pack y ∷ [])) e ∙ packed-add cap n h (y ∷ []) rows-held only) k
 
   -- a slice to which h was written holds h packed
   pub written-packed : (entry exit : List ℕ) (c : ℕ) (m : Bool) → Written (bytesFor n) (packed h) entry exit c m
       → heldIn (bytesFor n) exit c m ≡ packed h
-  written-packed entry exit c m k = written-held (bytesFor n) (packed h) entry exit c m (packed-wide n (h .rows) rows-held) k
+  written-packed entry exit c m k =
+      written-held (bytesFor n) (packed h) entry exit c m (packed-wide n (h .rows) rows-held) k
 
   -- a slice that is left alone: what it holds is as at entry
   pub written-none : (s : List ℕ) (c : ℕ) (m : Bool) → heldIn (bytesFor n) s c m ≡ packed h
@@ -174,7 +190,9 @@ module _ {cap n : ℕ} {f : List ℕ → Bool} {h : Held} (w : WellHeld cap n f 
   written-none s c m e =
       subst (λ (g : Held). Written (bytesFor n) g s s c m) e
       (record {
-        slice = sym (ap (λ (l : List ℕ). l ++ drop (c * bytesFor n) s) (flat-cut (bytesFor n) c s) ∙ take-append-drop (c * bytesFor n) s);
+        slice =
+            sym (ap (λ (l : List ℕ). l ++ drop (c * bytesFor n) s) (flat-cut (bytesFor n) c s)
+            ∙ take-append-drop (c * bytesFor n) s);
         count = sym (length-cut (bytesFor n) c s);
         more = refl;
       })
@@ -188,8 +206,11 @@ module _ {cap n : ℕ} {f : List ℕ → Bool} {h : Held} (w : WellHeld cap n f 
       let v = add-well w a r in
       let g : Held = add cap h a in
       let more : length (g .rows) ≤ length (add cap g b .rows) = add-length cap g b (v .atMost) in
-      let le : c ≤ d = omega (arith, first .count, second .count, length-map (g .rows) pack, length-map (add cap g b .rows) pack) in
-      let all = written-written (bytesFor n) (packed g) (packed (add cap g b)) entry mid exit c d m o (packed-wide n (g .rows) (λ x p. v .each x p .0)) le first second in
+      let le : c ≤ d =
+      omega (arith, first .count, second .count, length-map (g .rows) pack, length-map (add cap g b .rows) pack) in
+      let all =
+      written-written (bytesFor n) (packed g) (packed (add cap g b)) entry mid exit c d m o
+      (packed-wide n (g .rows) (λ x p. v .each x p .0)) le first second in
       subst (λ (k : Held). Written (bytesFor n) (packed k) entry exit d o) (add-add cap h a b) all
 
 -- ---- the beginning and the end of a search
@@ -198,8 +219,8 @@ pub none-packed : (n : ℕ) (s : List ℕ) → heldIn (bytesFor n) s 0 false ≡
 unfolding cut
 none-packed n s = refl
 
--- what the slice holds once all rows that pass a test were added to nothing: the first cap of them, and that there are more
--- exactly when there are
+-- what the slice holds once all rows that pass a test were added to nothing: the first cap of them, and that there are
+-- more exactly when there are
 pub record Listed (cap n : ℕ) (f : List ℕ → Bool) (entry exit : List ℕ) (c : ℕ) (m : Bool) : Type 0 where
   pub slice : exit ≡ flat (map pack (take cap (keep f (allRows n)))) ++ drop (c * bytesFor n) entry
   pub count : c ≡ length (take cap (keep f (allRows n)))

@@ -39,7 +39,9 @@ unfolding place
 place-above x m [] a h l = absurd (omega arith)
 place-above x zero (y ∷ ys) a h l = rw l (omega arith)
 place-above x (suc m) (y ∷ ys) a h l =
-    let first : Less y x = less-trans y (getD ys m []) x (mem-before y (getD ys m []) ys (a .0) (row-mem m ys (omega arith))) (subst (λ (o : Ordering). Compared (getD ys m []) x o) l (compared (getD ys m []) x)) in
+    let first : Less y x =
+    less-trans y (getD ys m []) x (mem-before y (getD ys m []) ys (a .0) (row-mem m ys (omega arith)))
+    (subst (λ (o : Ordering). Compared (getD ys m []) x o) l (compared (getD ys m []) x)) in
     let r = place-above x m ys (a .1) (omega arith) l in
     rw (answer y x Ordering·lt first) (omega arith)
 
@@ -77,9 +79,12 @@ insert-place x [] n = refl
 insert-place x (y ∷ ys) n = go (order y x) refl (compared y x) n (insert-place x ys)
   where
     go : (o : Ordering) → order y x ≡ o → Compared y x o
-        → (byOrder o (suc (place x ys)) 0 0 < suc (length ys) → order (getD (y ∷ ys) (byOrder o (suc (place x ys)) 0 0) []) x ≡ Ordering·eq → ⊥)
-        → ((place x ys < length ys → order (getD ys (place x ys) []) x ≡ Ordering·eq → ⊥) → insert x ys ≡ take (place x ys) ys ++ (x ∷ drop (place x ys) ys))
-        → byOrder (order x y) (x ∷ (y ∷ ys)) (y ∷ ys) (y ∷ insert x ys) ≡ take (byOrder o (suc (place x ys)) 0 0) (y ∷ ys) ++ (x ∷ drop (byOrder o (suc (place x ys)) 0 0) (y ∷ ys))
+        → (byOrder o (suc (place x ys)) 0 0 < suc (length ys)
+        → order (getD (y ∷ ys) (byOrder o (suc (place x ys)) 0 0) []) x ≡ Ordering·eq → ⊥)
+        → ((place x ys < length ys → order (getD ys (place x ys) []) x ≡ Ordering·eq → ⊥)
+        → insert x ys ≡ take (place x ys) ys ++ (x ∷ drop (place x ys) ys))
+        → byOrder (order x y) (x ∷ (y ∷ ys)) (y ∷ ys) (y ∷ insert x ys)
+        ≡ take (byOrder o (suc (place x ys)) 0 0) (y ∷ ys) ++ (x ∷ drop (byOrder o (suc (place x ys)) 0 0) (y ∷ ys))
     go Ordering·lt e k n ih =
         rw (answer x y Ordering·gt k) (ap (λ (l : List (List ℕ)). y ∷ l) (ih (λ h. n (omega arith))))
     go Ordering·eq e k n ih = absurd (n (omega arith) e)
@@ -156,7 +161,9 @@ cut-flat w (x ∷ xs) s a =
 pub written-held : (w : ℕ) (h : Held) (entry exit : List ℕ) (c : ℕ) (m : Bool) → Wide w (h .rows)
     → Written w h entry exit c m → heldIn w exit c m ≡ h
 written-held w h entry exit c m a r =
-    let e : cut c w exit ≡ h .rows = ap (λ (k : ℕ). cut k w exit) (r .count) ∙ ap (cut (length (h .rows)) w) (r .slice) ∙ cut-flat w (h .rows) (drop (c * w) entry) a in
+    let e : cut c w exit ≡ h .rows =
+    ap (λ (k : ℕ). cut k w exit) (r .count) ∙ ap (cut (length (h .rows)) w) (r .slice)
+    ∙ cut-flat w (h .rows) (drop (c * w) entry) a in
     λ i. record { rows = e i; more = r .more i }
 
 pub rows-le : (a b w : ℕ) → a ≤ b → a * w ≤ b * w
@@ -197,7 +204,8 @@ from-end s at x i h =
     rw (e, drop-of-length-le x {i = i} (omega arith)) refl
 
 module _ (s : List ℕ) (at : ℕ) (x : List ℕ) (i : ℕ) (fits : at + length x ≤ length s) (h : i < length x) where
-  from-step : From s at x i ≡ byOrder (compare (getD s (at + i) 0) (getD x i 0)) Ordering·lt (From s at x (i + 1)) Ordering·gt
+  from-step : From s at x i ≡ byOrder (compare (getD s (at + i) 0) (getD x i 0)) Ordering·lt (From s at x (i + 1))
+      Ordering·gt
   unfolding order
   from-step =
       let e : length x - i ≡ suc (length x - suc i) = omega arith in
@@ -208,7 +216,8 @@ module _ (s : List ℕ) (at : ℕ) (x : List ℕ) (i : ℕ) (fits : at + length 
       → From s at x i ≡ byOrder o Ordering·lt (From s at x (i + 1)) Ordering·gt
   from-by o l =
       from-step
-      ∙ ap (λ (p : Ordering). byOrder p Ordering·lt (From s at x (i + 1)) Ordering·gt) (answer-n (getD s (at + i) 0) (getD x i 0) o l)
+      ∙ ap (λ (p : Ordering). byOrder p Ordering·lt (From s at x (i + 1)) Ordering·gt)
+      (answer-n (getD s (at + i) 0) (getD x i 0) o l)
 
   pub from-less : getD s (at + i) 0 < getD x i 0 → From s at x i ≡ Ordering·lt
   from-less l = from-by Ordering·lt l
@@ -259,7 +268,8 @@ part-of p r n k h =
     ∙ take-append-le n (drop k p) r (omega (arith, length-drop k p))
 
 -- bytes moved up from byte i on, and then those from byte k to byte i
-pub moved-part : (s : List ℕ) (to w i k : ℕ) → to + w ≤ length s → k ≤ i → i ≤ to → Moved (Moved s to w i) i w k ≡ Moved s to w k
+pub moved-part : (s : List ℕ) (to w i k : ℕ) → to + w ≤ length s → k ≤ i → i ≤ to
+    → Moved (Moved s to w i) i w k ≡ Moved s to w k
 moved-part s to w i k fits low high =
     let p : List ℕ = take (i + w) s in
     let r : List ℕ = take (to - i) (drop i s) ++ drop (to + w) s in
@@ -307,7 +317,8 @@ row-fits i c w h = omega (arith, suc-mul i w, rows-le (suc i) c w h)
 abbrev pub OrderAt : (s : List ℕ) (m : ℕ) (x : List ℕ) → Ordering
 OrderAt s m x = order (take (length x) (drop (m * length x) s)) x
 
-pub order-at : (s : List ℕ) (c : ℕ) (x : List ℕ) (m : ℕ) → m < c → order (getD (cut c (length x) s) m []) x ≡ OrderAt s m x
+pub order-at : (s : List ℕ) (c : ℕ) (x : List ℕ) (m : ℕ) → m < c
+    → order (getD (cut c (length x) s) m []) x ≡ OrderAt s m x
 order-at s c x m low = ap (λ (v : List ℕ). order v x) (row-at (length x) m c s low)
 
 module _ (s : List ℕ) (c : ℕ) (x : List ℕ) (m r : ℕ) (low : m < c) (e : r ≡ byOrder (OrderAt s m x) 0 1 2) where
@@ -316,12 +327,14 @@ module _ (s : List ℕ) (c : ℕ) (x : List ℕ) (m r : ℕ) (low : m < c) (e : 
 
   pub place-up : Ascending (cut c (length x) s) → r ≡ 0 → m + 1 ≤ place x (cut c (length x) s)
   place-up a z =
-      let p = place-above x m (cut c (length x) s) a in-rows (order-at s c x m low ∙ answered-less (OrderAt s m x) r e z) in
+      let p =
+      place-above x m (cut c (length x) s) a in-rows (order-at s c x m low ∙ answered-less (OrderAt s m x) r e z) in
       omega arith
 
   pub place-down : (r ≡ 0 → ⊥) → place x (cut c (length x) s) ≤ m
   place-down n =
-      place-below x m (cut c (length x) s) in-rows (λ l. answered-not-less (OrderAt s m x) r e n (sym (order-at s c x m low) ∙ l))
+      place-below x m (cut c (length x) s) in-rows
+      (λ l. answered-not-less (OrderAt s m x) r e n (sym (order-at s c x m low) ∙ l))
 
 pub place-count : (s : List ℕ) (c : ℕ) (x : List ℕ) → place x (cut c (length x) s) ≤ c
 place-count s c x = let p = place-length x (cut c (length x) s) in omega (arith, length-cut (length x) c s)
@@ -329,11 +342,13 @@ place-count s c x = let p = place-length x (cut c (length x) s) in omega (arith,
 -- ---- a row put in at a place
 -- the bytes moved up, and then the row written
 pub moved-written : (s x : List ℕ) (at to : ℕ) → at ≤ to → to + length x ≤ length s
-    → take at (Moved s to (length x) at) ++ (x ++ drop (at + length x) (Moved s to (length x) at)) ≡ take at s ++ (x ++ (take (to - at) (drop at s) ++ drop (to + length x) s))
+    → take at (Moved s to (length x) at) ++ (x ++ drop (at + length x) (Moved s to (length x) at))
+    ≡ take at s ++ (x ++ (take (to - at) (drop at s) ++ drop (to + length x) s))
 moved-written s x at to h k =
     let w : ℕ = length x in
     let l : length (take (at + w) s) ≡ at + w = length-take-le (at + w) s (omega arith) in
     let r : List ℕ = take (to - at) (drop at s) ++ drop (to + w) s in
-    let a : take at (take (at + w) s ++ r) ≡ take at s = take-append-le at (take (at + w) s) r (omega arith) ∙ take-take at (at + w) s (omega arith) in
+    let a : take at (take (at + w) s ++ r) ≡ take at s =
+    take-append-le at (take (at + w) s) r (omega arith) ∙ take-take at (at + w) s (omega arith) in
     let b : drop (at + w) (take (at + w) s ++ r) ≡ r = drop-at (take (at + w) s) r (at + w) l in
     cc

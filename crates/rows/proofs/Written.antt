@@ -33,7 +33,8 @@ absent-end s c x p h l = absurd (omega arith)
 
 -- the bytes that the row and the rows around it take, where the first t rows stay
 put-flat : (w c p t : ℕ) (s x : List ℕ) → p ≤ t → t ≤ c
-    → take (p * w) s ++ (x ++ (take (t * w - p * w) (drop (p * w) s) ++ drop (t * w + w) s)) ≡ flat (take p (cut c w s) ++ (x ∷ take (t - p) (drop p (cut c w s)))) ++ drop ((t + 1) * w) s
+    → take (p * w) s ++ (x ++ (take (t * w - p * w) (drop (p * w) s) ++ drop (t * w + w) s))
+    ≡ flat (take p (cut c w s) ++ (x ∷ take (t - p) (drop p (cut c w s)))) ++ drop ((t + 1) * w) s
 unfolding flat
 put-flat w c p t s x h k =
     let d : t * w - p * w ≡ (t - p) * w = sub-rows t p w h in
@@ -51,7 +52,8 @@ put-flat w c p t s x h k =
         let e : t - p + p ≡ t = omega arith in
         omega (arith, ap (λ (v : ℕ). v * w) e, add-mul (t - p) p w)
 
-module _ (s : List ℕ) (c : ℕ) (m : Bool) (cap : ℕ) (x : List ℕ) (fewer : c ≤ cap) (p : ℕ) (at : p ≡ place x (cut c (length x) s)) where
+module _ (s : List ℕ) (c : ℕ) (m : Bool) (cap : ℕ) (x : List ℕ) (fewer : c ≤ cap) (p : ℕ)
+    (at : p ≡ place x (cut c (length x) s)) where
   abbrev Now : List (List ℕ)
   Now = cut c (length x) s
 
@@ -77,19 +79,24 @@ module _ (s : List ℕ) (c : ℕ) (m : Bool) (cap : ℕ) (x : List ℕ) (fewer :
 
   -- the slice holds what it held
   as-it-was : s ≡ flat Now ++ drop (c * length x) s
-  as-it-was = sym (ap (λ (l : List ℕ). l ++ drop (c * length x) s) (flat-cut (length x) c s) ∙ take-append-drop (c * length x) s)
+  as-it-was =
+      sym (ap (λ (l : List ℕ). l ++ drop (c * length x) s) (flat-cut (length x) c s) ∙ take-append-drop (c * length x) s)
 
   -- the row is held already
   pub written-repeat : Ascending Now → p < c → order (getD Now p []) x ≡ Ordering·eq → Written (length x) Next s s c m
   written-repeat asc h e =
-      let same : insert x Now ≡ Now = insert-there x Now asc (omega (arith, count-now)) (ap (λ (k : ℕ). order (getD Now k []) x) (sym at) ∙ e) in
-      let few : ltb cap (length (insert x Now)) ≡ false = ap (λ (l : List (List ℕ)). ltb cap (length l)) same ∙ le-ltb cap (length Now) (omega (arith, count-now)) in
-      written Now s c m (ap (take cap) same ∙ take-all cap Now (omega (arith, count-now))) (sym (or-false m) ∙ ap (λ (t : Bool). m || t) (sym few)) as-it-was (sym count-now)
+      let same : insert x Now ≡ Now =
+      insert-there x Now asc (omega (arith, count-now)) (ap (λ (k : ℕ). order (getD Now k []) x) (sym at) ∙ e) in
+      let few : ltb cap (length (insert x Now)) ≡ false =
+      ap (λ (l : List (List ℕ)). ltb cap (length l)) same ∙ le-ltb cap (length Now) (omega (arith, count-now)) in
+      written Now s c m (ap (take cap) same ∙ take-all cap Now (omega (arith, count-now)))
+      (sym (or-false m) ∙ ap (λ (t : Bool). m || t) (sym few)) as-it-was (sym count-now)
 
   module _ (new : Absent s c x p) where
     put : insert x Now ≡ take p Now ++ (x ∷ drop p Now)
     put =
-        rw at (insert-place x Now (λ h e. new (omega (arith, count-now)) (ap (λ (k : ℕ). order (getD Now k []) x) at ∙ e)))
+        rw at (insert-place x Now
+        (λ h e. new (omega (arith, count-now)) (ap (λ (k : ℕ). order (getD Now k []) x) at ∙ e)))
 
     length-put : length (insert x Now) ≡ suc c
     length-put =
@@ -100,13 +107,16 @@ module _ (s : List ℕ) (c : ℕ) (m : Bool) (cap : ℕ) (x : List ℕ) (fewer :
 
     -- there is room: the rows from its place on move up
     pub written-room : (exit : List ℕ) → c < cap
-        → exit ≡ take (p * length x) s ++ (x ++ (take (c * length x - p * length x) (drop (p * length x) s) ++ drop (c * length x + length x) s))
+        → exit ≡ take (p * length x) s
+        ++ (x ++ (take (c * length x - p * length x) (drop (p * length x) s) ++ drop (c * length x + length x) s))
         → Written (length x) Next s exit (c + 1) m
     written-room exit h e =
-        let rest : take (c - p) (drop p Now) ≡ drop p Now = take-all (c - p) (drop p Now) (simp length-drop (omega (arith, count-now))) in
+        let rest : take (c - p) (drop p Now) ≡ drop p Now =
+        take-all (c - p) (drop p Now) (simp length-drop (omega (arith, count-now))) in
         let q : List (List ℕ) = take p Now ++ (x ∷ take (c - p) (drop p Now)) in
         let is : insert x Now ≡ q = put ∙ ap (λ (l : List (List ℕ)). take p Now ++ (x ∷ l)) (sym rest) in
-        let few : ltb cap (length (insert x Now)) ≡ false = le-ltb cap (length (insert x Now)) (omega (arith, length-put)) in
+        let few : ltb cap (length (insert x Now)) ≡ false =
+        le-ltb cap (length (insert x Now)) (omega (arith, length-put)) in
         written q exit (c + 1) m
         (take-all cap (insert x Now) (omega (arith, length-put)) ∙ is)
         (sym (or-false m) ∙ ap (λ (t : Bool). m || t) (sym few))
@@ -118,7 +128,9 @@ module _ (s : List ℕ) (c : ℕ) (m : Bool) (cap : ℕ) (x : List ℕ) (fewer :
 
     -- the list is full, and the row goes before its last: that one is pushed out
     pub written-full : (exit : List ℕ) → cap ≤ c → p < cap
-        → exit ≡ take (p * length x) s ++ (x ++ (take ((cap - 1) * length x - p * length x) (drop (p * length x) s) ++ drop ((cap - 1) * length x + length x) s))
+        → exit ≡ take (p * length x) s
+        ++ (x ++ (take ((cap - 1) * length x - p * length x) (drop (p * length x) s)
+        ++ drop ((cap - 1) * length x + length x) s))
         → Written (length x) Next s exit c true
     written-full exit h l e =
         let t : ℕ = cap - 1 in
@@ -129,10 +141,12 @@ module _ (s : List ℕ) (c : ℕ) (m : Bool) (cap : ℕ) (x : List ℕ) (fewer :
         ∙ ap (λ (n : ℕ). take n (take p Now ++ (x ∷ drop p Now))) k
         ∙ take-append-add (take p Now) (x ∷ drop p Now) (suc (t - p))
         in
-        let many : c ≡ length q = sym (sym (ap length rows) ∙ length-take-le cap (insert x Now) (omega (arith, length-put)) ∙ omega arith) in
+        let many : c ≡ length q =
+        sym (sym (ap length rows) ∙ length-take-le cap (insert x Now) (omega (arith, length-put)) ∙ omega arith) in
         let d : t + 1 ≡ c = omega arith in
         written q exit c true rows (over h)
-        (e ∙ put-flat (length x) c p t s x (omega arith) (omega arith) ∙ ap (λ (n : ℕ). flat q ++ drop (n * length x) s) d)
+        (e ∙ put-flat (length x) c p t s x (omega arith) (omega arith)
+        ∙ ap (λ (n : ℕ). flat q ++ drop (n * length x) s) d)
         many
 
     -- the list is full, and the row comes after its last: only that there are more is noted

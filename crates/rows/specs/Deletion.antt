@@ -1,5 +1,5 @@
--- Deletion (document 01, "The list"): "striking out some k of X's places leaves the received bits in their order". The field
--- calls x a supersequence of y.
+-- Deletion (document 01, "The list"): "striking out some k of X's places leaves the received bits in their order". The
+-- field calls x a supersequence of y.
 use Prim.Native.Nat.{ℕ, zero, suc}
 use mathlib.Core.Bool.{Bool, true, false, _&&_, _||_}
 use mathlib.Core.List.{List, [], _∷_}

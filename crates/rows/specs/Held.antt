@@ -1,5 +1,5 @@
--- The bounded ordered list (document 01, refusal 9): the rows found so far in dictionary order, each once, as many of the first
--- as fit, and whether more were found.
+-- The bounded ordered list (document 01, refusal 9): the rows found so far in dictionary order, each once, as many of
+-- the first as fit, and whether more were found.
 use Prim.Native.Nat.{ℕ, _≤_}
 use mathlib.Core.Path.{_≡_}
 use mathlib.Core.Bool.{Bool, true, false, _||_}
@@ -30,15 +30,15 @@ unfolding insert
 union ys [] = ys
 union ys (x ∷ xs) = union (insert x ys) xs
 
--- the rows found are added: their union with those held, cut at cap; that more were found stays noted, and is noted when a row
--- is cut off
+-- the rows found are added: their union with those held, cut at cap; that more were found stays noted, and is noted
+-- when a row is cut off
 unfoldable pub add : (cap : ℕ) → Held → List (List ℕ) → Held
 unfolding union
 add cap h xs =
     record { rows = take cap (union (h .rows) xs); more = h .more || ltb cap (length (union (h .rows) xs)) }
 
--- what stands in the list slice at any time: rows of n bits that pass the test, in order, at most cap of them, and exactly
--- cap where more were found
+-- what stands in the list slice at any time: rows of n bits that pass the test, in order, at most cap of them, and
+-- exactly cap where more were found
 pub record WellHeld (cap n : ℕ) (f : List ℕ → Bool) (h : Held) : Type 0 where
   pub each : (x : List ℕ) → Mem x (h .rows) → Row n x × (f x ≡ true)
   pub ascending : Ascending (h .rows)

@@ -1,5 +1,6 @@
--- Dictionary order (document 01, "The list"): "of two different rows of one length, dictionary order puts first the one with 0
--- at the first bit where they differ". It is stated on lists of numbers, so it orders strings of bits and packed bytes alike.
+-- Dictionary order (document 01, "The list"): "of two different rows of one length, dictionary order puts first the one
+-- with 0 at the first bit where they differ". It is stated on lists of numbers, so it orders strings of bits and packed
+-- bytes alike.
 use Prim.Native.Nat.{ℕ, _<_, compare, Ordering, Ordering·lt, Ordering·eq, Ordering·gt}
 use mathlib.Core.Path.{_≡_}
 use mathlib.Core.Logic.{_⊎_}
@@ -7,7 +8,8 @@ use mathlib.Core.List.{List, [], _∷_}
 use lib.ListN.{length}
 use Rattle.bits.specs.Bits.{AllBits}
 
--- x comes before y: at the first place where they differ it has the lower number; a string comes before those that it begins
+-- x comes before y: at the first place where they differ it has the lower number; a string comes before those that it
+-- begins
 abbrev pub Less : (x y : List ℕ) → Type 0
 Less [] [] = ⊥
 Less [] (b ∷ y) = Unit

@@ -1,5 +1,5 @@
--- Rows in the list slice (document 01, "The list"): "the list slice holds them packed in dictionary order from its start, and
--- its bytes beyond them are as at entry".
+-- Rows in the list slice (document 01, "The list"): "the list slice holds them packed in dictionary order from its
+-- start, and its bytes beyond them are as at entry".
 use Prim.Native.Nat.{ℕ, suc, _*_}
 use mathlib.Core.Path.{_≡_}
 use mathlib.Core.Bool.{Bool}

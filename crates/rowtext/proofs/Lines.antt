@@ -17,7 +17,8 @@ use Rattle.rowtext.specs.Text.{hexByte, rowLine, lineFeed, lastDigits, d
 flat-append : {A : Type 0} (f : A → List ℕ) (a b : List A) → flatMap f (a ++ b) ≡ flatMap f a ++ flatMap f b
 unfolding flatMap
 flat-append f [] b = refl
-flat-append f (x ∷ a) b = ap (λ (t : List ℕ). f x ++ t) (flat-append f a b) ∙ sym (append-assoc (f x) (flatMap f a) (flatMap f b))
+flat-append f (x ∷ a) b =
+    ap (λ (t : List ℕ). f x ++ t) (flat-append f a b) ∙ sym (append-assoc (f x) (flatMap f a) (flatMap f b))
 
 flat-one : {A : Type 0} (f : A → List ℕ) (x : A) → flatMap f (x ∷ []) ≡ f x
 unfolding flatMap
@@ -53,7 +54,8 @@ cut-next w zero s = rw (zero-mul w) refl
 cut-next w (suc i) s =
     let n : w + i * w ≡ suc i * w = sym (suc-mul i w ∙ add-comm (i * w) w) in
     let e : drop (i * w) (drop w s) ≡ drop (suc i * w) s = drop-drop (i * w) w s ∙ ap (λ (k : ℕ). drop k s) n in
-    ap (λ (t : List (List ℕ)). take w s ∷ t) (cut-next w i (drop w s) ∙ ap (λ (t : List ℕ). cut i w (drop w s) ++ (take w t ∷ [])) e)
+    ap (λ (t : List (List ℕ)). take w s ∷ t)
+    (cut-next w i (drop w s) ∙ ap (λ (t : List ℕ). cut i w (drop w s) ++ (take w t ∷ [])) e)
 
 pub rows-next : (w i : ℕ) (s : List ℕ)
     → flatMap rowLine (cut i w s) ++ rowLine (take w (drop (i * w) s)) ≡ flatMap rowLine (cut (i + 1) w s)
@@ -104,7 +106,9 @@ decimal-one n h = rw (lt-ltb n 10 h) refl
 pub decimal-more : (n : ℕ) → 10 ≤ n → decimal n ≡ decimal (n / 10) ++ ((48 + n % 10) ∷ [])
 unfolding decimal lastDigits
 decimal-more n h =
-    rw (le-ltb n 10 h) (ap (λ (ds : List ℕ). ds ++ ((48 + n % 10) ∷ [])) (enough-digits n (suc (n / 10)) (n / 10) (omega arith) (omega arith)))
+    rw (le-ltb n 10 h)
+    (ap (λ (ds : List ℕ). ds ++ ((48 + n % 10) ∷ []))
+    (enough-digits n (suc (n / 10)) (n / 10) (omega arith) (omega arith)))
 
 pub length-more : (n : ℕ) → 10 ≤ n → length (decimal n) ≡ length (decimal (n / 10)) + 1
 length-more n h = ap length (decimal-more n h) ∙ length-append (decimal (n / 10)) ((48 + n % 10) ∷ [])
@@ -123,4 +127,5 @@ decimal-short (suc k) n h = go (ltb n 10) refl (decimal-short k (n / 10))
 
 -- a word and a number below a hundred thousand make a line of at most six characters more than the word
 pub header-short : (word : List ℕ) (n : ℕ) → n < 100000 → length (word ++ decimal n ++ lineFeed) ≤ length word + 6
-header-short word n h = omega (arith, length-append (word ++ decimal n) lineFeed, length-append word (decimal n), decimal-short 4 n h)
+header-short word n h =
+    omega (arith, length-append (word ++ decimal n) lineFeed, length-append word (decimal n), decimal-short 4 n h)

@@ -48,7 +48,8 @@ module _ (n : ℕ) (s : List ℕ) where
           ap (λ (k : ℕ). take k s) m
 
 -- k bytes behind the first two
-middle : (s : List ℕ) (k : ℕ) → take (min (2 + k) (length s) - min 2 (length s)) (drop (min 2 (length s)) s) ≡ take k (drop 2 s)
+middle : (s : List ℕ) (k : ℕ)
+    → take (min (2 + k) (length s) - min 2 (length s)) (drop (min 2 (length s)) s) ≡ take k (drop 2 s)
 middle s k =
     let n : min (2 + k) (length s) - min 2 (length s) ≡ min k (length (drop 2 s)) = simp length-drop (omega arith) in
     ap₂ take n (drop-lower 2 s) ∙ take-lower k (drop 2 s)

@@ -42,7 +42,8 @@ put-then {a} {b} {entry} {mid} {exit} {at} {p} {q} f g h =
     }
 
 -- the place after it is in the slice
-pub put-within : {text entry exit : List ℕ} {at next : ℕ} → Put text at entry exit next → at ≤ length entry → next ≤ length exit
+pub put-within : {text entry exit : List ℕ} {at next : ℕ} → Put text at entry exit next → at ≤ length entry
+    → next ≤ length exit
 put-within {text} {entry} {exit} {at} p h =
     let n = ap length (p .slice) ∙ length-append (take at entry ++ text) (drop (at + length text) entry) in
     omega (arith, p .after, length-up-to text entry at h)

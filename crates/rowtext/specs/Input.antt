@@ -1,5 +1,5 @@
--- What stands in the input of the program rowlist (document 01, "Marked rows"): "message length (2 bytes, high first), message, m (2
--- bytes, high first), and the remaining bytes as the row".
+-- What stands in the input of the program rowlist (document 01, "Marked rows"): "message length (2 bytes, high first),
+-- message, m (2 bytes, high first), and the remaining bytes as the row".
 use Prim.Native.Nat.{ℕ, _+_, _-_, _*_, _≤_}
 use mathlib.Core.Path.{_≡_}
 use mathlib.Core.Bool.{cond}

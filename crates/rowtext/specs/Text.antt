@@ -1,5 +1,6 @@
--- The lines that the program rowlist prints (document 01, "Marked rows"), as ASCII: "the header is the word count and the number of
--- rows; each later line is one row in capital hexadecimal. A refusal prints one line, `refused` and its number".
+-- The lines that the program rowlist prints (document 01, "Marked rows"), as ASCII: "the header is the word count and
+-- the number of rows; each later line is one row in capital hexadecimal. A refusal prints one line, `refused` and its
+-- number".
 use Prim.Native.Nat.{ℕ, zero, suc, _+_, _/_, _%_}
 use mathlib.Core.Path.{_≡_}
 use mathlib.Core.Bool.{cond}

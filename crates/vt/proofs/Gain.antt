@@ -1,5 +1,5 @@
--- Two strings that give y by one deletion and whose deleted bits add the same to the total are equal: the deleted bit may have
--- stood elsewhere, but only in the same run. Assumes nothing.
+-- Two strings that give y by one deletion and whose deleted bits add the same to the total are equal: the deleted bit
+-- may have stood elsewhere, but only in the same run. Assumes nothing.
 use Prim.Native.Nat.{ℕ, zero, suc, _+_, _*_, _<_, _≤_}
 use mathlib.Core.Path.{_≡_, refl, sym, ap}
 use mathlib.Core.List.{List, _∷_}
@@ -58,7 +58,8 @@ two (suc (suc k)) h f g = absurd (omega arith)
 -- a deleted bit adds at most the length of its string
 pub gain-top : {x y : List ℕ} (d : One x y) → AllBits x → AllBits y → gain 1 d < length y + 2
 gain-top {y} d ax ay =
-    two (bit d) (bit-small d ax) (λ r. let l = zero-low 1 d r in let k = ones-length y ay in omega arith) (λ r. let l = one-low 1 d ay r in omega arith)
+    two (bit d) (bit-small d ax) (λ r. let l = zero-low 1 d r in let k = ones-length y ay in omega arith)
+    (λ r. let l = one-low 1 d ay r in omega arith)
 
 -- two bits at one place that add the same
 same-bit : (i b c n : ℕ) → 1 ≤ i → b < 2 → c < 2 → i * b + n ≡ i * c + n → b ≡ c
@@ -71,18 +72,22 @@ same-bit i (suc zero) (suc (suc c)) n h p q e = absurd (omega arith)
 same-bit i (suc (suc b)) c n h p q e = absurd (omega arith)
 
 -- a bit deleted here and one deleted further on add the same only where it is the same bit as the next one
-cross : (i b c : ℕ) {z y : List ℕ} (e : One z y) → 1 ≤ i → b < 2 → c < 2 → AllBits y → bit e < 2 → i * b + (c + ones y) ≡ gain (suc i) e → (b ≡ c) × (suc i * c + ones y ≡ gain (suc i) e)
+cross : (i b c : ℕ) {z y : List ℕ} (e : One z y) → 1 ≤ i → b < 2 → c < 2 → AllBits y → bit e < 2
+    → i * b + (c + ones y) ≡ gain (suc i) e → (b ≡ c) × (suc i * c + ones y ≡ gain (suc i) e)
 cross i zero zero e h p q a k w = (refl, omega (arith, mul-zero i, mul-zero (suc i)))
 cross i (suc zero) (suc zero) e h p q a k w = (refl, omega (arith, mul-one i, mul-one (suc i)))
 cross i zero (suc zero) e h p q a k w =
-    absurd (two (bit e) k (λ r. let l = zero-low (suc i) e r in omega (arith, mul-zero i)) (λ r. let l = one-high (suc i) e a r in omega (arith, mul-zero i)))
+    absurd (two (bit e) k (λ r. let l = zero-low (suc i) e r in omega (arith, mul-zero i))
+    (λ r. let l = one-high (suc i) e a r in omega (arith, mul-zero i)))
 cross i (suc zero) zero e h p q a k w =
-    absurd (two (bit e) k (λ r. let l = zero-low (suc i) e r in omega (arith, mul-one i)) (λ r. let l = one-high (suc i) e a r in omega (arith, mul-one i)))
+    absurd (two (bit e) k (λ r. let l = zero-low (suc i) e r in omega (arith, mul-one i))
+    (λ r. let l = one-high (suc i) e a r in omega (arith, mul-one i)))
 cross i zero (suc (suc c)) e h p q a k w = absurd (omega arith)
 cross i (suc zero) (suc (suc c)) e h p q a k w = absurd (omega arith)
 cross i (suc (suc b)) c e h p q a k w = absurd (omega arith)
 
-same-here : (i b : ℕ) {z y : List ℕ} (e : One z y) → 1 ≤ i → b < 2 → AllBits z → AllBits y → i * b + ones y ≡ gain i e → b ∷ y ≡ z
+same-here : (i b : ℕ) {z y : List ℕ} (e : One z y) → 1 ≤ i → b < 2 → AllBits z → AllBits y → i * b + ones y ≡ gain i e
+    → b ∷ y ≡ z
 unfolding gain ones
 same-here i b (here {b = c} {x}) h p az ay w = ap (λ (v : ℕ). v ∷ x) (same-bit i b c (ones x) h p (az .0) w)
 same-here i b (there {b = c} {x = z} {y} e) h p az ay w =
@@ -92,8 +97,10 @@ same-here i b (there {b = c} {x = z} {y} e) h p az ay w =
     cc
 
 -- strings whose deleted bits add the same are equal
-pub same-gain : (i : ℕ) {x z y : List ℕ} (d : One x y) (e : One z y) → 1 ≤ i → AllBits x → AllBits z → AllBits y → gain i d ≡ gain i e → x ≡ z
+pub same-gain : (i : ℕ) {x z y : List ℕ} (d : One x y) (e : One z y) → 1 ≤ i → AllBits x → AllBits z → AllBits y
+    → gain i d ≡ gain i e → x ≡ z
 unfolding gain
 same-gain i (here {b}) e h ax az ay w = same-here i b e h (ax .0) az ay w
 same-gain i (there {b = c} d) (here {b}) h ax az ay w = sym (same-here i b (there {b = c} d) h (az .0) ax ay (sym w))
-same-gain i (there {b = c} d) (there e) h ax az ay w = ap (λ (l : List ℕ). c ∷ l) (same-gain (suc i) d e (omega arith) (ax .1) (az .1) (ay .1) w)
+same-gain i (there {b = c} d) (there e) h ax az ay w =
+    ap (λ (l : List ℕ). c ∷ l) (same-gain (suc i) d e (omega arith) (ax .1) (az .1) (ay .1) w)

@@ -16,10 +16,12 @@ module _ (s o : List ℕ) (from count : ℕ) (h : 1 ≤ from) (k : count ≤ len
   behind = drop from (bytes count (0 ∷ unpack s))
 
   behind-length : length behind ≡ count - from
-  behind-length = length-drop from (bytes count (0 ∷ unpack s)) ∙ ap (λ (n : ℕ). n - from) (length-bytes count (0 ∷ unpack s))
+  behind-length =
+      length-drop from (bytes count (0 ∷ unpack s)) ∙ ap (λ (n : ℕ). n - from) (length-bytes count (0 ∷ unpack s))
 
   -- byte i of them
-  moved-at : AllBytes s → (i : ℕ) → from ≤ i → i < count → getD s (i - 1) 0 % 2 * 128 + getD s i 0 / 2 ≡ getD behind (i - from) 0
+  moved-at : AllBytes s → (i : ℕ) → from ≤ i → i < count
+      → getD s (i - 1) 0 % 2 * 128 + getD s i 0 / 2 ≡ getD behind (i - from) 0
   moved-at a i l m =
       let e : i - 1 + 1 ≡ i = omega arith in
       let f : from + (i - from) ≡ i = omega arith in
@@ -27,16 +29,19 @@ module _ (s o : List ℕ) (from count : ℕ) (h : 1 ≤ from) (k : count ≤ len
       ∙ rw e (sym (getD-drop from (bytes count (0 ∷ unpack s)) (i - from) 0 ∙ rw f (bytes-at count i (0 ∷ unpack s) m)))
 
   -- a turn of the loop
-  pub moved-next : AllBytes s → (q : List ℕ) (i v : ℕ) → from ≤ i → i < count → v ≡ getD s (i - 1) 0 % 2 * 128 + getD s i 0 / 2 → q ≡ paste o from behind (i - from)
+  pub moved-next : AllBytes s → (q : List ℕ) (i v : ℕ) → from ≤ i → i < count
+      → v ≡ getD s (i - 1) 0 % 2 * 128 + getD s i 0 / 2 → q ≡ paste o from behind (i - from)
       → set q i v ≡ paste o from behind (i + 1 - from)
   moved-next a q i v l m e f =
       let g : from + (i - from) ≡ i = omega arith in
       let n : i + 1 - from ≡ i - from + 1 = omega arith in
-      rw (f, e, moved-at a i l m, n) (ap (λ (j : ℕ). set (paste o from behind (i - from)) j (getD behind (i - from) 0)) (sym g)
+      rw (f, e, moved-at a i l m, n)
+      (ap (λ (j : ℕ). set (paste o from behind (i - from)) j (getD behind (i - from) 0)) (sym g)
       ∙ paste-next o from behind (i - from) (omega arith) (omega (arith, behind-length)))
 
   -- all of them
-  pub moved-all : (q : List ℕ) (i : ℕ) → from ≤ count → i ≡ count → q ≡ paste o from behind (i - from) → q ≡ take from o ++ behind ++ drop count o
+  pub moved-all : (q : List ℕ) (i : ℕ) → from ≤ count → i ≡ count → q ≡ paste o from behind (i - from)
+      → q ≡ take from o ++ behind ++ drop count o
   moved-all q i l e f =
       let n : from + length behind ≡ count = omega (arith, behind-length) in
       f ∙ paste-whole o from behind (i - from) (omega (arith, behind-length)) ∙ rw n refl

@@ -47,9 +47,11 @@ module _ (w s : ℕ) (p : List ℕ) (room : ℕ) (f : Fit w s p room) where
 
   held-ones : (at : ℕ) → at ≤ w - 1 → ones (drop at (unpack p)) ≡ ones (drop at (held w p))
   held-ones at h =
-      ap ones (behind at h) ∙ ones-append (drop at (held w p)) (drop (w - 1) (unpack p)) ∙ omega (arith, blank-ones (drop (w - 1) (unpack p)) spare)
+      ap ones (behind at h) ∙ ones-append (drop at (held w p)) (drop (w - 1) (unpack p))
+      ∙ omega (arith, blank-ones (drop (w - 1) (unpack p)) spare)
 
-  module _ (at b t : ℕ) (h : at ≤ w - 1) (small : b < 2) (adds : (at + 1) * b + ones (drop at (unpack p)) ≡ t) (lacks : (total 1 (unpack p) + t) % (w + 1) ≡ s) where
+  module _ (at b t : ℕ) (h : at ≤ w - 1) (small : b < 2) (adds : (at + 1) * b + ones (drop at (unpack p)) ≡ t)
+      (lacks : (total 1 (unpack p) + t) % (w + 1) ≡ s) where
     -- the string with the bit put in
     abbrev put : List ℕ
     put = take at (held w p) ++ (b ∷ drop at (held w p))
@@ -58,14 +60,19 @@ module _ (w s : ℕ) (p : List ℕ) (room : ℕ) (f : Fit w s p room) where
     mends =
         let m : length (held w p) + 2 ≡ w + 1 = omega (arith, held-length, f .0 .0) in
         let n : length (held w p) + 1 ≡ w = omega (arith, held-length, f .0 .0) in
-        let g = put-adds at b t (at + 1) (held w p) (omega (arith, held-length)) (omega arith) (rw (held-ones at h) at adds) in
-        subst (λ (v : ℕ). Mends v s (held w p) put) n (puts at b t s (held w p) held-bits small g (rw m (rw held-total at lacks)))
+        let g =
+        put-adds at b t (at + 1) (held w p) (omega (arith, held-length)) (omega arith) (rw (held-ones at h) at adds) in
+        subst (λ (v : ℕ). Mends v s (held w p) put) n
+        (puts at b t s (held w p) held-bits small g (rw m (rw held-total at lacks)))
 
     -- its bytes are the mended string's
     pub put-mended : bytes (bytesFor w) (take at (unpack p) ++ (b ∷ drop at (unpack p))) ≡ pack (mended w s (held w p))
     unfolding pack
     put-mended =
         let z : List ℕ = drop (w - 1) (unpack p) in
-        let front : take at (unpack p) ≡ take at (held w p) = ap (take at) split ∙ take-append-le at (held w p) z (omega (arith, held-length)) in
-        rw (front, behind at h) (ap (bytes (bytesFor w)) (sym (append-assoc (take at (held w p)) (b ∷ drop at (held w p)) z)) ∙ bytes-blank (bytesFor w) put z spare)
+        let front : take at (unpack p) ≡ take at (held w p) =
+        ap (take at) split ∙ take-append-le at (held w p) z (omega (arith, held-length)) in
+        rw (front, behind at h)
+        (ap (bytes (bytesFor w)) (sym (append-assoc (take at (held w p)) (b ∷ drop at (held w p)) z))
+        ∙ bytes-blank (bytesFor w) put z spare)
         ∙ sym (ap (λ (n : ℕ). bytes (bytesFor n) put) (mends .row .0)) ∙ ap pack (mended-only w s (held w p) put mends)

@@ -1,5 +1,5 @@
--- What a bit that is put into a string adds to the total of the positions of its ones: its own position where it is a one, and
--- one for each one that it moves on. Assumes nothing.
+-- What a bit that is put into a string adds to the total of the positions of its ones: its own position where it is a
+-- one, and one for each one that it moves on. Assumes nothing.
 use Prim.Native.Nat.{ℕ, zero, suc, _+_, _*_, _<_, _≤_}
 use mathlib.Core.Path.{_≡_, refl, ap, _∙_}
 use mathlib.Core.Bool.{Bool, true, false}
@@ -37,7 +37,8 @@ total-up i [] = refl
 total-up i (b ∷ x) = let h = total-up (suc i) x in omega (arith, suc-mul i b)
 
 -- the total from place j on, taken apart at its first bit
-pub total-next : (x : List ℕ) (j : ℕ) → j < length x → total (j + 1) (drop j x) ≡ (j + 1) * getD x j 0 + total (j + 1 + 1) (drop (j + 1) x)
+pub total-next : (x : List ℕ) (j : ℕ) → j < length x
+    → total (j + 1) (drop j x) ≡ (j + 1) * getD x j 0 + total (j + 1 + 1) (drop (j + 1) x)
 unfolding total
 total-next x j h = rw (drop-cons x j 0 h, add-one (j + 1), add-one j) refl
 
@@ -56,7 +57,8 @@ unfolding ones
 ones-end x j h = rw (drop-of-length-le x {i = j} h) refl
 
 -- what the bit b, put in at place k, adds where the first bit stands at position i
-pub total-put : (i k b : ℕ) (y : List ℕ) → k ≤ length y → total i (take k y ++ (b ∷ drop k y)) ≡ total i y + ((i + k) * b + ones (drop k y))
+pub total-put : (i k b : ℕ) (y : List ℕ) → k ≤ length y
+    → total i (take k y ++ (b ∷ drop k y)) ≡ total i y + ((i + k) * b + ones (drop k y))
 unfolding total
 total-put i zero b y h = let u = total-up i y in let e : (i + 0) * b ≡ i * b = rw (add-zero i) refl in omega arith
 total-put i (suc k) b [] h = absurd (omega arith)
@@ -66,7 +68,8 @@ total-put i (suc k) b (c ∷ y) h =
     omega arith
 
 -- a bit whose own position, where it is a one, and the ones behind it are t in all adds t
-pub put-adds : (k b t c : ℕ) (y : List ℕ) → k ≤ length y → c ≡ 1 + k → c * b + ones (drop k y) ≡ t → total 1 (take k y ++ (b ∷ drop k y)) ≡ total 1 y + t
+pub put-adds : (k b t c : ℕ) (y : List ℕ) → k ≤ length y → c ≡ 1 + k → c * b + ones (drop k y) ≡ t
+    → total 1 (take k y ++ (b ∷ drop k y)) ≡ total 1 y + t
 put-adds k b t c y h e f = total-put 1 k b y h ∙ ap (λ (n : ℕ). total 1 y + n) (rw (← e) f)
 
 -- from the start on, every t up to the length with the new bit has a place
@@ -74,7 +77,8 @@ pub reach-start : (t r e : ℕ) → t ≤ e → Reach 1 t r e
 reach-start t r e h = ⊎-elim (λ l. inr (omega arith, h)) (λ l. inl l) (lt-or-ge r t)
 
 -- where neither bit goes before c, one goes after it
-pub reach-next : (i k t c r q e : ℕ) → c < 2 → k ≡ i + 1 → r ≡ c + q → (t ≡ r → ⊥) → (t ≡ i + r → ⊥) → Reach i t r e → Reach k t q e
+pub reach-next : (i k t c r q e : ℕ) → c < 2 → k ≡ i + 1 → r ≡ c + q → (t ≡ r → ⊥) → (t ≡ i + r → ⊥) → Reach i t r e
+    → Reach k t q e
 reach-next i k t c r q e h f g m n w = ⊎-elim (λ u. inl (omega (arith, m))) (λ u. inr (omega (arith, n, u .0), u .1)) w
 
 -- behind the last bit, where a 0 does not add t, a 1 does
@@ -92,27 +96,40 @@ pub record Place (i t : ℕ) (y : List ℕ) : Type 0 where
 -- a 0 put in here
 zero-here : (i t : ℕ) (y : List ℕ) → t ≡ ones y → Place i t y
 unfolding total
-zero-here i t y e = record { at = 0; bit = 0; inside = omega arith; small = omega arith; adds = omega (arith, mul-zero i, total-up i y) }
+zero-here i t y e =
+    record { at = 0; bit = 0; inside = omega arith; small = omega arith; adds = omega (arith, mul-zero i, total-up i y) }
 
 -- a 1 put in here
 one-here : (i t : ℕ) (y : List ℕ) → t ≡ i + ones y → Place i t y
 unfolding total
-one-here i t y e = record { at = 0; bit = 1; inside = omega arith; small = omega arith; adds = omega (arith, mul-one i, total-up i y) }
+one-here i t y e =
+    record { at = 0; bit = 1; inside = omega arith; small = omega arith; adds = omega (arith, mul-one i, total-up i y) }
 
 -- a place further on
 later : (i t c : ℕ) (y : List ℕ) → Place (suc i) t y → Place i t (c ∷ y)
 unfolding total
-later i t c y p = record { at = suc (p .at); bit = p .bit; inside = omega (arith, p .inside); small = p .small; adds = omega (arith, p .adds) }
+later i t c y p =
+    record {
+      at = suc (p .at);
+      bit = p .bit;
+      inside = omega (arith, p .inside);
+      small = p .small;
+      adds = omega (arith, p .adds);
+    }
 
 -- such a place and bit exist
 pub place : (i t e : ℕ) (y : List ℕ) → AllBits y → e ≡ i + length y → Reach i t (ones y) e → Place i t y
 unfolding ones
 place i t e [] a h (inl p) = zero-here i t [] (omega arith)
 place i t e [] a h (inr p) = one-here i t [] (omega (arith, p .0, p .1))
-place i t e (c ∷ y) a h w = go (eqb t (c + ones y)) refl (eqb t (i + (c + ones y))) refl (place (suc i) t e y (a .1) (omega arith))
+place i t e (c ∷ y) a h w =
+    go (eqb t (c + ones y)) refl (eqb t (i + (c + ones y))) refl (place (suc i) t e y (a .1) (omega arith))
   where
-    go : (s : Bool) → eqb t (c + ones y) ≡ s → (u : Bool) → eqb t (i + (c + ones y)) ≡ u → (Reach (suc i) t (ones y) e → Place (suc i) t y) → Place i t (c ∷ y)
+    go : (s : Bool) → eqb t (c + ones y) ≡ s → (u : Bool) → eqb t (i + (c + ones y)) ≡ u
+        → (Reach (suc i) t (ones y) e → Place (suc i) t y) → Place i t (c ∷ y)
     go true p u q ih = zero-here i t (c ∷ y) (eqb-true t (c + ones y) p)
     go false p true q ih = one-here i t (c ∷ y) (eqb-true t (i + (c + ones y)) q)
     go false p false q ih =
-        later i t c y (ih (reach-next i (suc i) t c (c + ones y) (ones y) e (a .0) (omega arith) refl (eqb-false t (c + ones y) p) (eqb-false t (i + (c + ones y)) q) w))
+        later i t c y (ih
+        (reach-next i (suc i) t c (c + ones y) (ones y) e (a .0) (omega arith) refl (eqb-false t (c + ones y) p)
+        (eqb-false t (i + (c + ones y)) q) w))

@@ -1,5 +1,5 @@
--- Mending (document 01, "Operations and their refusal table"): "the string of length w with that sum from which those bits come
--- by one deletion (exactly one exists)".
+-- Mending (document 01, "Operations and their refusal table"): "the string of length w with that sum from which those
+-- bits come by one deletion (exactly one exists)".
 use Prim.Native.Nat.{ℕ, _-_}
 use mathlib.Core.Bool.{Bool, not, _&&_, _||_, cond}
 use mathlib.Core.List.{List, [], _∷_, _++_}
@@ -36,4 +36,5 @@ mendRefusal w s packed target =
 unfoldable pub mendTarget : (w s : ℕ) (packed target : List ℕ) → List ℕ
 unfolding mendRefusal mended pack unpack
 mendTarget w s packed target =
-    cond (eqb (mendRefusal w s packed (length target)) 0) (pack (mended w s (take (w - 1) (unpack packed))) ++ drop (bytesFor w) target) target
+    cond (eqb (mendRefusal w s packed (length target)) 0)
+    (pack (mended w s (take (w - 1) (unpack packed))) ++ drop (bytesFor w) target) target

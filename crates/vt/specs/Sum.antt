@@ -1,4 +1,5 @@
--- The sum of a string (document 01, "Rows, blocks, chunks"). The field calls it the string's Varshamov-Tenengolts syndrome.
+-- The sum of a string (document 01, "Rows, blocks, chunks"). The field calls it the string's Varshamov-Tenengolts
+-- syndrome.
 use Prim.Native.Nat.{ℕ, suc, _+_, _*_, _%_}
 use mathlib.Core.List.{List, [], _∷_}
 use lib.ListN.{length}

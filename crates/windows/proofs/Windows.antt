@@ -1,5 +1,5 @@
--- The tables of a string: how they are filled place by place, that those of its later part are their later part, and that they give
--- the sum of the next bits. Assumes nothing.
+-- The tables of a string: how they are filled place by place, that those of its later part are their later part, and
+-- that they give the sum of the next bits. Assumes nothing.
 use Prim.Native.Nat.{ℕ, zero, suc, _+_, _-_, _*_, _%_, _<_, _≤_}
 use mathlib.Core.Path.{_≡_, refl, sym, ap, _∙_}
 use mathlib.Core.Logic.{⊎-elim}
@@ -58,7 +58,8 @@ set-next f t i v room q e j h =
     (λ (k : i + 1 ≤ j). let z : j ≡ i + 1 = omega arith in rw z (getD-set-same t (i + 1) v 0 room ∙ e))
     (lt-or-ge j (i + 1))
 
-pub filled-start : (y totals counts : List ℕ) → 0 < length totals → 0 < length counts → Filled y (set totals 0 0) (set counts 0 0) 0
+pub filled-start : (y totals counts : List ℕ) → 0 < length totals → 0 < length counts
+    → Filled y (set totals 0 0) (set counts 0 0) 0
 unfolding total ones
 filled-start y totals counts h k =
     record {
@@ -68,7 +69,8 @@ filled-start y totals counts h k =
 
 module _ {y totals counts : List ℕ} {i : ℕ} (q : Filled y totals counts i) where
   pub filled-next : length y < length totals → length y < length counts → i < length y
-      → Filled y (set totals (i + 1) (getD totals i 0 + (i + 1) * getD y i 0)) (set counts (i + 1) (getD counts i 0 + getD y i 0))
+      → Filled y (set totals (i + 1) (getD totals i 0 + (i + 1) * getD y i 0))
+      (set counts (i + 1) (getD counts i 0 + getD y i 0))
       (i + 1)
   filled-next m n h =
       record {
@@ -89,7 +91,8 @@ module _ {y totals counts : List ℕ} {i : ℕ} (q : Filled y totals counts i) w
       }
 
   -- how high the numbers are
-  pub filled-low : AllBits y → length y ≤ longest → i ≤ length y → (getD totals i 0 ≤ i * (longest + 1)) × (getD counts i 0 ≤ i)
+  pub filled-low : AllBits y → length y ≤ longest → i ≤ length y
+      → (getD totals i 0 ≤ i * (longest + 1)) × (getD counts i 0 ≤ i)
   filled-low b h k =
       let n = length-take-le i y k in
       let a = bits-take i y b in (
@@ -138,7 +141,8 @@ next y p w totals counts b h t =
     let high = t .total-at w h in
     let many = t .count-at w h in
     let k : getD counts w 0 - getD counts 0 0 ≡ ones (take w y) = omega arith in
-    let d : getD totals w 0 - getD totals 0 0 ≡ total 1 (take w y) + p * ones (take w y) = omega (arith, total-on p (take w y)) in
+    let d : getD totals w 0 - getD totals 0 0 ≡ total 1 (take w y) + p * ones (take w y) =
+    omega (arith, total-on p (take w y)) in
     let long = length-take-le w y h in
     record {
       totals-rise = omega arith;

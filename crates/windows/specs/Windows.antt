@@ -6,8 +6,8 @@ use lib.ListN.{length, getD, take}
 use Rattle.vt.specs.Ones.{ones}
 use Rattle.vt.specs.Sum.{total}
 
--- the tables of a string that starts at place p of a longer one: for each place of it how much higher than at its start are the
--- total of the positions of the ones before it, counted in the longer string, and their number
+-- the tables of a string that starts at place p of a longer one: for each place of it how much higher than at its start
+-- are the total of the positions of the ones before it, counted in the longer string, and their number
 pub record Tables (y : List ℕ) (p : ℕ) (totals counts : List ℕ) : Type 0 where
   pub totals-long : length y < length totals
   pub counts-long : length y < length counts

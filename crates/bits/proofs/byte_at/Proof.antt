@@ -13,7 +13,8 @@ wide-requires : tie.Need-wide-requires
 wide-requires c κs = search needs
 
 returns : tie.Need-returns
-returns c = (search needs, omega (arith, c .before .shared-slice-known2 .given (c .before .before .before .before .args .i)))
+returns c =
+    (search needs, omega (arith, c .before .shared-slice-known2 .given (c .before .before .before .before .args .i)))
 
 returns-2 : tie.Need-returns-2
 returns-2 c =

@@ -1,4 +1,5 @@
--- `bits::copy_to` meets its contract. The loop's invariant: the slice is what it was, with the first i elements pasted in. Assumes nothing.
+-- `bits::copy_to` meets its contract. The loop's invariant: the slice is what it was, with the first i elements pasted
+-- in. Assumes nothing.
 use borrow.Author.Needs.{needs}
 use Prim.Native.Nat.{_+_, _-_, _<_, _≤_}
 use mathlib.Core.Path.{_≡_, _∙_}
@@ -38,8 +39,10 @@ loop-again c =
     let a = c .before .before .before .args in
     let p = c .before .before .loop in
     let h : p .i < length (a .part .now) = omega arith in
-    let k : a .at + p .i < length (a .out .now) = omega arith in
-    (omega arith, (simp length-set (p .inv .1 .0), rw (p .inv .1 .1) (paste-next (a .out .now) (a .at) (a .part .now) (p .i) k h)))
+    let k : a .at + p .i < length (a .out .now) = omega arith in (
+      omega arith,
+      (simp length-set (p .inv .1 .0), rw (p .inv .1 .1) (paste-next (a .out .now) (a .at) (a .part .now) (p .i) k h)),
+    )
 
 same-length : tie.Need-same-length Inv-loop μ-loop
 same-length c = search needs

@@ -1,4 +1,5 @@
--- `bits::last_byte` meets its contract. The loop's invariant: what is read so far, with the bits still to come, is the byte. Assumes nothing.
+-- `bits::last_byte` meets its contract. The loop's invariant: what is read so far, with the bits still to come, is the
+-- byte. Assumes nothing.
 use borrow.Author.Needs.{needs}
 use Prim.Native.Nat.{ℕ, _+_, _-_, _*_, _^_, _<_, _≤_}
 use mathlib.Core.Path.{_≡_, refl, _∙_, ap, sym}
@@ -13,7 +14,8 @@ use Rattle.bits.proofs.last_byte.Statement.{statement}
 use Rattle.bits.proofs.last_byte.Tie as tie
 
 abbrev Inv-loop : tie.InvT-loop
-Inv-loop bits at v₀ j₀ v j = (j ≤ 8) × ((v < 2 ^ j) × (v * 2 ^ (8 - j) + number (8 - j) (drop (at + j) bits) ≡ number 8 (drop at bits)))
+Inv-loop bits at v₀ j₀ v j =
+    (j ≤ 8) × ((v < 2 ^ j) × (v * 2 ^ (8 - j) + number (8 - j) (drop (at + j) bits) ≡ number 8 (drop at bits)))
 
 abbrev μ-loop : tie.MeasureT-loop
 μ-loop bits at v₀ j₀ v j = 8 - j
@@ -52,8 +54,17 @@ loop-again c =
     let p = c .before .before .loop in
     let x : List ℕ = a .bits .now in
     let rest : ℕ → ℕ = λ (v : ℕ). v * 2 ^ (8 - (p .j + 1)) + number (8 - (p .j + 1)) (drop (a .at + (p .j + 1)) x) in
-    let next : (v : ℕ) → v ≡ p .v * 2 + getD x (a .at + p .j) 0 → (p .j + 1 ≤ 8) × ((v < 2 ^ (p .j + 1)) × (rest v ≡ number 8 (drop (a .at) x)))
-    = λ v e. (omega arith, (omega (arith, pow-next (p .j), bit-at x (s .pre .0) (a .at + p .j)), ap rest e ∙ number-next (p .v) 8 (a .at) (p .j) x (omega arith) ∙ p .inv .1 .1)) in
+    let next : (v : ℕ) → v ≡ p .v * 2 + getD x (a .at + p .j) 0
+    → (p .j + 1 ≤ 8) × ((v < 2 ^ (p .j + 1)) × (rest v ≡ number 8 (drop (a .at) x)))
+    =
+    λ v e. (
+      omega arith,
+      (
+        omega (arith, pow-next (p .j), bit-at x (s .pre .0) (a .at + p .j)),
+        ap rest e
+            ∙ number-next (p .v) 8 (a .at) (p .j) x (omega arith) ∙ p .inv .1 .1,
+      ),
+    ) in
     ⊎-elim (λ w. next (c .if1 .v) (w .2))
     (λ w.
     let z : getD x (a .at + p .j) 0 ≡ 0 = List·getD-eq-default x 0 (omega (arith, w .0 .left)) in

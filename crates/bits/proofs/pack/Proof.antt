@@ -29,7 +29,10 @@ same-length : tie.Need-same-length
 same-length c = search needs
 
 -- the last byte is stored behind the whole ones
-stored : (q x o : List ℕ) (v : ℕ) → q ≡ bytes (length x / 8) x ++ drop (length x / 8) o → v ≡ number 8 (drop (length x / 8 * 8) x) → set q (length x / 8) v ≡ set (bytes (length x / 8) x ++ drop (length x / 8) o) (length x / 8) (number 8 (drop (length x / 8 * 8) x))
+stored : (q x o : List ℕ) (v : ℕ) → q ≡ bytes (length x / 8) x ++ drop (length x / 8) o
+    → v ≡ number 8 (drop (length x / 8 * 8) x)
+    → set q (length x / 8) v ≡ set (bytes (length x / 8) x ++ drop (length x / 8) o) (length x / 8)
+    (number 8 (drop (length x / 8 * 8) x))
 stored q x o v e f = rw (e, f) refl
 
 -- where the function starts, seen from where `pack_bytes` has answered
@@ -41,7 +44,8 @@ returns c =
     let s = start (c .before .before .before .before) in
     let x : List ℕ = s .args .bits .now in
     let p = c .before .before .before .before .pack-bytes in
-    stored (p .last .1 .1 .0) x (s .args .out .now) (c .last-byte .result) (p .ensures) (c .last-byte .ensures) ∙ packed-rest x (s .args .out .now) (omega (arith, c .before .if1 .taken)) (omega (arith, s .pre .1 .1))
+    stored (p .last .1 .1 .0) x (s .args .out .now) (c .last-byte .result) (p .ensures) (c .last-byte .ensures)
+    ∙ packed-rest x (s .args .out .now) (omega (arith, c .before .if1 .taken)) (omega (arith, s .pre .1 .1))
 
 same-length-2 : tie.Need-same-length-2
 same-length-2 c = search needs

@@ -41,8 +41,15 @@ loop-again c =
     let a = c .before .before .before .before .before .args in
     let p = c .before .before .loop in
     let x : List ℕ = a .bits .now in
-    let b : c .whole-byte .result ≡ getD (bytes (a .n) x) (p .i) 0 = c .whole-byte .ensures ∙ sym (bytes-at (a .n) (p .i) x (omega arith)) in
-    (omega arith, (simp length-set (p .inv .1 .0), rw (p .inv .1 .1, b) (front-next (a .out .now) (bytes (a .n) x) (p .i) (omega arith) (omega (arith, length-bytes (a .n) x)))))
+    let b : c .whole-byte .result ≡ getD (bytes (a .n) x) (p .i) 0 =
+    c .whole-byte .ensures ∙ sym (bytes-at (a .n) (p .i) x (omega arith)) in (
+      omega arith,
+      (
+        simp length-set (p .inv .1 .0),
+        rw (p .inv .1 .1, b)
+            (front-next (a .out .now) (bytes (a .n) x) (p .i) (omega arith) (omega (arith, length-bytes (a .n) x))),
+      ),
+    )
 
 same-length : tie.Need-same-length Inv-loop μ-loop
 same-length c = search needs
@@ -52,7 +59,8 @@ returns c =
     let a = c .before .before .before .before .args in
     let p = c .before .loop in
     let e : p .i ≡ a .n = omega arith in
-    let whole : take (p .i) (bytes (a .n) (a .bits .now)) ≡ bytes (a .n) (a .bits .now) = take-all (p .i) (bytes (a .n) (a .bits .now)) (omega (arith, length-bytes (a .n) (a .bits .now))) in
+    let whole : take (p .i) (bytes (a .n) (a .bits .now)) ≡ bytes (a .n) (a .bits .now) =
+    take-all (p .i) (bytes (a .n) (a .bits .now)) (omega (arith, length-bytes (a .n) (a .bits .now))) in
     p .inv .1 .1 ∙ rw (whole, e) refl
 
 pub pack-bytes-spec : {M : Type 1} → statement M

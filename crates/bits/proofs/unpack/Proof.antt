@@ -24,7 +24,9 @@ returns c =
     let first = c .before .before .before .before .before .before in
     let s = first .before .before .before .before in
     let a = s .args in
-    c .before .before .unpack-part .ensures ∙ all-unpacked (a .s .now) (a .out .now) (first .unpack-bytes .last .1 .1 .0) (a .w / 8 * 8) (a .w) (omega arith) (omega (arith, s .pre .0)) (first .unpack-bytes .ensures)
+    c .before .before .unpack-part .ensures
+    ∙ all-unpacked (a .s .now) (a .out .now) (first .unpack-bytes .last .1 .1 .0) (a .w / 8 * 8) (a .w) (omega arith)
+    (omega (arith, s .pre .0)) (first .unpack-bytes .ensures)
 
 pub unpack-spec : {M : Type 1} → statement M
 unpack-spec =

@@ -64,7 +64,11 @@ unfolding digits
 returns c =
     let a = c .args in
     let b : ℕ = a .b in
-    stored-eight (a .out .now) (a .at) (b / 128 % 2) (b / 64 % 2) (b / 32 % 2) (b / 16 % 2) (b / 8 % 2) (b / 4 % 2) (b / 2 % 2) (b % 2) (c .pre) ∙ ap (λ (v : ℕ). take (a .at) (a .out .now) ++ (b / 128 % 2 ∷ b / 64 % 2 ∷ b / 32 % 2 ∷ b / 16 % 2 ∷ b / 8 % 2 ∷ b / 4 % 2 ∷ b / 2 % 2 ∷ v % 2 ∷ []) ++ drop (a .at + 8) (a .out .now)) (sym (div-one b))
+    stored-eight (a .out .now) (a .at) (b / 128 % 2) (b / 64 % 2) (b / 32 % 2) (b / 16 % 2) (b / 8 % 2) (b / 4 % 2)
+    (b / 2 % 2) (b % 2) (c .pre)
+    ∙ ap (λ (v : ℕ). take (a .at) (a .out .now)
+    ++ (b / 128 % 2 ∷ b / 64 % 2 ∷ b / 32 % 2 ∷ b / 16 % 2 ∷ b / 8 % 2 ∷ b / 4 % 2 ∷ b / 2 % 2 ∷ v % 2 ∷ [])
+    ++ drop (a .at + 8) (a .out .now)) (sym (div-one b))
 
 pub unpack-byte-spec : {M : Type 1} → statement M
 unpack-byte-spec =

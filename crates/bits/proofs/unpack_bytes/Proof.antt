@@ -1,4 +1,5 @@
--- `bits::unpack_bytes` meets its contract. The loop's invariant: the bits of the first i bytes stand at the start. Assumes nothing.
+-- `bits::unpack_bytes` meets its contract. The loop's invariant: the bits of the first i bytes stand at the start.
+-- Assumes nothing.
 use borrow.Author.Needs.{needs}
 use Prim.Native.Nat.{ℕ, _-_, _*_, _≤_}
 use mathlib.Core.Path.{_≡_, refl, _∙_, ap}
@@ -26,7 +27,8 @@ mul-unpack-byte : tie.Need-mul-unpack-byte Inv-loop μ-loop
 mul-unpack-byte c = search needs
 
 unpack-byte-requires : tie.Need-unpack-byte-requires Inv-loop μ-loop
-unpack-byte-requires c κs = omega (arith, c .before .before .before .loop .inv .1 .0, c .before .before .before .before .before .before .pre .1)
+unpack-byte-requires c κs =
+    omega (arith, c .before .before .before .loop .inv .1 .0, c .before .before .before .before .before .before .pre .1)
 
 add-i : tie.Need-add-i Inv-loop μ-loop
 add-i c = search needs

@@ -13,7 +13,8 @@ use Rattle.bits.proofs.unpack_part.Statement.{statement}
 use Rattle.bits.proofs.unpack_part.Tie as tie
 
 abbrev Inv-loop : tie.InvT-loop
-Inv-loop s from to out₀ n i₀ out i = (i ≤ n) × ((length out ≡ length out₀) × (out ≡ paste out₀ from (drop from (unpack s)) i))
+Inv-loop s from to out₀ n i₀ out i =
+    (i ≤ n) × ((length out ≡ length out₀) × (out ≡ paste out₀ from (drop from (unpack s)) i))
 
 abbrev μ-loop : tie.MeasureT-loop
 μ-loop s from to out₀ n i₀ out i = n - i
@@ -49,8 +50,16 @@ loop-again c =
     let a = c .before .before .before .before .before .args in
     let p = c .before .before .loop in
     let u : List ℕ = unpack (a .s .now) in
-    let bit : c .bit-at .result ≡ getD (drop (a .from) u) (p .i) 0 = c .bit-at .ensures ∙ sym (getD-drop (a .from) u (p .i) 0) in
-    (omega arith, (simp length-set (p .inv .1 .0), rw (p .inv .1 .1, bit) (paste-next (a .out .now) (a .from) (drop (a .from) u) (p .i) (omega arith) (omega (arith, length-drop (a .from) u, length-unpack (a .s .now))))))
+    let bit : c .bit-at .result ≡ getD (drop (a .from) u) (p .i) 0 =
+    c .bit-at .ensures ∙ sym (getD-drop (a .from) u (p .i) 0) in (
+      omega arith,
+      (
+        simp length-set (p .inv .1 .0),
+        rw (p .inv .1 .1, bit)
+            (paste-next (a .out .now) (a .from) (drop (a .from) u) (p .i) (omega arith)
+            (omega (arith, length-drop (a .from) u, length-unpack (a .s .now)))),
+      ),
+    )
 
 same-length : tie.Need-same-length Inv-loop μ-loop
 same-length c = search needs

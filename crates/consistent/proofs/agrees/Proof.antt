@@ -51,8 +51,13 @@ chunks-agree-requires c κs =
     let k = c .before .before .before in
     let s = start k in
     let x = s .args .x .now in
-    let e = k .fill-chunks .ensures in
-    (s .pre .0, ((length-lent (named s) x (s .pre .1 .0) _ _ e, chunks-elements (named s) x (s .pre .1 .0) _ _ e), s .pre .1 .1 .1))
+    let e = k .fill-chunks .ensures in (
+      s .pre .0,
+      (
+        (length-lent (named s) x (s .pre .1 .0) _ _ e, chunks-elements (named s) x (s .pre .1 .0) _ _ e),
+        s .pre .1 .1 .1,
+      ),
+    )
 
 returns : tie.Need-returns
 returns c =
@@ -60,9 +65,12 @@ returns c =
     let s = start k in
     let x : List ℕ = s .args .x .now in
     let n : length x ≡ rowBits (named s) = s .pre .1 .1 .0 in
-    let again = row-again (named s) x (s .pre .1 .0) _ _ (k .fill-chunks .ensures) (omega arith) ∙ take-all (rowBits (named s)) x (omega arith) in
+    let again =
+    row-again (named s) x (s .pre .1 .0) _ _ (k .fill-chunks .ensures) (omega arith)
+    ∙ take-all (rowBits (named s)) x (omega arith) in
     c .chunks-agree .ensures
-    ∙ ap (λ (z : List ℕ). same (blockSums (named s) z ++ stringSums (named s) z ++ checks (named s) z) (s .args .numbers .now)) again
+    ∙ ap (λ (z : List ℕ). same (blockSums (named s) z ++ stringSums (named s) z ++ checks (named s) z)
+    (s .args .numbers .now)) again
 
 pub agrees-spec : {M : Type 1} → statement M
 agrees-spec =

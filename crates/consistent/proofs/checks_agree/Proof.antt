@@ -43,7 +43,9 @@ returns c =
     let k = c .before .before .before .before in
     let s = start (c .before .before .before .before) in
     let z : s .args .r - 0 ≡ s .args .r = omega arith in
-    c .equal .ensures ∙ ap (λ (v : List ℕ). same v (s .args .numbers .now)) (ap (λ (n : ℕ). take n (k .fill-checks .last .1 .1 .1 .1 .1 .0)) z ∙ k .fill-checks .ensures)
+    c .equal .ensures
+    ∙ ap (λ (v : List ℕ). same v (s .args .numbers .now))
+    (ap (λ (n : ℕ). take n (k .fill-checks .last .1 .1 .1 .1 .1 .0)) z ∙ k .fill-checks .ensures)
 
 pub checks-agree-spec : {M : Type 1} → statement M
 checks-agree-spec =

@@ -43,7 +43,8 @@ sums-agree-requires c κs =
 returns : tie.Need-returns
 returns c =
     let s = c .before .before .before .before .before in
-    sums-differ (named s) (row s) (s .args .numbers .now) (s .pre .1 .1) (sym (c .before .sums-agree .ensures) ∙ not-true _ (c .if1 .taken))
+    sums-differ (named s) (row s) (s .args .numbers .now) (s .pre .1 .1)
+    (sym (c .before .sums-agree .ensures) ∙ not-true _ (c .if1 .taken))
 
 mul-checks-agree : tie.Need-mul-checks-agree
 mul-checks-agree c = search needs
@@ -64,14 +65,22 @@ start c = c .before .before .before .before .before
 checks-agree-requires : tie.Need-checks-agree-requires
 checks-agree-requires c κs =
     let s = start (c .before) in
-    let a = s .args in
-    (s .pre .0, (s .pre .1 .0, ap length (part-to-end (a .numbers .now) (a .l1 + a .l2)) ∙ omega (arith, length-drop (a .l1 + a .l2) (a .numbers .now), s .pre .1 .1)))
+    let a = s .args in (
+      s .pre .0,
+      (
+        s .pre .1 .0,
+        ap length (part-to-end (a .numbers .now) (a .l1 + a .l2))
+            ∙ omega (arith, length-drop (a .l1 + a .l2) (a .numbers .now), s .pre .1 .1),
+      ),
+    )
 
 returns-2 : tie.Need-returns-2
 returns-2 c =
     let s = start (c .before .before) in
     let e = c .before .before in
-    c .checks-agree .ensures ∙ sums-same (named s) (row s) (s .args .numbers .now) (s .pre .1 .1) (sym (e .before .sums-agree .ensures) ∙ not-false _ (e .if1 .left))
+    c .checks-agree .ensures
+    ∙ sums-same (named s) (row s) (s .args .numbers .now) (s .pre .1 .1)
+    (sym (e .before .sums-agree .ensures) ∙ not-false _ (e .if1 .left))
 
 pub chunks-agree-spec : {M : Type 1} → statement M
 chunks-agree-spec =

@@ -1,5 +1,5 @@
--- `consistent::comes` meets its contract. The loop's invariant: what the rest of x leaves of the rest of y is what x leaves of y.
--- Assumes nothing.
+-- `consistent::comes` meets its contract. The loop's invariant: what the rest of x leaves of the rest of y is what x
+-- leaves of y. Assumes nothing.
 use borrow.Author.Needs.{needs}
 use Prim.Native.Nat.{_+_, _-_, _<_, _≤_}
 use mathlib.Core.Logic.{⊎-elim}
@@ -65,12 +65,15 @@ left : (c : tie.After-piece-taken Inv-loop μ-loop)
     → let a = start (loop c) .args in
     let p = loop c .loop in
     let e = c .before .before .before .before .if1 .end in
-    (p .at + c .piece-taken .result ≤ length (a .y .now)) × (eat (drop e (a .x .now)) (drop (p .at + c .piece-taken .result) (a .y .now)) ≡ eat (drop (p .i) (a .x .now)) (drop (p .at) (a .y .now)))
+    (p .at + c .piece-taken .result ≤ length (a .y .now))
+    × (eat (drop e (a .x .now)) (drop (p .at + c .piece-taken .result) (a .y .now))
+    ≡ eat (drop (p .i) (a .x .now)) (drop (p .at) (a .y .now)))
 left c =
     let a = start (loop c) .args in
     let p = loop c .loop in
     let j = c .before .before .before .before in
-    piece-eaten (a .x .now) (a .y .now) (p .i) (j .if1 .end) (p .at) (c .piece-taken .result) (omega (arith, ends j .0)) (p .inv .1 .0) (c .piece-taken .ensures)
+    piece-eaten (a .x .now) (a .y .now) (p .i) (j .if1 .end) (p .at) (c .piece-taken .result) (omega (arith, ends j .0))
+    (p .inv .1 .0) (c .piece-taken .ensures)
 
 add-at : tie.Need-add-at Inv-loop μ-loop
 add-at c = record { fits = omega (arith, left c .0) }
@@ -87,7 +90,8 @@ returns : tie.Need-returns Inv-loop μ-loop
 returns c =
     let a = start (c .before) .args in
     let p = c .before .loop in
-    comes-is (a .x .now) (a .y .now) (p .at) (p .inv .1 .0) (sym (p .inv .1 .1) ∙ bits-end (a .x .now) (a .y .now) (p .i) (p .at) (omega arith) .0)
+    comes-is (a .x .now) (a .y .now) (p .at) (p .inv .1 .0)
+    (sym (p .inv .1 .1) ∙ bits-end (a .x .now) (a .y .now) (p .i) (p .at) (omega arith) .0)
 
 pub comes-spec : {M : Type 1} → statement M
 comes-spec =

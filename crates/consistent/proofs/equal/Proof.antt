@@ -1,4 +1,5 @@
--- `consistent::equal` meets its contract. The loop's invariant: the elements passed agree, so the rest decides. Assumes nothing.
+-- `consistent::equal` meets its contract. The loop's invariant: the elements passed agree, so the rest decides. Assumes
+-- nothing.
 use borrow.Author.Needs.{needs}
 use Prim.Native.Nat.{_-_, _≤_}
 use mathlib.Core.Path.{_≡_, refl, sym, _∙_}
@@ -34,7 +35,8 @@ returns : tie.Need-returns Inv-loop μ-loop
 returns c =
     let a = c .before .before .before .before .before .args in
     let p = c .before .before .before .before .loop in
-    sym (sym (p .inv .1) ∙ same-stop (a .values .now) (a .numbers .now) (p .i) (omega arith) (omega arith) (c .if1 .taken))
+    sym (sym (p .inv .1)
+    ∙ same-stop (a .values .now) (a .numbers .now) (p .i) (omega arith) (omega arith) (c .if1 .taken))
 
 add-i : tie.Need-add-i Inv-loop μ-loop
 add-i c = search needs
@@ -45,8 +47,11 @@ loop-less c = search needs
 loop-again : tie.Need-loop-again Inv-loop μ-loop
 loop-again c =
     let a = c .before .before .before .before .before .args in
-    let p = c .before .before .before .before .loop in
-    (omega arith, same-next (a .values .now) (a .numbers .now) (p .i) (omega arith) (omega arith) (c .if1 .left) ∙ p .inv .1)
+    let p = c .before .before .before .before .loop in (
+      omega arith,
+      same-next (a .values .now) (a .numbers .now) (p .i) (omega arith) (omega arith) (c .if1 .left)
+          ∙ p .inv .1,
+    )
 
 returns-2 : tie.Need-returns-2 Inv-loop μ-loop
 returns-2 c =

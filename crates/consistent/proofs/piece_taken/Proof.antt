@@ -1,4 +1,5 @@
--- `consistent::piece_taken` meets its contract: the piece is the first bits of y, or it is matched bit by bit. Assumes nothing.
+-- `consistent::piece_taken` meets its contract: the piece is the first bits of y, or it is matched bit by bit. Assumes
+-- nothing.
 use borrow.Author.Needs.{needs}
 use native.Mathlib.Omega.{arith}
 use Rattle.consistent.proofs.Steps.{whole-eats}

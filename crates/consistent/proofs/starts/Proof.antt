@@ -1,4 +1,5 @@
--- `consistent::starts` meets its contract. The loop's invariant: while nothing differs the elements passed are equal. Assumes nothing.
+-- `consistent::starts` meets its contract. The loop's invariant: while nothing differs the elements passed are equal.
+-- Assumes nothing.
 use borrow.Author.Needs.{needs}
 use borrow.Author.Count.{below-more}
 use borrow.Author.Tests.{eqb-true}

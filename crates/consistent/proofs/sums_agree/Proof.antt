@@ -1,4 +1,5 @@
--- `consistent::sums_agree` meets its contract. The loop's invariant: the sums passed agree, so the rest decides. Assumes nothing.
+-- `consistent::sums_agree` meets its contract. The loop's invariant: the sums passed agree, so the rest decides.
+-- Assumes nothing.
 use borrow.Author.Needs.{needs}
 use Prim.Native.Nat.{ℕ, _-_, _≤_}
 use mathlib.Core.Path.{_≡_, refl, sym, _∙_}
@@ -16,10 +17,13 @@ use Rattle.consistent.proofs.sums_agree.Tie as tie
 
 -- the sums of the row with these chunks
 abbrev sums : (l1 l2 nc r : ℕ) → List ℕ → List ℕ
-sums l1 l2 nc r chunks = blockSums (layout l1 l2 nc r) (rowOf nc chunks) ++ stringSums (layout l1 l2 nc r) (rowOf nc chunks)
+sums l1 l2 nc r chunks =
+    blockSums (layout l1 l2 nc r) (rowOf nc chunks) ++ stringSums (layout l1 l2 nc r) (rowOf nc chunks)
 
 abbrev Inv-loop : tie.InvT-loop
-Inv-loop l1 l2 nc r chunks numbers t k₀ k = (k ≤ length numbers) × (same (drop k (sums l1 l2 nc r chunks)) (drop k numbers) ≡ same (sums l1 l2 nc r chunks) numbers)
+Inv-loop l1 l2 nc r chunks numbers t k₀ k =
+    (k ≤ length numbers)
+    × (same (drop k (sums l1 l2 nc r chunks)) (drop k numbers) ≡ same (sums l1 l2 nc r chunks) numbers)
 
 abbrev μ-loop : tie.MeasureT-loop
 μ-loop l1 l2 nc r chunks numbers t k₀ k = length numbers - k
@@ -30,7 +34,8 @@ own c = sums (c .args .l1) (c .args .l2) (c .args .nc) (c .args .r) (c .args .ch
 
 count : (c : tie.Start Inv-loop μ-loop) → length (own c) ≡ length (c .args .numbers .now)
 count c =
-    length-sums (layout (c .args .l1) (c .args .l2) (c .args .nc) (c .args .r)) (rowOf (c .args .nc) (c .args .chunks .now)) ∙ sym (c .pre .1 .1)
+    length-sums (layout (c .args .l1) (c .args .l2) (c .args .nc) (c .args .r))
+    (rowOf (c .args .nc) (c .args .chunks .now)) ∙ sym (c .pre .1 .1)
 
 weights-requires : tie.Need-weights-requires Inv-loop μ-loop
 weights-requires c κs = search needs
@@ -61,7 +66,9 @@ returns : tie.Need-returns Inv-loop μ-loop
 returns c =
     let s = start (c .before .before .before .before .before) in
     let p = c .before .before .before .before .before .loop in
-    sym (sym (p .inv .1) ∙ same-stop (own s) (s .args .numbers .now) (p .k) (omega (arith, count s)) (omega arith) (λ e. c .if1 .taken (c .before .sum-of .ensures ∙ e)))
+    sym (sym (p .inv .1)
+    ∙ same-stop (own s) (s .args .numbers .now) (p .k) (omega (arith, count s)) (omega arith)
+    (λ e. c .if1 .taken (c .before .sum-of .ensures ∙ e)))
 
 add-k : tie.Need-add-k Inv-loop μ-loop
 add-k c = search needs
@@ -73,8 +80,11 @@ loop-again : tie.Need-loop-again Inv-loop μ-loop
 loop-again c =
     let s = start (c .before .before .before .before .before) in
     let p = c .before .before .before .before .before .loop in
-    let equal = sym (c .before .sum-of .ensures) ∙ c .if1 .left in
-    (omega arith, same-next (own s) (s .args .numbers .now) (p .k) (omega (arith, count s)) (omega arith) equal ∙ p .inv .1)
+    let equal = sym (c .before .sum-of .ensures) ∙ c .if1 .left in (
+      omega arith,
+      same-next (own s) (s .args .numbers .now) (p .k) (omega (arith, count s)) (omega arith) equal
+          ∙ p .inv .1,
+    )
 
 returns-2 : tie.Need-returns-2 Inv-loop μ-loop
 returns-2 c =

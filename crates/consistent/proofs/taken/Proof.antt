@@ -1,4 +1,5 @@
--- `consistent::taken` meets its contract. The loop's invariant: what the rest of x leaves of the rest of y is what x leaves of y. Assumes nothing.
+-- `consistent::taken` meets its contract. The loop's invariant: what the rest of x leaves of the rest of y is what x
+-- leaves of y. Assumes nothing.
 use borrow.Author.Needs.{needs}
 use Prim.Native.Nat.{_+_, _-_, _≤_}
 use mathlib.Core.Path.{_≡_, refl, sym, _∙_}
@@ -11,7 +12,9 @@ use Rattle.consistent.proofs.taken.Statement.{statement}
 use Rattle.consistent.proofs.taken.Tie as tie
 
 abbrev Inv-loop : tie.InvT-loop
-Inv-loop x y j₀ i₀ j i = (i ≤ length x) × ((j ≤ length y) × ((eat (drop i x) (drop j y) ≡ eat x y) × (losses x y + j ≡ i + losses (drop i x) (drop j y))))
+Inv-loop x y j₀ i₀ j i =
+    (i ≤ length x) × ((j ≤ length y)
+    × ((eat (drop i x) (drop j y) ≡ eat x y) × (losses x y + j ≡ i + losses (drop i x) (drop j y))))
 
 abbrev μ-loop : tie.MeasureT-loop
 μ-loop x y j₀ i₀ j i = length x - i

@@ -1,5 +1,5 @@
--- `erasures::solve` meets its contract: the chunk at hand is taken out, the others are found from what is left, and it from
--- them. Assumes nothing.
+-- `erasures::solve` meets its contract: the chunk at hand is taken out, the others are found from what is left, and it
+-- from them. Assumes nothing.
 use Prim.Native.Nat.{ℕ, _+_, _-_, _^_, _<_}
 use mathlib.Core.List.{List, [], _∷_}
 use native.Mathlib.Omega.{arith}
@@ -106,7 +106,8 @@ solve-returns-2 t c =
     let is = c .before .before .before .wide .ensures in (
       c .settle .ensures .0,
       λ e he h. c .settle .ensures .1 e he
-          (λ w l m. c .before .solve .ensures .1 (scaled (a .nc) place e (a .u)) (scaled-contents (a .nc) lo hi place e he (a .u))
+          (λ w l m. c .before .solve .ensures .1 (scaled (a .nc) place e (a .u))
+          (scaled-contents (a .nc) lo hi place e he (a .u))
           (brings-next (a .nc) lo hi place e he (a .t7) (left .result) (a .n) (a .u) less h
           (λ i l. rw is at (left .ensures .1 i l))) w (omega arith) m)
           (h 0 (omega arith)),

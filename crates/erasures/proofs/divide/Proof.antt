@@ -1,5 +1,5 @@
--- `erasures::divide` meets its contract: a quotient by 2 ^ e is a product with the power that e lacks to the order. Assumes
--- nothing.
+-- `erasures::divide` meets its contract: a quotient by 2 ^ e is a product with the power that e lacks to the order.
+-- Assumes nothing.
 use Prim.Native.Nat.{ℕ, _-_}
 use mathlib.Core.Path.{ap, _∙_}
 use borrow.Author.Needs.{needs}
@@ -36,9 +36,11 @@ returns-2 c =
     let p = s .pre in
     let g = c .before .before .before .log-of in
     let r = c .shift in
-    let is = r .ensures ∙ ap (λ (n : ℕ). times (a .nc) (power (a .nc) (n - g .result)) (a .x)) (c .before .order .ensures) in (
+    let is =
+    r .ensures ∙ ap (λ (n : ℕ). times (a .nc) (power (a .nc) (n - g .result)) (a .x)) (c .before .order .ensures) in (
       rw (r .ensures) (times-element (a .nc) (p .0 .1) (p .0 .2) _ (a .x) (p .1 .0)),
-      λ e he h. quotient (a .nc) (p .0 .1) (p .0 .2) (a .x) (a .d) e (g .result) (r .result) he (g .ensures .0) (g .ensures .1) is h,
+      λ e he h. quotient (a .nc) (p .0 .1) (p .0 .2) (a .x) (a .d) e (g .result) (r .result) he (g .ensures .0)
+          (g .ensures .1) is h,
     )
 
 pub divide-spec : {M : Type 1} → statement M

@@ -76,7 +76,8 @@ divide-requires c κs =
     let o = c .before .before .before .loop in
     let is = c .entry2 .ensures ∙ ap (power (a .nc)) (c .before .wide2 .ensures) in
     let own = c .before .before .before .before .entry .result in
-    let d = divisor (a .nc) (p .0 .1) (p .0 .2) (a .n) (place b) (p .1 .2) (o .z) (a .u) (c .before .before .loop-test .taken)
+    let d =
+    divisor (a .nc) (p .0 .1) (p .0 .2) (a .n) (place b) (p .1 .2) (o .z) (a .u) (c .before .before .loop-test .taken)
     (o .inv .0 .0 .0) (p .1 .0) (c .entry2 .result) own is (o .inv .1 .0) in
     (search needs, (p .1 .4 (o .z), d .0, d .1))
 
@@ -101,9 +102,11 @@ loop-again c =
     c .before .entry2 .ensures ∙ ap (power (a .nc)) (c .before .before .wide2 .ensures)
     in
     let low : o .z < length (o .out) = omega (arith, p .1 .1) in
-    let next = settled-next (a .nc) (p .0 .1) (p .0 .2) (place b) (a .n) (a .u) (a .first) (a .t8) (o .out) (o .sum) (o .z) v
+    let next =
+    settled-next (a .nc) (p .0 .1) (p .0 .2) (place b) (a .n) (a .u) (a .first) (a .t8) (o .out) (o .sum) (o .z) v
     (o .inv .0 .0 .0) t low
-    (λ x hx h. c .divide .ensures .1 x hx (h ∙ ap (λ (d : ℕ). times (a .nc) d x) (ap₂ bitXor (sym is) (sym (o .inv .1 .0)))))
+    (λ x hx h. c .divide .ensures .1 x hx
+    (h ∙ ap (λ (d : ℕ). times (a .nc) d x) (ap₂ bitXor (sym is) (sym (o .inv .1 .0)))))
     (o .inv .1 .1 .1) in
     let up : a .u < o .z = o .inv .0 .0 .0 in
     let new = c .divide .ensures .0 in

@@ -69,7 +69,8 @@ loop-again c =
     let product : Element (a .nc) (times (a .nc) (power (a .nc) (a .c)) (getD (a .t6) (i - 1) 0)) =
     times-element (a .nc) (p .0 .1) (p .0 .2) (power (a .nc) (a .c)) (getD (a .t6) (i - 1) 0) (p .1 .2 (i - 1))
     in
-    let element : Element (a .nc) v = rw (c .shift .ensures) (xor-lt (a .nc) (getD (a .t6) i 0) _ (p .1 .2 i) product) in (
+    let element : Element (a .nc) v =
+    rw (c .shift .ensures) (xor-lt (a .nc) (getD (a .t6) i 0) _ (p .1 .2 i) product) in (
       search needs,
       (
         set-each (λ (k x : ℕ). Element (a .nc) x) (o .out) (i - 1) v low (λ k n. o .inv .1 .0 k) element,

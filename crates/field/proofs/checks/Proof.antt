@@ -1,5 +1,5 @@
--- `field::checks` meets its contract. The loop's invariant: the exponents are those of the terms of the check before check i,
--- or of check 0, those behind them up to a multiple of 8 are exponents too, and the first i checks are written.
+-- `field::checks` meets its contract. The loop's invariant: the exponents are those of the terms of the check before
+-- check i, or of check 0, and the first i checks are written.
 use borrow.Author.Needs.{needs}
 use Prim.Native.Nat.{ℕ, _+_, _-_, _^_, _<_, _≤_}
 use mathlib.Core.Logic.{⊎-elim}
@@ -7,97 +7,118 @@ use mathlib.Core.Path.{_≡_, sym, ap, _∙_, subst}
 use mathlib.Core.List.{List}
 use native.Mathlib.Omega.{arith}
 use lib.ListN.{length, getD, length-set, getD-replicate}
-use Rattle.field.specs.Exponents.{Names}
+use Rattle.field.specs.Exponents.{Exponents}
 use Rattle.field.specs.Field.{check, Checks}
-use Rattle.field.proofs.Double.{size-high}
-use Rattle.field.proofs.Terms.{term, terms-check, first-terms, next-terms, entries-next, names-fewer, low-rest}
+use Rattle.field.proofs.Double.{size-low, size-high}
+use Rattle.field.proofs.Terms.{AreTerms, exponents-none, terms-check, first-terms, next-terms, entries-next}
 use Rattle.field.proofs.checks.Statement.{statement}
 use Rattle.field.proofs.checks.Tie as tie
 
 abbrev Inv-loop : tie.InvT-loop
-Inv-loop nc r p logs chunks out₀ n m es₀ i₀ out es i =
-    (length out ≡ length out₀) × (length es ≡ 256) × (i ≤ r) × Names nc n es (term nc (i - 1) chunks)
-    × Checks nc i chunks out × ((c : ℕ) → c < m → getD es c 0 < 2 ^ nc)
+Inv-loop nc r p logs chunks out₀ cs es₀ n m i₀ out es i =
+    (length out ≡ length out₀) × (length es ≡ 256) × (i ≤ r) × Exponents nc es × AreTerms nc n (i - 1) cs es₀ es
+    × Checks nc i chunks out
 
 abbrev μ-loop : tie.MeasureT-loop
-μ-loop nc r p logs chunks out₀ n m es₀ i₀ out es i = r - i
+μ-loop nc r p logs chunks out₀ cs es₀ n m i₀ out es i = r - i
+
+-- where the function starts, seen from where the terms are made room for
+abbrev start : tie.After-es Inv-loop μ-loop → tie.Start Inv-loop μ-loop
+start c = c .before .before .before .before .before
+
+slice-aggregate-fill-terms : tie.Need-slice-aggregate-fill-terms Inv-loop μ-loop
+slice-aggregate-fill-terms c = search needs
+
+slice-aggregate-fill-terms-2 : tie.Need-slice-aggregate-fill-terms-2 Inv-loop μ-loop
+slice-aggregate-fill-terms-2 c = search needs
+
+fill-terms-requires : tie.Need-fill-terms-requires Inv-loop μ-loop
+fill-terms-requires c κs =
+    let s = start c in
+    let q = s .pre .0 in
+    let few : length (s .args .chunks .now) ≤ 256 = omega (arith, s .pre .1 .0, size-high (s .args .nc) (q .1)) in
+    let none = exponents-none (s .args .nc) (q .0) 256 in
+    ((q .0, q .1, q .3, q .4), (s .pre .1 .0, few, few), (none, none))
+
+-- where the terms are listed, seen from where they are held again
+abbrev listed : tie.After-es2 Inv-loop μ-loop → tie.After-fill-terms Inv-loop μ-loop
+listed c = c .before .before
+
+-- the places and the exponents that are listed
+abbrev places : tie.After-fill-terms Inv-loop μ-loop → List ℕ
+places c = c .fill-terms .last .1 .1 .1 .0
+
+abbrev exponents : tie.After-fill-terms Inv-loop μ-loop → List ℕ
+exponents c = c .fill-terms .last .1 .1 .1 .1 .0
+
+-- so few terms are listed
+few : (c : tie.After-es2 Inv-loop μ-loop) → listed c .fill-terms .result < 2 ^ start (listed c .before) .args .nc
+few c = omega (arith, listed c .fill-terms .ensures .few, start (listed c .before) .pre .1 .0)
 
 eights-requires : tie.Need-eights-requires Inv-loop μ-loop
-eights-requires c κs = search needs
-
-slice-aggregate-fill-exponents : tie.Need-slice-aggregate-fill-exponents Inv-loop μ-loop
-slice-aggregate-fill-exponents c = search needs
-
--- where the function starts, seen from where the exponents are made room for
-abbrev entry : tie.After-es Inv-loop μ-loop → tie.Start Inv-loop μ-loop
-entry c = c .before .before .before .before .before
-
-fill-exponents-requires : tie.Need-fill-exponents-requires Inv-loop μ-loop
-fill-exponents-requires c κs =
-    let s = entry c in
-    let q = s .pre .0 in
-    (q .0, q .1, q .3, q .4, omega (arith, size-high (s .args .nc) (q .1)))
+eights-requires c κs =
+    let q = start (listed c .before) .pre .0 in
+    (q .0, q .1, omega (arith, few c))
 
 loop-holds : tie.Need-loop-holds Inv-loop μ-loop
 loop-holds c =
-    let s = entry (c .before .before) in
-    let a = s .args in
-    let m : ℕ = c .before .before .before .eights .result in
-    let n : ℕ = length (a .chunks .now) in
-    let e = c .before .fill-exponents .ensures in
-    let high : m ≤ 256 = omega (arith, c .before .before .before .eights .ensures, size-high (a .nc) (s .pre .0 .1)) in (
+    let t = listed (c .before) in
+    let s = start (t .before) in (
       search needs,
       search needs,
       search needs,
-      first-terms (a .nc) (s .pre .0 .0) (s .pre .0 .1) n _ (a .chunks .now) (e .0),
+      t .fill-terms .ensures .exponents,
+      first-terms (s .args .nc) (s .pre .0 .0) (s .pre .0 .1) (t .fill-terms .result) (places t) (exponents t),
       λ i h. absurd (omega arith),
-      low-rest (a .nc) n m _ _ (e .0) (λ k h l. e .1 k h ∙ getD-replicate 256 k 0 0 (omega arith)),
     )
 
--- where the number of exponents is rounded up and where the function starts, seen from inside the loop
+-- where the number of terms is rounded up, seen from inside the loop
 abbrev rounded : tie.In-loop Inv-loop μ-loop → tie.After-eights Inv-loop μ-loop
-rounded c = c .before .before .before .before .before
+rounded c = c .before .before
 
 abbrev begun : tie.In-loop Inv-loop μ-loop → tie.Start Inv-loop μ-loop
-begun c = rounded c .before .before .before .before
+begun c = start (listed (rounded c .before) .before)
 
 slice-aggregate-raise-all : tie.Need-slice-aggregate-raise-all Inv-loop μ-loop
 slice-aggregate-raise-all c = search needs
 
+slice-aggregate-raise-all-2 : tie.Need-slice-aggregate-raise-all-2 Inv-loop μ-loop
+slice-aggregate-raise-all-2 c = search needs
+
 raise-all-requires : tie.Need-raise-all-requires Inv-loop μ-loop
 raise-all-requires c κs =
-    let t = c .before .before in
-    let s = begun t in
-    let p = t .before .loop in
-    let m = rounded t .eights .ensures in
-    (s .pre .0 .0, s .pre .0 .1, m .1, omega (arith, size-high (s .args .nc) (s .pre .0 .1)), p .inv .5)
+    let t = c .before .before .before in
+    let q = begun t .pre .0 in
+    let high : rounded t .eights .result ≤ 256 =
+    omega (arith, rounded t .eights .ensures .1, size-high (begun t .args .nc) (q .1)) in (
+      (q .0, q .1, search needs, omega (arith, t .before .loop .inv .1)),
+      (listed (rounded t .before) .fill-terms .ensures .places, t .before .loop .inv .3),
+    )
 
--- the exponents are those of the terms of check i, and those behind them are exponents too
-terms : (c : tie.Joined1 Inv-loop μ-loop) → let a = begun (c .before) .args in
-    Names (a .nc) (length (a .chunks .now)) (c .if1 .es) (term (a .nc) (c .before .before .loop .i) (a .chunks .now))
-    × ((k : ℕ) → k < rounded (c .before) .eights .result → getD (c .if1 .es) k 0 < 2 ^ a .nc)
+-- the exponents are those of the terms of check i
+terms : (c : tie.Joined1 Inv-loop μ-loop) → let t = listed (rounded (c .before) .before) in
+    let nc = begun (c .before) .args .nc in
+    (length (c .if1 .es) ≡ 256) × Exponents nc (c .if1 .es)
+    × AreTerms nc (t .fill-terms .result) (c .before .before .loop .i) (places t) (exponents t) (c .if1 .es)
 terms c =
+    let r = rounded (c .before) in
+    let t = listed (r .before) in
     let s = begun (c .before) in
-    let a = s .args in
-    let q = s .pre .0 in
+    let nc : ℕ = s .args .nc in
+    let n : ℕ = t .fill-terms .result in
     let p = c .before .before .loop in
-    let n : ℕ = length (a .chunks .now) in
-    let m : ℕ = rounded (c .before) .eights .result in
     let Are : List ℕ → Type 0 =
-    λ es. Names (a .nc) n es (term (a .nc) (p .i) (a .chunks .now)) × ((k : ℕ) → k < m → getD es k 0 < 2 ^ a .nc) in
+    λ es. (length es ≡ 256) × Exponents nc es × AreTerms nc n (p .i) (places t) (exponents t) es in
     ⊎-elim
-    (λ w. let e : p .i - 1 + 1 ≡ p .i = omega arith in
-    let all = w .2 .ensures in
-    let first = names-fewer (a .nc) n m _ _ (rounded (c .before) .eights .ensures .0) all in
-    let next = next-terms (a .nc) (q .0) (q .1) n (p .i - 1) (p .es) _ (a .chunks .now) (q .4) (p .inv .3) first in
-    subst Are (sym (w .4)) (rw e at next, all .low))
+    (λ w. let raised = w .3 .ensures in
+    let next =
+    next-terms nc (s .pre .0 .0) (s .pre .0 .1) n (p .i - 1) (p .i) (places t) (exponents t) (p .es)
+    (w .3 .last .1 .1 .1 .0) (omega arith) (p .inv .4)
+    (λ k h. raised .1 k (omega (arith, r .eights .ensures .0))) in
+    subst Are (sym (w .5)) (search needs, raised .0, next))
     (λ w. let e : p .i - 1 ≡ p .i = omega arith in
-    subst Are (sym (w .1)) (rw e at (p .inv .3), p .inv .5))
+    subst Are (sym (w .1)) (p .inv .1, p .inv .3, rw e at (p .inv .4)))
     (c .if1 .came)
-
-size : (c : tie.Joined1 Inv-loop μ-loop) → length (c .if1 .es) ≡ 256
-size c =
-    ⊎-elim (λ w. ap length (w .4) ∙ search needs) (λ w. ap length (w .1) ∙ c .before .before .loop .inv .1) (c .if1 .came)
 
 sub-sum : tie.Need-sub-sum Inv-loop μ-loop
 sub-sum c = search needs
@@ -107,8 +128,9 @@ part-sum-start c = search needs
 
 part-sum-end : tie.Need-part-sum-end Inv-loop μ-loop
 part-sum-end c =
-    let s = begun (c .before .before) in
-    omega (arith, size-high (s .args .nc) (s .pre .0 .1), size (c .before))
+    let t = c .before .before in
+    let s = begun t in
+    omega (arith, few (rounded t .before), size-high (s .args .nc) (s .pre .0 .1), terms (c .before) .0)
 
 sum-requires : tie.Need-sum-requires Inv-loop μ-loop
 sum-requires c κs = search needs
@@ -125,21 +147,26 @@ loop-less c = search needs
 loop-again : tie.Need-loop-again Inv-loop μ-loop
 loop-again c =
     let j = c .before .before .before in
-    let t = j .before in
-    let s = begun t in
+    let r = rounded (j .before) in
+    let t = listed (r .before) in
+    let s = begun (j .before) in
     let a = s .args in
-    let p = t .before .loop in
-    let q = s .pre .0 in
-    let long : length (a .chunks .now) ≤ length (j .if1 .es) = omega (arith, size-high (a .nc) (q .1), size j) in
+    let n : ℕ = t .fill-terms .result in
+    let p = j .before .before .loop in
+    let q = terms j in
+    let long : n ≤ length (j .if1 .es) = omega (arith, few (r .before), size-high (a .nc) (s .pre .0 .1), q .0) in
     let last : p .i + 1 - 1 ≡ p .i = omega arith in
     let Is : ℕ → ℕ → Type 0 = λ i v. v ≡ check (a .nc) i (a .chunks .now) in
-    let sum = c .sum .ensures ∙ terms-check (a .nc) (p .i) _ (j .if1 .es) (a .chunks .now) (q .2) long (terms j .0) in (
+    let sum =
+    c .sum .ensures
+    ∙ terms-check (a .nc) n (p .i) (a .p .now) (a .chunks .now) (places t) (exponents t) (j .if1 .es) (s .pre .0 .2)
+    (q .1) long (t .fill-terms .ensures) (q .2) in (
       simp length-set (p .inv .0),
-      size j,
+      q .0,
       omega arith,
-      rw last (terms j .0),
-      entries-next Is (p .i) (p .out) (p .inv .4) (omega arith) (c .sum .result) sum,
-      terms j .1,
+      q .1,
+      rw last (q .2),
+      entries-next Is (p .i) (p .out) (p .inv .5) (omega (arith, s .pre .1 .1)) (c .sum .result) sum,
     )
 
 same-length : tie.Need-same-length Inv-loop μ-loop
@@ -148,8 +175,8 @@ same-length c = search needs
 returns : tie.Need-returns Inv-loop μ-loop
 returns c =
     let p = c .before .loop in
-    let all : entry (c .before .before .before .before) .args .r ≡ p .i = omega arith in
-    rw all (p .inv .4)
+    let all : start (listed (c .before .before .before) .before) .args .r ≡ p .i = omega arith in
+    rw all (p .inv .5)
 
 pub checks-spec : {M : Type 1} → statement M
 checks-spec =
@@ -157,11 +184,13 @@ checks-spec =
     (tie.spec
     Inv-loop
     μ-loop
+    slice-aggregate-fill-terms
+    slice-aggregate-fill-terms-2
+    fill-terms-requires
     eights-requires
-    slice-aggregate-fill-exponents
-    fill-exponents-requires
     loop-holds
     slice-aggregate-raise-all
+    slice-aggregate-raise-all-2
     raise-all-requires
     sub-sum
     part-sum-start

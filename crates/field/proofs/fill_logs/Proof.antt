@@ -8,7 +8,6 @@ use Rattle.field.specs.Field.{power}
 use Rattle.field.specs.Tables.{withLogs, Logs}
 use Rattle.field.proofs.Double.{size-high, power-element}
 use Rattle.field.proofs.Logs.{length-withLogs, logs-more, logs-none, logs-filled}
-use Rattle.field.proofs.Terms.{named-power}
 use Rattle.field.proofs.fill_logs.Statement.{statement}
 use Rattle.field.proofs.fill_logs.Tie as tie
 
@@ -44,7 +43,7 @@ element : (c : tie.After-wide Inv-loop μ-loop) → let l = c .before .before .b
 element c =
     let l = c .before .before .before in
     let s = start l in
-    c .wide .ensures ∙ s .pre .2 (l .loop .e) (omega arith) ∙ named-power (s .args .nc) (l .loop .e) (omega arith)
+    c .wide .ensures ∙ s .pre .2 (l .loop .e) (omega arith)
 
 cast-logs : tie.Need-cast-logs Inv-loop μ-loop
 cast-logs c =

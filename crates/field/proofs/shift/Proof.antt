@@ -30,7 +30,8 @@ returns-2 c =
     let s = l .before .before .before in
     let a = s .args in
     c .entry .ensures ∙ c .before .reduce .ensures .1
-    ∙ sym (times-power (a .nc) (s .pre .1) (s .pre .2) (a .e) (l .log-of .result)) ∙ ap (times (a .nc) (power (a .nc) (a .e))) (l .log-of .ensures .1)
+    ∙ sym (times-power (a .nc) (s .pre .1) (s .pre .2) (a .e) (l .log-of .result))
+    ∙ ap (times (a .nc) (power (a .nc) (a .e))) (l .log-of .ensures .1)
 
 pub shift-spec : {M : Type 1} → statement M
 shift-spec = tie.close (tie.spec returns log-of-requires add-reduce reduce-requires entry-requires returns-2)

@@ -1,22 +1,23 @@
--- `field::sum` meets its contract. The loop's invariant: the sum with that of the places that are left is the whole sum.
+-- `field::sum` meets its contract. The loop's invariant: the entries at the first c places are summed.
 use borrow.Author.Needs.{needs}
 use Prim.Native.Nat.{ℕ, _-_, _≤_}
-use mathlib.Core.Path.{_≡_, sym, ap, _∙_}
+use mathlib.Core.Path.{_≡_, sym, ap, ap₂, _∙_}
 use native.Mathlib.Omega.{arith}
 use lib.Bits.{bitXor}
-use lib.ListN.{length, getD, drop}
-use Rattle.field.specs.Exponents.{sumAt}
-use Rattle.field.proofs.Terms.{sum-next, sum-none}
+use lib.ListN.{length, getD}
+use Rattle.field.specs.Exponents.{sumTo}
+use Rattle.field.proofs.Terms.{sum-next}
 use Rattle.field.proofs.sum.Statement.{statement}
 use Rattle.field.proofs.sum.Tie as tie
 
 abbrev Inv-loop : tie.InvT-loop
-Inv-loop p places s₀ c₀ s c = (c ≤ length places) × (bitXor s (sumAt p (drop c places)) ≡ sumAt p places)
+Inv-loop p places s₀ c₀ s c = (c ≤ length places) × (s ≡ sumTo c (λ (k : ℕ). getD p (getD places k 0) 0))
 
 abbrev μ-loop : tie.MeasureT-loop
 μ-loop p places s₀ c₀ s c = length places - c
 
 loop-holds : tie.Need-loop-holds Inv-loop μ-loop
+unfolding sumTo
 loop-holds c = search needs
 
 shared-slice-read-wide : tie.Need-shared-slice-read-wide Inv-loop μ-loop
@@ -38,14 +39,15 @@ loop-again : tie.Need-loop-again Inv-loop μ-loop
 loop-again c =
     let a = c .before .before .before .before .before .before .args in
     let p = c .before .before .before .before .loop in
+    let f : ℕ → ℕ = λ k. getD (a .p .now) (getD (a .places .now) k 0) 0 in
     let here = ap (λ (n : ℕ). getD (a .p .now) n 0) (c .before .wide .ensures) in
-    (omega arith, sum-next (a .p .now) (p .c) (p .s) _ (a .places .now) (omega arith) here ∙ p .inv .1)
+    (omega arith, ap₂ bitXor (p .inv .1) here ∙ sym (sum-next (p .c) f))
 
 returns : tie.Need-returns Inv-loop μ-loop
 returns c =
-    let a = c .before .before .before .args in
     let p = c .before .loop in
-    sym (sum-none (a .p .now) (p .c) (p .s) (a .places .now) (omega arith)) ∙ p .inv .1
+    let all : length (c .before .before .before .args .places .now) ≡ p .c = omega arith in
+    rw all (p .inv .1)
 
 pub sum-spec : {M : Type 1} → statement M
 sum-spec =

@@ -1,9 +1,10 @@
--- `lines::put_chunk` meets its contract. The loop's invariant: the first i digits are pasted in. Assumes nothing.
+-- `lines::put_chunk` meets its contract: eight digits are a byte's. The loop's invariant: the first i digits are pasted in. Assumes nothing.
 use borrow.Author.Needs.{needs}
 use Prim.Native.Nat.{ℕ, _+_, _-_, _/_, _%_, _^_, _<_, _≤_}
-use mathlib.Core.Path.{_≡_, refl, _∙_, sym}
+use mathlib.Core.Path.{_≡_, sym, ap, ap₂, _∙_}
+use mathlib.Core.List.{List, _++_}
 use native.Mathlib.Omega.{arith}
-use lib.ListN.{length, getD, take, length-set}
+use lib.ListN.{length, getD, take, drop, length-set}
 use lib.Seq.{paste, paste-zero, take-all}
 use Rattle.bits.specs.Bits.{digits}
 use Rattle.bits.proofs.Copy.{paste-next}
@@ -17,8 +18,29 @@ Inv-loop nc v out₀ at i₀ out i = (i ≤ nc) × ((length out ≡ length out�
 abbrev μ-loop : tie.MeasureT-loop
 μ-loop nc v out₀ at i₀ out i = nc - i
 
+-- where the function starts, seen from the loop
+abbrev start : tie.At-loop Inv-loop μ-loop → tie.Start Inv-loop μ-loop
+start c = c .before .before .before
+
+unpack-byte-requires : tie.Need-unpack-byte-requires Inv-loop μ-loop
+unpack-byte-requires c κs = search needs
+
+same-length : tie.Need-same-length Inv-loop μ-loop
+same-length c = search needs
+
+returns : tie.Need-returns Inv-loop μ-loop
+returns c =
+    let b = c .before .before in
+    let t = b .before .before in
+    let a = t .before .before .args in
+    let e : 8 ≡ a .nc = sym (t .if1 .taken) in
+    b .unpack-byte .ensures
+    ∙ ap (λ (n : ℕ). take (a .at) (a .out .now) ++ digits n (a .v) ++ drop (a .at + n) (a .out .now)) e
+
 loop-holds : tie.Need-loop-holds Inv-loop μ-loop
-loop-holds c = (search needs, (search needs, paste-zero (c .args .out .now) (c .args .at) (digits (c .args .nc) (c .args .v))))
+loop-holds c =
+    let a = c .before .before .args in
+    (search needs, (search needs, paste-zero (a .out .now) (a .at) (digits (a .nc) (a .v))))
 
 sub-shift : tie.Need-sub-shift Inv-loop μ-loop
 sub-shift c = search needs
@@ -46,7 +68,7 @@ loop-less c = search needs
 
 loop-again : tie.Need-loop-again Inv-loop μ-loop
 loop-again c =
-    let a = c .before .before .args in
+    let a = start (c .before) .args in
     let p = c .before .loop in
     let k : ℕ = a .nc in
     let shift : k - 1 - p .i ≡ k - (p .i + 1) = omega arith in
@@ -56,17 +78,18 @@ loop-again c =
     let n : p .i < length (digits k (a .v)) = omega (arith, length-digits k (a .v)) in
     (omega arith, (simp length-set (p .inv .1 .0), rw (p .inv .1 .1, bit) (paste-next (a .out .now) (a .at) (digits k (a .v)) (p .i) (omega arith) n)))
 
-same-length : tie.Need-same-length Inv-loop μ-loop
-same-length c = search needs
+same-length-2 : tie.Need-same-length-2 Inv-loop μ-loop
+same-length-2 c = search needs
 
-returns : tie.Need-returns Inv-loop μ-loop
-returns c =
-    let a = c .before .before .args in
+returns-2 : tie.Need-returns-2 Inv-loop μ-loop
+returns-2 c =
+    let a = start (c .before) .args in
     let p = c .before .loop in
     let e : p .i ≡ a .nc = omega arith in
     let d = digits (a .nc) (a .v) in
     let whole : take (p .i) d ≡ d = take-all (p .i) d (omega (arith, length-digits (a .nc) (a .v))) in
-    p .inv .1 .1 ∙ rw (whole, e) refl
+    p .inv .1 .1
+    ∙ ap₂ (λ (u : List ℕ) (n : ℕ). take (a .at) (a .out .now) ++ u ++ drop (a .at + n) (a .out .now)) whole e
 
 pub put-chunk-spec : {M : Type 1} → statement M
 put-chunk-spec =
@@ -74,6 +97,9 @@ put-chunk-spec =
     (tie.spec
     Inv-loop
     μ-loop
+    unpack-byte-requires
+    same-length
+    returns
     loop-holds
     sub-shift
     sub-shift-2
@@ -84,5 +110,5 @@ put-chunk-spec =
     add-i
     loop-less
     loop-again
-    same-length
-    returns)
+    same-length-2
+    returns-2)

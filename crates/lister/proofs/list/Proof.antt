@@ -116,7 +116,8 @@ module _ (c : tie.After-enum-told2) where
   no-refusal : rowRefusal (rowBits (named message)) (entry .args .row .now) (entry .args .m) ≡ 0
   no-refusal =
       let r = c .before .before in
-      row-not-refused (r .check-row .result) (c .enum-told2 .given .0 .0) _ (c .enum-told2 .given .1) (r .check-row .ensures)
+      row-not-refused (r .check-row .result) (c .enum-told2 .given .0 .0) _ (c .enum-told2 .given .1)
+      (r .check-row .ensures)
 
   fit-row : FitRow (rowBits (named message)) (entry .args .row .now) (entry .args .m)
   fit-row = row-passed (rowBits (named message)) (entry .args .row .now) (entry .args .m) no-refusal
@@ -126,7 +127,8 @@ module _ (c : tie.After-enum-told2) where
 
   -- what is lent: the numbers of the message
   lent : let l = named message in
-      take (l .l1 + l .l2 + l .r - 0) (message .before .before .before .read .last .1 .0) ≡ numbersRead (entry .args .msg .now)
+      take (l .l1 + l .l2 + l .r - 0) (message .before .before .before .read .last .1 .0)
+      ≡ numbersRead (entry .args .msg .now)
   lent = numbers (message .before .before .before) .front (fit message .0) (named message) (fit message .1)
 
 list-rows-requires : tie.Need-list-rows-requires

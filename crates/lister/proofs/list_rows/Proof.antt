@@ -1,5 +1,5 @@
--- `lister::list_rows` meets its contract: the search is given the bits of the row and the room, and what it leaves is what listing
--- leaves. Assumes nothing.
+-- `lister::list_rows` meets its contract: the search is given the bits of the row and the room, and what it leaves is
+-- what listing leaves. Assumes nothing.
 use borrow.Author.Needs.{needs}
 use Prim.Native.Nat.{_-_, _*_, _≤_}
 use mathlib.Core.Path.{_≡_}
@@ -67,7 +67,8 @@ lent : (c : tie.After-unpack) → let a = start c .args in
 lent c =
     let a = start c .args in
     let p = start c .pre in
-    bits-lent (a .l) (a .numbers .now) (a .row .now) (a .m) (p .0) (p .1) (c .unpack .last .1 .1 .0) _ (c .unpack .ensures)
+    bits-lent (a .l) (a .numbers .now) (a .row .now) (a .m) (p .0) (p .1) (c .unpack .last .1 .1 .0) _
+    (c .unpack .ensures)
 
 -- there is room for the rows that are asked for
 fits : (c : tie.After-room) → let a = start (c .before .before .before .before) .args in
@@ -83,7 +84,8 @@ search-requires c κs =
     (rw (lent u) (start u .pre .0), omega (arith, fits r))
 
 -- what the search leaves, by the room and the bits of the row
-found : (c : tie.After-search) → let r = c .before .before .before .before in let a = start (r .before .before .before .before) .args in
+found : (c : tie.After-search) → let r = c .before .before .before .before in
+    let a = start (r .before .before .before .before) .args in
     Listed (a .l) (a .numbers .now) (take (a .m) (unpack (a .row .now))) (roomFor (rowBits (a .l)) (length (a .out .now)))
     (a .out .now) (c .search .last .1 .1 .1 .1 .0) (c .search .result .count) (c .search .result .more)
 found c =

@@ -35,7 +35,7 @@ places s =
     }
 
 -- where the elements are filled and where the function starts, seen from where the logs are made room for
-abbrev filled : tie.After-logs → tie.After-fill-elements
+abbrev filled : tie.After-logs → tie.After-fill-powers
 filled c = c .before .before .before
 
 abbrev begun : tie.After-logs → tie.Start
@@ -63,11 +63,11 @@ long c =
 elements : (c : tie.After-reduce) → Elements (start c .args .l .nc) (c .reduce .result)
 elements c = c .reduce .ensures .1
 
-slice-aggregate-fill-elements : tie.Need-slice-aggregate-fill-elements
-slice-aggregate-fill-elements c = search needs
+slice-aggregate-fill-powers : tie.Need-slice-aggregate-fill-powers
+slice-aggregate-fill-powers c = search needs
 
-fill-elements-requires : tie.Need-fill-elements-requires
-fill-elements-requires c κs =
+fill-powers-requires : tie.Need-fill-powers-requires
+fill-powers-requires c κs =
     let s = c .before .before in
     let b = bounds s in
     (b .nc-low, b .nc-high, size-high (s .args .l .nc) (b .nc-high))
@@ -79,7 +79,7 @@ fill-logs-requires : tie.Need-fill-logs-requires
 fill-logs-requires c κs =
     let s = begun c in
     let b = bounds s in
-    (b .nc-low, b .nc-high, filled c .fill-elements .ensures, size-high (s .args .l .nc) (b .nc-high))
+    (b .nc-low, b .nc-high, filled c .fill-powers .ensures, size-high (s .args .l .nc) (b .nc-high))
 
 table-requires : tie.Need-table-requires
 table-requires c κs = search needs
@@ -126,7 +126,7 @@ missing-requires c κs =
     let low = size-low (l .nc) (b .nc-low) in (
       (s .pre .0, s .pre .1 .1 .1 .0),
       (
-        (filled (f .before) .fill-elements .ensures, f .fill-logs .ensures .1, s .pre .1 .0),
+        (filled (f .before) .fill-powers .ensures, f .fill-logs .ensures .1, s .pre .1 .0),
         (n .0, omega (arith, n .1, b .chunks-high, low)),
       ),
     )
@@ -171,8 +171,8 @@ pub recover-spec : {M : Type 1} → statement M
 recover-spec =
     tie.close
     (tie.spec
-    slice-aggregate-fill-elements
-    fill-elements-requires
+    slice-aggregate-fill-powers
+    fill-powers-requires
     slice-aggregate-fill-logs
     fill-logs-requires
     table-requires

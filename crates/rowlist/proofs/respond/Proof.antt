@@ -1,4 +1,5 @@
--- `rowlist::respond` meets its contract: the parts of the input are listed for, and what is answered is put out. Assumes nothing.
+-- `rowlist::respond` meets its contract: the parts of the input are listed for, and what is answered is put out.
+-- Assumes nothing.
 use borrow.Author.Needs.{needs}
 use Prim.Native.Nat.{ℕ}
 use mathlib.Core.Path.{_≡_, refl, sym, ap, _∙_}
@@ -55,7 +56,8 @@ told : (c : tie.After-list) → let t = parted c in
 told c =
     let t = parted c in
     let p = t .split .result in
-    answers (start t .args .input .now) (p .from) (p .to) (p .m) (p .row) _ (c .list .last .1 .1 .1 .0) (c .list .result) refl
+    answers (start t .args .input .now) (p .from) (p .to) (p .m) (p .row) _ (c .list .last .1 .1 .1 .0)
+    (c .list .result) refl
     (t .split .ensures) (c .list .ensures)
 
 enum-known-answer : tie.Need-enum-known-answer

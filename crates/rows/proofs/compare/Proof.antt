@@ -1,5 +1,5 @@
--- `rows::compare` meets its contract. The loop's invariant: the bytes not yet compared are in the order of the whole rows.
--- Assumes nothing.
+-- `rows::compare` meets its contract. The loop's invariant: the bytes not yet compared are in the order of the whole
+-- rows. Assumes nothing.
 use borrow.Author.Needs.{needs}
 use Prim.Native.Nat.{ℕ, _+_, _-_, _≤_, Ordering}
 use mathlib.Core.Path.{_≡_, _∙_, ap, sym}
@@ -11,7 +11,8 @@ use Rattle.rows.proofs.compare.Statement.{statement}
 use Rattle.rows.proofs.compare.Tie as tie
 
 abbrev Inv-loop : tie.InvT-loop
-Inv-loop list at x w left₀ left = (left ≤ length x) × (From list at x (length x - left) ≡ order (take (length x) (drop at list)) x)
+Inv-loop list at x w left₀ left =
+    (left ≤ length x) × (From list at x (length x - left) ≡ order (take (length x) (drop at list)) x)
 
 abbrev μ-loop : tie.MeasureT-loop
 μ-loop list at x w left₀ left = left
@@ -22,8 +23,11 @@ answered o = byOrder o 0 1 2
 
 loop-holds : tie.Need-loop-holds Inv-loop μ-loop
 loop-holds c =
-    let z : length (c .args .x .now) - length (c .args .x .now) ≡ 0 = omega arith in
-    (search needs, ap (From (c .args .list .now) (c .args .at) (c .args .x .now)) z ∙ from-start (c .args .list .now) (c .args .at) (c .args .x .now))
+    let z : length (c .args .x .now) - length (c .args .x .now) ≡ 0 = omega arith in (
+      search needs,
+      ap (From (c .args .list .now) (c .args .at) (c .args .x .now)) z
+          ∙ from-start (c .args .list .now) (c .args .at) (c .args .x .now),
+    )
 
 sub-i : tie.Need-sub-i Inv-loop μ-loop
 sub-i c = search needs
@@ -42,14 +46,16 @@ returns c =
     let p = c .before .before .before .before in
     let a = p .before .args in
     let i : ℕ = length (a .x .now) - p .loop .left in
-    ap answered (sym (from-less (a .list .now) (a .at) (a .x .now) i (p .before .pre) (omega arith) (omega arith)) ∙ p .loop .inv .1)
+    ap answered (sym (from-less (a .list .now) (a .at) (a .x .now) i (p .before .pre) (omega arith) (omega arith))
+    ∙ p .loop .inv .1)
 
 returns-2 : tie.Need-returns-2 Inv-loop μ-loop
 returns-2 c =
     let p = c .before .before .before .before .before in
     let a = p .before .args in
     let i : ℕ = length (a .x .now) - p .loop .left in
-    ap answered (sym (from-more (a .list .now) (a .at) (a .x .now) i (p .before .pre) (omega arith) (omega arith)) ∙ p .loop .inv .1)
+    ap answered (sym (from-more (a .list .now) (a .at) (a .x .now) i (p .before .pre) (omega arith) (omega arith))
+    ∙ p .loop .inv .1)
 
 sub-left : tie.Need-sub-left Inv-loop μ-loop
 sub-left c = search needs
@@ -63,14 +69,18 @@ loop-again c =
     let a = p .before .args in
     let i : ℕ = length (a .x .now) - p .loop .left in
     let next : length (a .x .now) - (p .loop .left - 1) ≡ i + 1 = omega arith in
-    let same : getD (a .list .now) (a .at + i) 0 ≡ getD (a .x .now) i 0 = omega arith in
-    (omega arith, ap (From (a .list .now) (a .at) (a .x .now)) next ∙ sym (from-next (a .list .now) (a .at) (a .x .now) i (p .before .pre) (omega arith) same) ∙ p .loop .inv .1)
+    let same : getD (a .list .now) (a .at + i) 0 ≡ getD (a .x .now) i 0 = omega arith in (
+      omega arith,
+      ap (From (a .list .now) (a .at) (a .x .now)) next
+          ∙ sym (from-next (a .list .now) (a .at) (a .x .now) i (p .before .pre) (omega arith) same) ∙ p .loop .inv .1,
+    )
 
 returns-3 : tie.Need-returns-3 Inv-loop μ-loop
 returns-3 c =
     let p = c .before in
     let a = p .before .args in
-    ap answered (sym (from-end (a .list .now) (a .at) (a .x .now) (length (a .x .now) - p .loop .left) (omega arith)) ∙ p .loop .inv .1)
+    ap answered (sym (from-end (a .list .now) (a .at) (a .x .now) (length (a .x .now) - p .loop .left) (omega arith))
+    ∙ p .loop .inv .1)
 
 pub compare-spec : {M : Type 1} → statement M
 compare-spec =

@@ -1,5 +1,5 @@
--- `rows::insert` meets its contract. Each way out is one law of Written.antt: the row is held already, there is room, the last
--- row is pushed out, or the row comes after the last of a full list. Assumes nothing.
+-- `rows::insert` meets its contract. Each way out is one law of Written.antt: the row is held already, there is room,
+-- the last row is pushed out, or the row comes after the last of a full list. Assumes nothing.
 use borrow.Author.Needs.{needs}
 use Prim.Native.Nat.{ℕ, _+_, _*_, _-_, _<_, _≤_}
 use mathlib.Core.Logic.{⊎-elim}
@@ -42,8 +42,14 @@ row-in c i h =
 
 place-requires : tie.Need-place-requires
 place-requires c κs =
-    let s = c .before .before .before in
-    (omega (arith, rows-le (s .args .kept .count) (s .args .cap) (length (s .args .x .now)) (s .pre .1 .1 .0), s .pre .1 .0), s .pre .1 .1 .1)
+    let s = c .before .before .before in (
+      omega (
+        arith,
+        rows-le (s .args .kept .count) (s .args .cap) (length (s .args .x .now)) (s .pre .1 .1 .0),
+        s .pre .1 .0,
+      ),
+      s .pre .1 .1 .1,
+    )
 
 mul-compare : tie.Need-mul-compare
 mul-compare c = place-fits (c .before .before)
@@ -55,12 +61,14 @@ compare-requires c κs =
 
 -- past the first test: the row at the place found, if there is one, is not x
 absent : (c : tie.Joined1)
-    → Absent (start (c .before) .args .list .now) (start (c .before) .args .kept .count) (start (c .before) .args .x .now) (c .before .place .result)
+    → Absent (start (c .before) .args .list .now) (start (c .before) .args .kept .count)
+    (start (c .before) .args .x .now) (c .before .place .result)
 absent c =
     let a = start (c .before) .args in
     let p : ℕ = c .before .place .result in
     ⊎-elim
-    (λ k. absent-other (a .list .now) (a .kept .count) (a .x .now) p (k .2 .result) (k .0 .taken) (k .2 .ensures) (λ e. omega (arith, k .3 .left)))
+    (λ k. absent-other (a .list .now) (a .kept .count) (a .x .now) p (k .2 .result) (k .0 .taken) (k .2 .ensures)
+    (λ e. omega (arith, k .3 .left)))
     (λ k. absent-end (a .list .now) (a .kept .count) (a .x .now) p (k .left))
     (c .if1 .came)
 
@@ -74,7 +82,9 @@ returns c =
     let a = s .args in
     let p : ℕ = f .place .result in
     let h : p < a .kept .count = c .before .before .before .if1 .taken in
-    let e = present (a .list .now) (a .kept .count) (a .x .now) p (c .before .compare .result) h (c .before .compare .ensures) (omega arith) in
+    let e =
+    present (a .list .now) (a .kept .count) (a .x .now) p (c .before .compare .result) h (c .before .compare .ensures)
+    (omega arith) in
     written-repeat (a .list .now) (a .kept .count) (a .kept .more) (a .cap) (a .x .now) (s .pre .1 .1 .0)
     p (f .place .ensures) (s .pre .1 .1 .1) h e
 
@@ -89,8 +99,10 @@ mul-put-row-2 c =
 put-row-requires : tie.Need-put-row-requires
 put-row-requires c κs =
     let f = c .before .before .before in
-    let a = start f .args in
-    (rows-le (f .place .result) (a .kept .count) (length (a .x .now)) (low f), (row-in f (a .kept .count) (omega arith), start f .pre .0))
+    let a = start f .args in (
+      rows-le (f .place .result) (a .kept .count) (length (a .x .now)) (low f),
+      (row-in f (a .kept .count) (omega arith), start f .pre .0),
+    )
 
 add-t20 : tie.Need-add-t20
 add-t20 c = search needs
@@ -105,7 +117,8 @@ returns-2 c =
     let s = start (j .before) in
     let a = s .args in
     written-room (a .list .now) (a .kept .count) (a .kept .more) (a .cap) (a .x .now) (s .pre .1 .1 .0)
-    (j .before .place .result) (j .before .place .ensures) (absent j) (put .put-row .last .0) (omega arith) (put .put-row .ensures)
+    (j .before .place .result) (j .before .place .ensures) (absent j) (put .put-row .last .0) (omega arith)
+    (put .put-row .ensures)
 
 mul-put-row-3 : tie.Need-mul-put-row-3
 mul-put-row-3 c = place-fits (c .before .before .before .before)
@@ -121,8 +134,10 @@ mul-put-row-4 c =
 put-row-requires-2 : tie.Need-put-row-requires-2
 put-row-requires-2 c κs =
     let f = c .before .before .before .before in
-    let a = start f .args in
-    (rows-le (f .place .result) (a .cap - 1) (length (a .x .now)) (omega arith), (row-in f (a .cap - 1) (omega arith), start f .pre .0))
+    let a = start f .args in (
+      rows-le (f .place .result) (a .cap - 1) (length (a .x .now)) (omega arith),
+      (row-in f (a .cap - 1) (omega arith), start f .pre .0),
+    )
 
 same-length-3 : tie.Need-same-length-3
 same-length-3 c = search needs
@@ -134,7 +149,8 @@ returns-3 c =
     let s = start (j .before) in
     let a = s .args in
     written-full (a .list .now) (a .kept .count) (a .kept .more) (a .cap) (a .x .now) (s .pre .1 .1 .0)
-    (j .before .place .result) (j .before .place .ensures) (absent j) (put .put-row2 .last .0) (omega arith) (omega arith) (put .put-row2 .ensures)
+    (j .before .place .result) (j .before .place .ensures) (absent j) (put .put-row2 .last .0) (omega arith)
+    (omega arith) (put .put-row2 .ensures)
 
 same-length-4 : tie.Need-same-length-4
 same-length-4 c = search needs

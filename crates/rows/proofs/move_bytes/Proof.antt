@@ -9,7 +9,8 @@ use Rattle.rows.proofs.move_bytes.Statement.{statement}
 use Rattle.rows.proofs.move_bytes.Tie as tie
 
 abbrev Inv-loop : tie.InvT-loop
-Inv-loop list₀ from to w i₀ list i = (from ≤ i) × ((i ≤ to) × ((length list ≡ length list₀) × (list ≡ Moved list₀ to w i)))
+Inv-loop list₀ from to w i₀ list i =
+    (from ≤ i) × ((i ≤ to) × ((length list ≡ length list₀) × (list ≡ Moved list₀ to w i)))
 
 abbrev μ-loop : tie.MeasureT-loop
 μ-loop list₀ from to w i₀ list i = i - from
@@ -38,9 +39,18 @@ loop-again c =
     let a = p .before .args in
     let i : ℕ = p .loop .i - 1 in
     let e : i + 1 ≡ p .loop .i = omega arith in
-    let l : p .loop .list ≡ Moved (a .list .now) (a .to) (a .w) (i + 1) = p .loop .inv .1 .1 .1 ∙ ap (Moved (a .list .now) (a .to) (a .w)) (sym e) in
-    let r = moved-read (a .list .now) (a .to) (a .w) i (omega arith) (omega arith) (omega arith) in
-    (omega arith, (omega arith, (simp length-set (p .loop .inv .1 .1 .0), rw (l, r) (moved-next (a .list .now) (a .to) (a .w) i (omega arith) (omega arith)))))
+    let l : p .loop .list ≡ Moved (a .list .now) (a .to) (a .w) (i + 1) =
+    p .loop .inv .1 .1 .1 ∙ ap (Moved (a .list .now) (a .to) (a .w)) (sym e) in
+    let r = moved-read (a .list .now) (a .to) (a .w) i (omega arith) (omega arith) (omega arith) in (
+      omega arith,
+      (
+        omega arith,
+        (
+          simp length-set (p .loop .inv .1 .1 .0),
+          rw (l, r) (moved-next (a .list .now) (a .to) (a .w) i (omega arith) (omega arith)),
+        ),
+      ),
+    )
 
 same-length : tie.Need-same-length Inv-loop μ-loop
 same-length c = search needs

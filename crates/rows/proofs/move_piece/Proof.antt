@@ -48,7 +48,8 @@ held-is c =
     let a = s .args in
     let e : a .from + 64 - a .from ≡ 64 = omega arith in
     let part = take 64 (drop (a .from) (a .list .now)) in
-    let l : length part ≡ 64 = length-take-le 64 (drop (a .from) (a .list .now)) (omega (arith, length-drop (a .from) (a .list .now), s .pre)) in
+    let l : length part ≡ 64 =
+    length-take-le 64 (drop (a .from) (a .list .now)) (omega (arith, length-drop (a .from) (a .list .now), s .pre)) in
     c .copy-to .ensures ∙ rw (e, l) (append-nil part)
 
 -- where the function starts, seen from where `copy_to` has answered again
@@ -66,7 +67,8 @@ moved c =
     let size : length part ≡ 64 = length-take-le 64 (drop (a .from) l) (omega (arith, length-drop (a .from) l, s .pre)) in
     let n : a .from + a .w + length part ≡ a .from + 64 + a .w = omega (arith, size) in
     c .copy-to2 .ensures
-    ∙ ap (λ (u : List ℕ). (take (a .from + a .w) l ++ u) ++ drop (a .from + a .w + length u) l) (held-is (c .before .before .before .before))
+    ∙ ap (λ (u : List ℕ). (take (a .from + a .w) l ++ u) ++ drop (a .from + a .w + length u) l)
+    (held-is (c .before .before .before .before))
     ∙ ap (λ (k : ℕ). (take (a .from + a .w) l ++ part) ++ drop k l) n
     ∙ append-assoc (take (a .from + a .w) l) part (drop (a .from + 64 + a .w) l)
 

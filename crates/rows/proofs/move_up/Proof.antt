@@ -10,13 +10,17 @@ use Rattle.rows.proofs.move_up.Statement.{statement}
 use Rattle.rows.proofs.move_up.Tie as tie
 
 abbrev Inv-loop : tie.InvT-loop
-Inv-loop list₀ from to w i₀ list i = (from ≤ i) × ((i ≤ to) × ((length list ≡ length list₀) × (list ≡ Moved list₀ to w i)))
+Inv-loop list₀ from to w i₀ list i =
+    (from ≤ i) × ((i ≤ to) × ((length list ≡ length list₀) × (list ≡ Moved list₀ to w i)))
 
 abbrev μ-loop : tie.MeasureT-loop
 μ-loop list₀ from to w i₀ list i = i - from
 
 loop-holds : tie.Need-loop-holds Inv-loop μ-loop
-loop-holds c = (search needs, (search needs, (search needs, moved-start (c .before .args .list .now) (c .before .args .to) (c .before .args .w))))
+loop-holds c = (
+  search needs,
+  (search needs, (search needs, moved-start (c .before .args .list .now) (c .before .args .to) (c .before .args .w))),
+)
 
 sub-loop : tie.Need-sub-loop Inv-loop μ-loop
 sub-loop c = search needs
@@ -44,14 +48,21 @@ loop-again c =
     let size : p .loop .i - i ≡ 64 = omega (arith, up) in
     let one : m .move-piece .last .0 ≡ Moved (p .loop .list) (p .loop .i) (a .w) i =
     m .move-piece .ensures
-    ∙ ap (λ (n : ℕ). take (i + a .w) (p .loop .list) ++ (take 64 (drop i (p .loop .list)) ++ drop (n + a .w) (p .loop .list))) up
-    ∙ ap (λ (n : ℕ). take (i + a .w) (p .loop .list) ++ (take n (drop i (p .loop .list)) ++ drop (p .loop .i + a .w) (p .loop .list))) (sym size)
+    ∙ ap (λ (n : ℕ). take (i + a .w) (p .loop .list)
+    ++ (take 64 (drop i (p .loop .list)) ++ drop (n + a .w) (p .loop .list))) up
+    ∙ ap (λ (n : ℕ). take (i + a .w) (p .loop .list)
+    ++ (take n (drop i (p .loop .list)) ++ drop (p .loop .i + a .w) (p .loop .list))) (sym size)
     in
     let all : m .move-piece .last .0 ≡ Moved (a .list .now) (a .to) (a .w) i =
     one ∙ ap (λ (u : List ℕ). Moved u (p .loop .i) (a .w) i) (p .loop .inv .1 .1 .1)
     ∙ moved-part (a .list .now) (a .to) (a .w) (p .loop .i) i room high (p .loop .inv .1 .0)
-    in
-    (low, (omega (arith, p .loop .inv .1 .0), (ap length all ∙ length-moved (a .list .now) (a .to) (a .w) i (omega (arith, p .loop .inv .1 .0)) room, all)))
+    in (
+      low,
+      (
+        omega (arith, p .loop .inv .1 .0),
+        (ap length all ∙ length-moved (a .list .now) (a .to) (a .w) i (omega (arith, p .loop .inv .1 .0)) room, all),
+      ),
+    )
 
 -- where the function starts, seen from where `move_bytes` has answered
 abbrev entry : tie.After-move-bytes Inv-loop μ-loop → tie.Start Inv-loop μ-loop
@@ -68,7 +79,8 @@ moved-all c =
     let p = m .before .before .before in
     let a = start c .args in
     m .move-bytes .ensures ∙ ap (λ (u : List ℕ). Moved u (p .loop .i) (a .w) (a .from)) (p .loop .inv .1 .1 .1)
-    ∙ moved-part (a .list .now) (a .to) (a .w) (p .loop .i) (a .from) (start c .pre .1 .0) (p .loop .inv .0) (p .loop .inv .1 .0)
+    ∙ moved-part (a .list .now) (a .to) (a .w) (p .loop .i) (a .from) (start c .pre .1 .0) (p .loop .inv .0)
+    (p .loop .inv .1 .0)
 
 move-bytes-requires : tie.Need-move-bytes-requires Inv-loop μ-loop
 move-bytes-requires c κs = search needs

@@ -10,14 +10,17 @@ use Rattle.rows.proofs.place.Statement.{statement}
 use Rattle.rows.proofs.place.Tie as tie
 
 abbrev Inv-loop : tie.InvT-loop
-Inv-loop list count x w low₀ high₀ low high = (low ≤ place x (cut count (length x) list)) × ((place x (cut count (length x) list) ≤ high) × (high ≤ count))
+Inv-loop list count x w low₀ high₀ low high =
+    (low ≤ place x (cut count (length x) list)) × ((place x (cut count (length x) list) ≤ high) × (high ≤ count))
 
 abbrev μ-loop : tie.MeasureT-loop
 μ-loop list count x w low₀ high₀ low high = high - low
 
 -- the row in the middle lies in the bytes of the rows held
 in-rows : (c : tie.In-loop Inv-loop μ-loop)
-    → (c .before .loop .low + (c .before .loop .high - c .before .loop .low) / 2) * length (c .before .before .before .before .args .x .now) + length (c .before .before .before .before .args .x .now) ≤ length (c .before .before .before .before .args .list .now)
+    → (c .before .loop .low + (c .before .loop .high - c .before .loop .low) / 2) * length
+    (c .before .before .before .before .args .x .now) + length (c .before .before .before .before .args .x .now)
+    ≤ length (c .before .before .before .before .args .list .now)
 in-rows c =
     let s = c .before .before .before .before in
     let p = c .before .loop in
@@ -53,7 +56,9 @@ loop-again c =
     let s = p .before .before .before in
     let a = s .args in
     let m : ℕ = p .loop .low + (p .loop .high - p .loop .low) / 2 in
-    let up = place-up (a .list .now) (a .count) (a .x .now) m (c .before .compare .result) (omega arith) (c .before .compare .ensures) (s .pre .1) (omega arith) in
+    let up =
+    place-up (a .list .now) (a .count) (a .x .now) m (c .before .compare .result) (omega arith)
+    (c .before .compare .ensures) (s .pre .1) (omega arith) in
     (up, (p .loop .inv .1 .0, search needs))
 
 loop-less-2 : tie.Need-loop-less-2 Inv-loop μ-loop
@@ -64,7 +69,9 @@ loop-again-2 c =
     let p = c .before .before .before in
     let a = p .before .before .before .args in
     let m : ℕ = p .loop .low + (p .loop .high - p .loop .low) / 2 in
-    let down = place-down (a .list .now) (a .count) (a .x .now) m (c .before .compare .result) (omega arith) (c .before .compare .ensures) (c .if1 .left) in
+    let down =
+    place-down (a .list .now) (a .count) (a .x .now) m (c .before .compare .result) (omega arith)
+    (c .before .compare .ensures) (c .if1 .left) in
     (p .loop .inv .0, (down, omega arith))
 
 returns : tie.Need-returns Inv-loop μ-loop

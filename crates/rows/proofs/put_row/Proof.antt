@@ -24,7 +24,8 @@ returns c =
     let moved = written .before .before .before .before in
     let a = moved .before .before .before .before .args in
     written .copy-to .ensures
-    ∙ append-assoc (take (a .at) (moved .move-up .last .0)) (a .x .now) (drop (a .at + length (a .x .now)) (moved .move-up .last .0))
+    ∙ append-assoc (take (a .at) (moved .move-up .last .0)) (a .x .now)
+    (drop (a .at + length (a .x .now)) (moved .move-up .last .0))
     ∙ ap (λ (l : List ℕ). take (a .at) l ++ (a .x .now ++ drop (a .at + length (a .x .now)) l)) (moved .move-up .ensures)
     ∙ moved-written (a .list .now) (a .x .now) (a .at) (a .to) (omega arith) (omega arith)
 

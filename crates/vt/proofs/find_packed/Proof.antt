@@ -20,7 +20,8 @@ find-part-requires c κs = search needs
 
 -- the part lies within the bytes
 fit : (c : tie.After-find-part) → let q = c .find-part .result in
-    (q .byte * 8 + q .size ≤ length (c .before .before .args .s .now) * 8) × (q .byte ≤ length (c .before .before .args .s .now))
+    (q .byte * 8 + q .size ≤ length (c .before .before .args .s .now) * 8)
+    × (q .byte ≤ length (c .before .before .args .s .now))
 fit c =
     let start = c .before .before in
     let l = fits-length (start .args .n) (start .args .s .now) (start .pre .0 .1 .0) in
@@ -44,7 +45,9 @@ unpack-requires c κs =
     let f = c .before .before in
     let s : List ℕ = f .before .before .args .s .now in
     let q = f .find-part .result in
-    let l : length (take (length s - q .byte) (drop (q .byte) s)) ≡ length s - q .byte = ap length (take-all (length s - q .byte) (drop (q .byte) s) (omega (arith, length-drop (q .byte) s))) ∙ length-drop (q .byte) s in
+    let l : length (take (length s - q .byte) (drop (q .byte) s)) ≡ length s - q .byte =
+    ap length (take-all (length s - q .byte) (drop (q .byte) s) (omega (arith, length-drop (q .byte) s)))
+    ∙ length-drop (q .byte) s in
     (omega (arith, l, fit f .0, fit f .1), f .find-part .ensures .small)
 
 sub-find-place : tie.Need-sub-find-place
@@ -58,11 +61,13 @@ part-find-place-end c = search needs
 
 -- what is lent: the bits of the part
 lent : (c : tie.After-unpack) → let f = c .before .before .before in let q = f .find-part .result in
-    take (q .size - 0) (c .unpack .last .1 .1 .0) ≡ take (q .size) (drop (q .byte * 8) (unpack (f .before .before .args .s .now)))
+    take (q .size - 0) (c .unpack .last .1 .1 .0)
+    ≡ take (q .size) (drop (q .byte * 8) (unpack (f .before .before .args .s .now)))
 lent c =
     let f = c .before .before .before in
     let q = f .find-part .result in
-    part-lent (f .before .before .args .s .now) (q .byte) (q .size) (fit f .0) (c .unpack .last .1 .1 .0) _ (c .unpack .ensures)
+    part-lent (f .before .before .args .s .now) (q .byte) (q .size) (fit f .0) (c .unpack .last .1 .1 .0) _
+    (c .unpack .ensures)
 
 mul-find-place : tie.Need-mul-find-place
 mul-find-place c = search needs
@@ -78,7 +83,13 @@ find-place-requires c κs =
     let l = part-length s (q .byte) (q .size) (fit f .0) in
     let b : AllBits x = bits-drop (q .byte * 8) (unpack s) (bits-unpack s) in
     rw (lent u, l) (
-      ((bits-take (q .size) x b, omega (arith, e .small)), (omega (arith, e .inside, f .before .before .pre .0 .1 .1), omega (arith, e .low, f .before .before .pre .1 .1, f .before .before .pre .0 .1 .1))),
+      (
+        (bits-take (q .size) x b, omega (arith, e .small)),
+        (
+          omega (arith, e .inside, f .before .before .pre .0 .1 .1),
+          omega (arith, e .low, f .before .before .pre .1 .1, f .before .before .pre .0 .1 .1),
+        ),
+      ),
       (e .counted, (e .low, e .reach)),
     )
 
@@ -99,8 +110,10 @@ returns c =
     let p = g .find-place in
     let l = part-length s (q .byte) (q .size) (fit f .0) in
     let k = rw (lent u) at (p .ensures) in
-    let h : p .result .at ≤ q .size = omega (arith, k .0 .0) in
-    ((omega (arith, e .inside), k .0 .1), omega (arith, k .1, part-ones s (q .byte) (q .size) (fit f .0) (p .result .at) h, e .rest))
+    let h : p .result .at ≤ q .size = omega (arith, k .0 .0) in (
+      (omega (arith, e .inside), k .0 .1),
+      omega (arith, k .1, part-ones s (q .byte) (q .size) (fit f .0) (p .result .at) h, e .rest),
+    )
 
 pub find-packed-spec : {M : Type 1} → statement M
 find-packed-spec =

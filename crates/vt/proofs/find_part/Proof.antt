@@ -1,5 +1,5 @@
--- `vt::find_part` meets its contract. The loop's invariant: r ones are left from byte i on, and from there on a bit that adds t has
--- a place. Assumes nothing.
+-- `vt::find_part` meets its contract. The loop's invariant: r ones are left from byte i on, and from there on a bit
+-- that adds t has a place. Assumes nothing.
 use borrow.Author.Needs.{needs}
 use Prim.Native.Nat.{ℕ, _+_, _-_, _*_, _/_, _<_, _≤_}
 use mathlib.Core.Path.{_≡_, refl, sym, ap, _∙_}
@@ -39,7 +39,8 @@ weigh-byte-requires c κs = search needs
 
 -- the ones from byte i on, and those behind it
 seen : (c : tie.After-weigh-byte Inv-loop μ-loop)
-    → let p = c .before .before .before .loop in let s : List ℕ = c .before .before .before .before .before .args .s .now in
+    → let p = c .before .before .before .loop in
+    let s : List ℕ = c .before .before .before .before .before .args .s .now in
     (p .r ≡ c .weigh-byte .result .ones + ones (drop ((p .i + 1) * 8) (unpack s))) × (p .r ≤ 2040)
 seen c =
     let start = c .before .before .before .before .before in
@@ -49,8 +50,15 @@ seen c =
     let l = fits-length (a .n) s (start .pre .0 .1 .0) in
     let h : p .i < length s = omega arith in
     let x : List ℕ = drop (p .i * 8) (unpack s) in (
-      p .inv .1 .1 .0 ∙ ones-byte s (p .i) h ∙ ap (λ (k : ℕ). k + ones (drop ((p .i + 1) * 8) (unpack s))) (sym (c .weigh-byte .ensures .1 .0)),
-      omega (arith, p .inv .1 .1 .0, ones-length x (bits-drop (p .i * 8) (unpack s) (bits-unpack s)), length-drop (p .i * 8) (unpack s), length-unpack s),
+      p .inv .1 .1 .0 ∙ ones-byte s (p .i) h
+          ∙ ap (λ (k : ℕ). k + ones (drop ((p .i + 1) * 8) (unpack s))) (sym (c .weigh-byte .ensures .1 .0)),
+      omega (
+        arith,
+        p .inv .1 .1 .0,
+        ones-length x (bits-drop (p .i * 8) (unpack s) (bits-unpack s)),
+        length-drop (p .i * 8) (unpack s),
+        length-unpack s,
+      ),
     )
 
 sub-behind : tie.Need-sub-behind Inv-loop μ-loop
@@ -93,8 +101,17 @@ loop-again : tie.Need-loop-again Inv-loop μ-loop
 loop-again c =
     let w = c .before .before in
     let p = w .before .before .before .loop in
-    let b = seen w .0 in
-    (omega arith, (p .inv .1 .0, (omega (arith, b), ⊎-elim (λ k. inr (omega (arith, k .1 .left), w .before .before .before .before .before .pre .1 .1)) (λ k. inl (omega (arith, k .left))) (c .if1 .came))))
+    let b = seen w .0 in (
+      omega arith,
+      (
+        p .inv .1 .0,
+        (
+          omega (arith, b),
+          ⊎-elim (λ k. inr (omega (arith, k .1 .left), w .before .before .before .before .before .pre .1 .1))
+              (λ k. inl (omega (arith, k .left))) (c .if1 .came),
+        ),
+      ),
+    )
 
 mul-t18 : tie.Need-mul-t18 Inv-loop μ-loop
 mul-t18 c = search needs
@@ -109,7 +126,9 @@ returns-2 c =
     let a = start .args in
     let u : List ℕ = unpack (a .s .now) in
     let e : p .i * 8 + (a .n - p .i * 8) ≡ a .n = omega arith in
-    let z : ones (drop (p .i * 8 + (a .n - p .i * 8)) u) ≡ 0 = ap (λ (k : ℕ). ones (drop k u)) e ∙ blank-ones (drop (a .n) u) (fits-blank (a .n) (a .s .now) (start .pre .0 .1 .0)) in
+    let z : ones (drop (p .i * 8 + (a .n - p .i * 8)) u) ≡ 0 =
+    ap (λ (k : ℕ). ones (drop k u)) e
+    ∙ blank-ones (drop (a .n) u) (fits-blank (a .n) (a .s .now) (start .pre .0 .1 .0)) in
     record {
       small = omega arith;
       inside = omega arith;

@@ -1,5 +1,5 @@
--- `vt::find_place` meets its contract. The loop's invariant: r ones are left, and from here on a bit that adds t has a place.
--- Assumes nothing.
+-- `vt::find_place` meets its contract. The loop's invariant: r ones are left, and from here on a bit that adds t has a
+-- place. Assumes nothing.
 use borrow.Author.Needs.{needs}
 use Prim.Native.Nat.{ℕ, _+_, _-_, _≤_}
 use mathlib.Core.Path.{_≡_, refl, _∙_}
@@ -16,7 +16,8 @@ use Rattle.vt.proofs.find_place.Tie as tie
 
 abbrev Inv-loop : tie.InvT-loop
 Inv-loop bits before behind t count r₀ j₀ r j =
-    (j ≤ length bits) × ((r ≤ length bits + behind) × ((r ≡ ones (drop j bits) + behind) × Reach (before + j + 1) t r (before + length bits + 1 + behind)))
+    (j ≤ length bits) × ((r ≤ length bits + behind)
+    × ((r ≡ ones (drop j bits) + behind) × Reach (before + j + 1) t r (before + length bits + 1 + behind)))
 
 abbrev μ-loop : tie.MeasureT-loop
 μ-loop bits before behind t count r₀ j₀ r j = length bits - j
@@ -74,9 +75,11 @@ loop-again c =
     let a = start .args in
     let i : ℕ = a .before + p .j + 1 in
     let b : ℕ = getD x (p .j) 0 in
-    let n : p .r ≡ b + ones (drop (p .j + 1) x) + a .behind = omega (arith, p .inv .1 .1 .0, ones-next x (p .j) (omega arith)) in
+    let n : p .r ≡ b + ones (drop (p .j + 1) x) + a .behind =
+    omega (arith, p .inv .1 .1 .0, ones-next x (p .j) (omega arith)) in
     let far = reach-next i (a .before + (p .j + 1) + 1) (a .t) b (p .r) (p .r - b) (a .before + length x + 1 + a .behind)
-    (bit-at x (start .pre .0 .0 .0) (p .j)) (omega arith) (omega arith) (c .before .before .if1 .left) (c .before .if2 .left) (p .inv .1 .1 .1) in
+    (bit-at x (start .pre .0 .0 .0) (p .j)) (omega arith) (omega arith) (c .before .before .if1 .left)
+    (c .before .if2 .left) (p .inv .1 .1 .1) in
     (omega arith, (omega arith, (omega arith, far)))
 
 -- behind the last bit the ones left are those behind the part

@@ -23,8 +23,10 @@ rem-result-2 c = search needs
 
 returns : tie.Need-returns
 returns c =
-    let a = c .args in
-    (lack-small (a .total) (a .s) (a .w + 1) (a .w) (omega arith) (omega arith), lack (a .total) (a .s) (a .w + 1) (omega arith))
+    let a = c .args in (
+      lack-small (a .total) (a .s) (a .w + 1) (a .w) (omega arith) (omega arith),
+      lack (a .total) (a .s) (a .w + 1) (omega arith),
+    )
 
 pub lacking-spec : {M : Type 1} → statement M
 lacking-spec = tie.close (tie.spec add-m add-result rem-result sub-result rem-result-2 returns)

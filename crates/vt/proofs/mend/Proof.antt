@@ -1,4 +1,5 @@
--- `vt::mend` meets its contract: the answer is that of `check`, and the target is written where no check applies. Assumes nothing.
+-- `vt::mend` meets its contract: the answer is that of `check`, and the target is written where no check applies.
+-- Assumes nothing.
 use borrow.Author.Needs.{needs}
 use mathlib.Core.Path.{_≡_}
 use lib.ListN.{length}
@@ -19,18 +20,24 @@ enum-told c = search needs
 
 -- the arm where `check` answers Done, and the function's entry seen from its answer
 abbrev Passed : Type 0
-Passed = lts.After-enum-told (check-reads.Asked, check-reads.Learnt, mend-packed-reads.Asked, mend-packed-reads.Learnt) reads.Pre reads.Post
+Passed =
+    lts.After-enum-told (check-reads.Asked, check-reads.Learnt, mend-packed-reads.Asked, mend-packed-reads.Learnt)
+    reads.Pre reads.Post
 
-abbrev start : lts.After-check (check-reads.Asked, check-reads.Learnt, mend-packed-reads.Asked, mend-packed-reads.Learnt) reads.Pre reads.Post
-    → lts.Start (check-reads.Asked, check-reads.Learnt, mend-packed-reads.Asked, mend-packed-reads.Learnt) reads.Pre reads.Post
+abbrev start : lts.After-check
+    (check-reads.Asked, check-reads.Learnt, mend-packed-reads.Asked, mend-packed-reads.Learnt) reads.Pre reads.Post
+    → lts.Start (check-reads.Asked, check-reads.Learnt, mend-packed-reads.Asked, mend-packed-reads.Learnt) reads.Pre
+    reads.Post
 start c = c .before .before .before
 
 -- no check applies there
-passed : (c : Passed) → let a = start (c .before .before) .args in mendRefusal (a .w) (a .s) (a .bits .now) (length (a .out .now)) ≡ 0
+passed : (c : Passed) → let a = start (c .before .before) .args in
+    mendRefusal (a .w) (a .s) (a .bits .now) (length (a .out .now)) ≡ 0
 passed c =
     let k = c .before .before in
     let a = start k .args in
-    done-number (k .check .result) (mendRefusal (a .w) (a .s) (a .bits .now) (length (a .out .now))) (c .enum-told .given .1) (k .check .ensures)
+    done-number (k .check .result) (mendRefusal (a .w) (a .s) (a .bits .now) (length (a .out .now)))
+    (c .enum-told .given .1) (k .check .ensures)
 
 mend-packed-requires : tie.Need-mend-packed-requires
 mend-packed-requires c κs =
@@ -48,15 +55,19 @@ returns c =
     let m = c .before .before .mend-packed in
     let p = c .before .before .before .before in
     let k = p .before .before in
-    let a = start k .args in
-    (k .check .ensures, target-done (a .w) (a .s) (a .bits .now) (a .out .now) (m .last .1 .1 .1 .0) (passed p) (m .ensures))
+    let a = start k .args in (
+      k .check .ensures,
+      target-done (a .w) (a .s) (a .bits .now) (a .out .now) (m .last .1 .1 .1 .0) (passed p) (m .ensures),
+    )
 
 returns-2 : tie.Need-returns-2
 returns-2 c =
     let k = c .before .before in
     let a = start k .args in
     let q = c .enum-told2 .given .0 .0 in
-    let n = refused-number (k .check .result) q (mendRefusal (a .w) (a .s) (a .bits .now) (length (a .out .now))) (c .enum-told2 .given .1) (k .check .ensures) in
+    let n =
+    refused-number (k .check .result) q (mendRefusal (a .w) (a .s) (a .bits .now) (length (a .out .now)))
+    (c .enum-told2 .given .1) (k .check .ensures) in
     (k .check .ensures, target-refused (a .w) (a .s) (a .bits .now) (a .out .now) q n)
 
 pub mend-spec : {M : Type 1} → statement M

@@ -1,4 +1,5 @@
--- `vt::mend_packed` meets its contract: the bit that is put in adds what the sum lacks, so the bytes are the mended string's. Assumes nothing.
+-- `vt::mend_packed` meets its contract: the bit that is put in adds what the sum lacks, so the bytes are the mended
+-- string's. Assumes nothing.
 use borrow.Author.Needs.{needs}
 use Prim.Native.Nat.{_+_, _-_, _/_, _≤_}
 use mathlib.Core.Path.{_≡_, ap, _∙_}
@@ -15,8 +16,10 @@ weights-requires c κs = search needs
 
 weigh-bytes-requires : tie.Need-weigh-bytes-requires
 weigh-bytes-requires c κs =
-    let start = c .before .before .before .before in
-    (c .before .weights .ensures, omega (arith, start .pre .0 .1, fits-length (start .args .w - 1) (start .args .bits .now) (start .pre .1 .1 .0)))
+    let start = c .before .before .before .before in (
+      c .before .weights .ensures,
+      omega (arith, start .pre .0 .1, fits-length (start .args .w - 1) (start .args .bits .now) (start .pre .1 .1 .0)),
+    )
 
 lacking-requires : tie.Need-lacking-requires
 lacking-requires c κs = search needs
@@ -31,8 +34,10 @@ entry c = c .before .before .before .before .before
 find-packed-requires : tie.Need-find-packed-requires
 find-packed-requires c κs =
     let b = c .before .before in
-    let start = entry b in
-    ((b .before .before .weights .ensures, (start .pre .1 .1 .0, omega (arith, start .pre .0 .0, start .pre .0 .1))), (b .weigh-bytes .ensures .1, omega (arith, c .before .lacking .ensures .0)))
+    let start = entry b in (
+      (b .before .before .weights .ensures, (start .pre .1 .1 .0, omega (arith, start .pre .0 .0, start .pre .0 .1))),
+      (b .weigh-bytes .ensures .1, omega (arith, c .before .lacking .ensures .0)),
+    )
 
 add-put-packed : tie.Need-add-put-packed
 add-put-packed c = search needs
@@ -61,7 +66,8 @@ returns c =
     let q = g .find-packed in
     k .put-packed .ensures
     ∙ ap (λ (l : List _). l ++ drop ((a .w + 7) / 8) (a .out .now))
-    (put-mended (a .w) (a .s) (a .bits .now) (length (a .out .now)) (start .pre) (q .result .at) (q .result .bit) (n .lacking .result) (q .ensures .0 .0) (q .ensures .0 .1) (q .ensures .1)
+    (put-mended (a .w) (a .s) (a .bits .now) (length (a .out .now)) (start .pre) (q .result .at) (q .result .bit)
+    (n .lacking .result) (q .ensures .0 .0) (q .ensures .0 .1) (q .ensures .1)
     (rw (b .weigh-bytes .ensures .0) at (n .lacking .ensures .1)))
 
 pub mend-packed-spec : {M : Type 1} → statement M

@@ -1,4 +1,5 @@
--- `vt::move_on` meets its contract. The loop's invariant: the bytes from the first one up to i are written. Assumes nothing.
+-- `vt::move_on` meets its contract. The loop's invariant: the bytes from the first one up to i are written. Assumes
+-- nothing.
 use borrow.Author.Needs.{needs}
 use Prim.Native.Nat.{ℕ, _+_, _-_, _*_, _/_, _%_, _<_, _≤_}
 use mathlib.Core.Path.{_≡_, refl, sym, ap, _∙_}
@@ -14,7 +15,8 @@ use Rattle.vt.proofs.move_on.Tie as tie
 
 abbrev Inv-loop : tie.InvT-loop
 Inv-loop s from count out₀ i₀ out i =
-    ((from ≤ i) × (i ≤ count)) × ((length out ≡ length out₀) × (out ≡ paste out₀ from (drop from (bytes count (0 ∷ unpack s))) (i - from)))
+    ((from ≤ i) × (i ≤ count))
+    × ((length out ≡ length out₀) × (out ≡ paste out₀ from (drop from (bytes count (0 ∷ unpack s))) (i - from)))
 
 abbrev μ-loop : tie.MeasureT-loop
 μ-loop s from count out₀ i₀ out i = length s - i
@@ -22,8 +24,10 @@ abbrev μ-loop : tie.MeasureT-loop
 loop-holds : tie.Need-loop-holds Inv-loop μ-loop
 loop-holds c =
     let a = c .args in
-    let z : a .from - a .from ≡ 0 = omega arith in
-    ((omega arith, c .pre .0 .1 .0), (refl, rw z (paste-zero (a .out .now) (a .from) (drop (a .from) (bytes (a .count) (0 ∷ unpack (a .s .now)))))))
+    let z : a .from - a .from ≡ 0 = omega arith in (
+      (omega arith, c .pre .0 .1 .0),
+      (refl, rw z (paste-zero (a .out .now) (a .from) (drop (a .from) (bytes (a .count) (0 ∷ unpack (a .s .now)))))),
+    )
 
 sub-out : tie.Need-sub-out Inv-loop μ-loop
 sub-out c = search needs
@@ -59,7 +63,8 @@ loop-again c =
       (omega arith, omega arith),
       (
         simp length-set (p .inv .1 .0),
-        moved-next s (a .out .now) (a .from) (a .count) (start .pre .0 .0) (start .pre .1 .1) b (p .out) (p .i) _ (p .inv .0 .0) (omega arith) refl (p .inv .1 .1),
+        moved-next s (a .out .now) (a .from) (a .count) (start .pre .0 .0) (start .pre .1 .1) b (p .out) (p .i) _
+            (p .inv .0 .0) (omega arith) refl (p .inv .1 .1),
       ),
     )
 
@@ -86,8 +91,10 @@ returns c =
     let s : List ℕ = a .s .now in
     let b : AllBytes s = bytes-of-each s (λ j. omega (arith, c .shared-slice-known3 .given j)) in
     let z : getD s (p .i) 0 ≡ 0 = List·getD-eq-default s 0 (omega arith) in
-    moved-all s (a .out .now) (a .from) (a .count) (start .pre .0 .0) (start .pre .1 .1) _ (p .i + 1) (start .pre .0 .1 .0) (omega arith)
-    (moved-next s (a .out .now) (a .from) (a .count) (start .pre .0 .0) (start .pre .1 .1) b (p .out) (p .i) _ (p .inv .0 .0) (c .before .if1 .taken) (omega (arith, z)) (p .inv .1 .1))
+    moved-all s (a .out .now) (a .from) (a .count) (start .pre .0 .0) (start .pre .1 .1) _ (p .i + 1)
+    (start .pre .0 .1 .0) (omega arith)
+    (moved-next s (a .out .now) (a .from) (a .count) (start .pre .0 .0) (start .pre .1 .1) b (p .out) (p .i) _
+    (p .inv .0 .0) (c .before .if1 .taken) (omega (arith, z)) (p .inv .1 .1))
 
 same-length-2 : tie.Need-same-length-2 Inv-loop μ-loop
 same-length-2 c = search needs
@@ -97,7 +104,8 @@ returns-2 c =
     let start = c .before .before .before in
     let a = start .args in
     let p = c .before .before .loop in
-    moved-all (a .s .now) (a .out .now) (a .from) (a .count) (start .pre .0 .0) (start .pre .1 .1) _ (p .i) (start .pre .0 .1 .0) (omega (arith, p .inv .0 .1)) (p .inv .1 .1)
+    moved-all (a .s .now) (a .out .now) (a .from) (a .count) (start .pre .0 .0) (start .pre .1 .1) _ (p .i)
+    (start .pre .0 .1 .0) (omega (arith, p .inv .0 .1)) (p .inv .1 .1)
 
 pub move-on-spec : {M : Type 1} → statement M
 move-on-spec =

@@ -1,4 +1,5 @@
--- `vt::put_in` meets its contract: the part before the bit, the bit, and the part behind it stand in the slice. Assumes nothing.
+-- `vt::put_in` meets its contract: the part before the bit, the bit, and the part behind it stand in the slice. Assumes
+-- nothing.
 use borrow.Author.Needs.{needs}
 use mathlib.Core.Path.{_≡_}
 use mathlib.Core.List.{_++_}
@@ -42,7 +43,8 @@ abbrev start : Half → tie.Start
 start c = c .before .before .before .before .before
 
 -- the slice there
-half : (c : Half) → let a = start c .args in c .copy-to .last .1 .0 ≡ take (a .at) (a .bits .now) ++ drop (a .at) (a .out .now)
+half : (c : Half) → let a = start c .args in
+    c .copy-to .last .1 .0 ≡ take (a .at) (a .bits .now) ++ drop (a .at) (a .out .now)
 half c =
     let a = start c .args in
     first-part (a .bits .now) (a .out .now) (a .at) (start c .pre .0) (c .copy-to .last .1 .0) (c .copy-to .ensures)
@@ -51,21 +53,24 @@ copy-to-requires-2 : tie.Need-copy-to-requires-2
 copy-to-requires-2 c κs =
     let h = c .before .before .before .before in
     let a = start h .args in
-    room (a .bits .now) (a .out .now) (a .at) (a .bit) (start h .pre .0) (start h .pre .1) (h .copy-to .last .1 .0) (half h)
+    room (a .bits .now) (a .out .now) (a .at) (a .bit) (start h .pre .0) (start h .pre .1) (h .copy-to .last .1 .0)
+    (half h)
 
 returns : tie.Need-returns
 returns c =
     let e = c .before .before in
     let h = e .before .before .before .before .before in
     let a = start h .args in
-    second-part (a .bits .now) (a .out .now) (a .at) (a .bit) (start h .pre .0) (start h .pre .1) (h .copy-to .last .1 .0) (e .copy-to2 .last .1 .0) (half h) (e .copy-to2 .ensures)
+    second-part (a .bits .now) (a .out .now) (a .at) (a .bit) (start h .pre .0) (start h .pre .1)
+    (h .copy-to .last .1 .0) (e .copy-to2 .last .1 .0) (half h) (e .copy-to2 .ensures)
 
 same-length : tie.Need-same-length
 same-length c =
     let e = c .before .before in
     let h = e .before .before .before .before .before in
     let a = start h .args in
-    whole-length (a .bits .now) (a .out .now) (a .at) (a .bit) (start h .pre .0) (start h .pre .1) (e .copy-to2 .last .1 .0) (returns c)
+    whole-length (a .bits .now) (a .out .now) (a .at) (a .bit) (start h .pre .0) (start h .pre .1)
+    (e .copy-to2 .last .1 .0) (returns c)
 
 pub put-in-spec : {M : Type 1} → statement M
 put-in-spec =

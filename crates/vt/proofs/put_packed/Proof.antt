@@ -29,7 +29,8 @@ abbrev start : tie.After-copy-to → tie.Start
 start c = c .before .before .before .before .before
 
 -- the slice after the copy
-half : (c : tie.After-copy-to) → let a = start c .args in c .copy-to .last .1 .0 ≡ take (a .at / 8) (a .s .now) ++ drop (a .at / 8) (a .out .now)
+half : (c : tie.After-copy-to) → let a = start c .args in
+    c .copy-to .last .1 .0 ≡ take (a .at / 8) (a .s .now) ++ drop (a .at / 8) (a .out .now)
 half c =
     let a = start c .args in
     first-part (a .s .now) (a .out .now) (a .at / 8) (omega arith) (c .copy-to .last .1 .0) (c .copy-to .ensures)
@@ -51,8 +52,11 @@ move-on-requires c κs =
     let k = c .before .before .before .before .before in
     let a = start k .args in
     let r = start k .pre .1 in
-    let n = first-length (a .s .now) (a .out .now) (a .at / 8) (omega arith) (omega arith) (k .copy-to .last .1 .0) (half k) in
-    ((omega arith, (omega (arith, r .0 .0), r .0 .1)), (r .1 .0, omega (arith, length-set (k .copy-to .last .1 .0) (a .at / 8) (c .before .with-bit .result), r .1 .1)))
+    let n =
+    first-length (a .s .now) (a .out .now) (a .at / 8) (omega arith) (omega arith) (k .copy-to .last .1 .0) (half k) in (
+      (omega arith, (omega (arith, r .0 .0), r .0 .1)),
+      (r .1 .0, omega (arith, length-set (k .copy-to .last .1 .0) (a .at / 8) (c .before .with-bit .result), r .1 .1)),
+    )
 
 returns : tie.Need-returns
 returns c =
@@ -62,13 +66,19 @@ returns c =
     let a = start k .args in
     let r = start k .pre .1 in
     let s : List ℕ = a .s .now in
-    let b : AllBytes s = bytes-of-each s (λ j. omega (arith, k .before .before .before .before .shared-slice-known .given j)) in
+    let b : AllBytes s =
+    bytes-of-each s (λ j. omega (arith, k .before .before .before .before .shared-slice-known .given j)) in
     let f : ℕ = a .at / 8 in
     let h : f ≤ length s = omega arith in
     let l : f < length (a .out .now) = omega arith in
     m .move-on .ensures
-    ∙ rw (bit-front s (a .out .now) f (w .with-bit .result) h l (k .copy-to .last .1 .0) (half k), bit-back s (a .out .now) f (w .with-bit .result) (a .count) h l (k .copy-to .last .1 .0) (half k) (r .0 .0))
-    (ap (λ (z : List ℕ). z ++ drop (a .count) (a .out .now)) (put-bytes s b (a .at) (a .bit) (a .count) (start k .pre .0 .0) (r .0 .0) (w .with-bit .result) (rw (w .before .byte-at .ensures .0) at (w .with-bit .ensures))))
+    ∙ rw (
+      bit-front s (a .out .now) f (w .with-bit .result) h l (k .copy-to .last .1 .0) (half k),
+      bit-back s (a .out .now) f (w .with-bit .result) (a .count) h l (k .copy-to .last .1 .0) (half k) (r .0 .0),
+    )
+    (ap (λ (z : List ℕ). z ++ drop (a .count) (a .out .now))
+    (put-bytes s b (a .at) (a .bit) (a .count) (start k .pre .0 .0) (r .0 .0) (w .with-bit .result)
+    (rw (w .before .byte-at .ensures .0) at (w .with-bit .ensures))))
 
 same-length : tie.Need-same-length
 same-length c =

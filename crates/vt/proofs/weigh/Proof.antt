@@ -1,4 +1,5 @@
--- `vt::weigh` meets its contract. The loop's invariant: what is found so far and what is left add up to the whole. Assumes nothing.
+-- `vt::weigh` meets its contract. The loop's invariant: what is found so far and what is left add up to the whole.
+-- Assumes nothing.
 use borrow.Author.Needs.{needs}
 use Prim.Native.Nat.{ℕ, _+_, _-_, _*_, _<_, _≤_}
 use mathlib.Core.Path.{_≡_}
@@ -17,7 +18,9 @@ use Rattle.vt.proofs.weigh.Tie as tie
 
 abbrev Inv-loop : tie.InvT-loop
 Inv-loop bits total₀ ones₀ i₀ total ones i =
-    (i ≤ length bits) × ((total ≤ 2040 * i) × ((ones ≤ i) × ((total + totalOf (i + 1) (drop i bits) ≡ totalOf 1 bits) × (ones + onesOf (drop i bits) ≡ onesOf bits))))
+    (i ≤ length bits) × ((total ≤ 2040 * i)
+    × ((ones ≤ i) × ((total + totalOf (i + 1) (drop i bits) ≡ totalOf 1 bits)
+    × (ones + onesOf (drop i bits) ≡ onesOf bits))))
 
 abbrev μ-loop : tie.MeasureT-loop
 μ-loop bits total₀ ones₀ i₀ total ones i = length bits - i
@@ -36,7 +39,8 @@ add-total c = search needs
 
 -- the bit that is read, and what it adds
 small : (c : lts.After-shared-slice-known reads.Pre reads.Post Inv-loop μ-loop)
-    → let b = getD (c .before .before .before .args .bits .now) (c .before .before .loop .i) 0 in (b < 2) × ((c .before .before .loop .i + 1) * b ≤ c .before .before .loop .i + 1)
+    → let b = getD (c .before .before .before .args .bits .now) (c .before .before .loop .i) 0 in
+    (b < 2) × ((c .before .before .loop .i + 1) * b ≤ c .before .before .loop .i + 1)
 small c =
     let start = c .before .before .before in
     let i : ℕ = c .before .before .loop .i in
@@ -63,8 +67,13 @@ loop-again c =
     let x : List ℕ = c .before .before .before .args .bits .now in
     let p = c .before .before .loop in
     let b = small c in
-    let h : p .i < length x = omega arith in
-    (omega arith, (omega (arith, b .1), (omega (arith, b .0), (omega (arith, total-next x (p .i) h), omega (arith, ones-next x (p .i) h)))))
+    let h : p .i < length x = omega arith in (
+      omega arith,
+      (
+        omega (arith, b .1),
+        (omega (arith, b .0), (omega (arith, total-next x (p .i) h), omega (arith, ones-next x (p .i) h))),
+      ),
+    )
 
 returns : tie.Need-returns Inv-loop μ-loop
 returns c =

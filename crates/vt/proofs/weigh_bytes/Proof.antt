@@ -1,4 +1,5 @@
--- `vt::weigh_bytes` meets its contract. The loop's invariant: what is found so far and what is left add up to the whole. Assumes nothing.
+-- `vt::weigh_bytes` meets its contract. The loop's invariant: what is found so far and what is left add up to the
+-- whole. Assumes nothing.
 use borrow.Author.Needs.{needs}
 use Prim.Native.Nat.{ℕ, _+_, _-_, _*_, _<_, _≤_}
 use mathlib.Core.Path.{_≡_}
@@ -18,7 +19,8 @@ use Rattle.vt.proofs.weigh_bytes.Tie as tie
 abbrev Inv-loop : tie.InvT-loop
 Inv-loop t s total₀ ones₀ i₀ total ones i =
     (i ≤ length s) × ((total ≤ 20000 * i) × ((ones ≤ 8 * i)
-    × ((total + totalOf (1 + i * 8) (drop (i * 8) (unpack s)) ≡ totalOf 1 (unpack s)) × (ones + onesOf (drop (i * 8) (unpack s)) ≡ onesOf (unpack s)))))
+    × ((total + totalOf (1 + i * 8) (drop (i * 8) (unpack s)) ≡ totalOf 1 (unpack s))
+    × (ones + onesOf (drop (i * 8) (unpack s)) ≡ onesOf (unpack s)))))
 
 abbrev μ-loop : tie.MeasureT-loop
 μ-loop t s total₀ ones₀ i₀ total ones i = length s - i
@@ -36,7 +38,8 @@ mul-total : tie.Need-mul-total Inv-loop μ-loop
 mul-total c = search needs
 
 -- what the byte adds is small
-small : (c : tie.After-weigh-byte Inv-loop μ-loop) → c .before .before .before .loop .i * 8 * c .weigh-byte .result .ones ≤ 255 * 8 * 8
+small : (c : tie.After-weigh-byte Inv-loop μ-loop)
+    → c .before .before .before .loop .i * 8 * c .weigh-byte .result .ones ≤ 255 * 8 * 8
 small c = mul-le-mul {n₂ = 255 * 8} {m₂ = 8} (omega arith) (omega arith)
 
 mul-total-2 : tie.Need-mul-total-2 Inv-loop μ-loop
@@ -64,8 +67,13 @@ loop-again c =
     let s : List ℕ = m .before .before .before .before .before .args .s .now in
     let h : p .i < length s = omega arith in
     let o = m .weigh-byte .ensures .1 .0 in
-    let t = m .weigh-byte .ensures .0 .0 in
-    (omega arith, (omega (arith, small m), (omega arith, (omega (arith, rw (← o, ← t) at (total-byte s (p .i) h)), omega (arith, ones-byte s (p .i) h)))))
+    let t = m .weigh-byte .ensures .0 .0 in (
+      omega arith,
+      (
+        omega (arith, small m),
+        (omega arith, (omega (arith, rw (← o, ← t) at (total-byte s (p .i) h)), omega (arith, ones-byte s (p .i) h))),
+      ),
+    )
 
 returns : tie.Need-returns Inv-loop μ-loop
 returns c =

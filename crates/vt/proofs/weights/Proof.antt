@@ -1,4 +1,5 @@
--- `vt::weights` meets its contract: the source's table is compared with the weights of all bytes, here alone. Assumes nothing.
+-- `vt::weights` meets its contract: the source's table is compared with the weights of all bytes, here alone. Assumes
+-- nothing.
 use mathlib.Core.Path.{refl}
 use Rattle.vt.specs.Weights.{weights}
 use Rattle.vt.proofs.weights.Statement.{statement}

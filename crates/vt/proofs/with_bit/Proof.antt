@@ -31,13 +31,16 @@ wide-requires : tie.Need-wide-requires
 wide-requires c κs = search needs
 
 -- the byte with the bit
-whole : (c : tie.After-wide) → let a = c .before .before .before .args in let h = c .before .before .power .result in let l = c .before .power2 .result in
-    (a .b / h * h + (c .wide .result * l + a .b / 2 % l) ≡ a .b / 2 ^ (8 - a .at) * 2 ^ (8 - a .at) + (a .bit * 2 ^ (7 - a .at) + a .b / 2 % 2 ^ (7 - a .at)))
+whole : (c : tie.After-wide) → let a = c .before .before .before .args in let h = c .before .before .power .result in
+    let l = c .before .power2 .result in
+    (a .b / h * h + (c .wide .result * l + a .b / 2 % l)
+    ≡ a .b / 2 ^ (8 - a .at) * 2 ^ (8 - a .at) + (a .bit * 2 ^ (7 - a .at) + a .b / 2 % 2 ^ (7 - a .at)))
     × (a .b / h * h + (c .wide .result * l + a .b / 2 % l) < 256)
 whole c =
     let p = c .before .before .before .pre in
     let a = c .before .before .before .args in
-    rw (c .wide .ensures, c .before .power2 .ensures, c .before .before .power .ensures) (refl, put-low (a .b) (a .at) (a .bit) (p .0) (p .1 .0) (p .1 .1))
+    rw (c .wide .ensures, c .before .power2 .ensures, c .before .before .power .ensures)
+    (refl, put-low (a .b) (a .at) (a .bit) (p .0) (p .1 .0) (p .1 .1))
 
 mul-v-2 : tie.Need-mul-v-2
 mul-v-2 c = record { fits = omega (arith, whole c .1) }

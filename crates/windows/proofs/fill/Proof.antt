@@ -1,5 +1,5 @@
--- `windows::fill` meets its contract. The loop's invariant: the tables are as long as they were, and filled up to place i. Assumes
--- nothing.
+-- `windows::fill` meets its contract. The loop's invariant: the tables are as long as they were, and filled up to place
+-- i. Assumes nothing.
 use borrow.Author.Needs.{needs}
 use Prim.Native.Nat.{ℕ, _+_, _-_, _*_, _<_, _≤_}
 use mathlib.Core.Path.{_≡_, refl, _∙_}
@@ -27,14 +27,16 @@ long p = let v = p .loop .inv in (v .1 .0 ∙ simp length-set, v .1 .1 .0 ∙ si
 -- a turn of the loop: the next bit, and how high the numbers at place i are
 turn : (p : tie.At-loop Inv-loop μ-loop) → let y = p .before .args .y .now in
     (getD y (p .loop .i) 0 < 2)
-    × ((getD (p .loop .totals) (p .loop .i) 0 ≤ p .loop .i * (longest + 1)) × (getD (p .loop .counts) (p .loop .i) 0 ≤ p .loop .i))
+    × ((getD (p .loop .totals) (p .loop .i) 0 ≤ p .loop .i * (longest + 1))
+    × (getD (p .loop .counts) (p .loop .i) 0 ≤ p .loop .i))
 turn p =
     let s = p .before in
     let v = p .loop .inv in
     (bit-at (s .args .y .now) (s .pre .0) (p .loop .i), filled-low (v .1 .1 .1) (s .pre .0) (s .pre .1 .0) (v .0))
 
 -- the next position, where its bit is a one
-rises : (p : tie.At-loop Inv-loop μ-loop) → (p .loop .i + 1) * getD (p .before .args .y .now) (p .loop .i) 0 ≤ p .loop .i + 1
+rises : (p : tie.At-loop Inv-loop μ-loop)
+    → (p .loop .i + 1) * getD (p .before .args .y .now) (p .loop .i) 0 ≤ p .loop .i + 1
 rises p = times-bit (p .loop .i + 1) (getD (p .before .args .y .now) (p .loop .i) 0) (turn p .0)
 
 slice-write-totals : tie.Need-slice-write-totals Inv-loop μ-loop
@@ -114,7 +116,8 @@ same-length-2 : tie.Need-same-length-2 Inv-loop μ-loop
 same-length-2 c = long (c .before) .1
 
 returns : tie.Need-returns Inv-loop μ-loop
-returns c = let w = long (c .before) in filled-tables (c .before .loop .inv .1 .1 .1) (omega arith) (omega arith) (omega arith)
+returns c = let w = long (c .before) in
+    filled-tables (c .before .loop .inv .1 .1 .1) (omega arith) (omega arith) (omega arith)
 
 pub fill-spec : {M : Type 1} → statement M
 fill-spec =

@@ -1,5 +1,5 @@
--- `windows::window_sum` meets its contract: what the tables give for the next w bits is their sum, and every number on the way fits.
--- Assumes nothing.
+-- `windows::window_sum` meets its contract: what the tables give for the next w bits is their sum, and every number on
+-- the way fits. Assumes nothing.
 use borrow.Author.Needs.{needs}
 use Prim.Native.Nat.{_≤_}
 use native.Mathlib.Nat.{mul-le-mul-left}

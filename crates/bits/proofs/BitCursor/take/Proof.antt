@@ -1,5 +1,5 @@
--- `bits::BitCursor::take` meets its contract: of fewer than four bytes the field is a span of the first four, past the end
--- of which stands 0. Assumes nothing.
+-- `bits::BitCursor::take` meets its contract: of fewer than four bytes the field is a span of the first four, past the
+-- end of which stands 0. Assumes nothing.
 use borrow.Author.Needs.{needs}
 use Prim.Native.Nat.{ℕ, _+_, _-_}
 use mathlib.Core.Path.{_∙_}
@@ -33,7 +33,8 @@ returns-2 c =
     let a = c .before .before .before .before .before .args in
     let behind : ℕ = 32 - (a .self .at + a .k) in
     let is =
-    number-in-four 0 (a .self .at) (a .k) behind (unpack (a .s .now)) (bits-unpack (a .s .now)) (omega arith) (omega arith) in
+    number-in-four 0 (a .self .at) (a .k) behind (unpack (a .s .now)) (bits-unpack (a .s .now)) (omega arith)
+    (omega arith) in
     (c .cut .ensures .0 ∙ rw (c .before .first-bytes .ensures .0) is, c .cut .ensures .1)
 
 pub take-spec : {M : Type 1} → statement M

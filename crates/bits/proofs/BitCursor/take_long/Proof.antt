@@ -36,7 +36,8 @@ returns c =
     let i : ℕ = c .before .before .start-of .result in
     let behind : ℕ = (i + 4) * 8 - (a .self .at + a .k) in
     let is =
-    number-in-four i (a .self .at) (a .k) behind (unpack (a .s .now)) (bits-unpack (a .s .now)) (omega arith) (omega arith) in
+    number-in-four i (a .self .at) (a .k) behind (unpack (a .s .now)) (bits-unpack (a .s .now)) (omega arith)
+    (omega arith) in
     (c .cut .ensures .0 ∙ rw (c .before .four-bytes .ensures .0) is, c .cut .ensures .1)
 
 pub take-long-spec : {M : Type 1} → statement M

@@ -1,4 +1,5 @@
--- `bits::Filler::end` meets its contract: the whole bytes, and a byte with the last bits behind them, are the bits packed. Assumes nothing.
+-- `bits::Filler::end` meets its contract: the whole bytes, and a byte with the last bits behind them, are the bits
+-- packed. Assumes nothing.
 use borrow.Author.Needs.{needs}
 use Prim.Native.Nat.{_+_, _-_, _*_, _^_, _<_}
 use mathlib.Core.Path.{_≡_}
@@ -23,7 +24,8 @@ byte-low c =
     let s = c .before .before .before in
     let f = s .args .self in
     let n : f .count + (8 - f .count) ≡ 8 = omega (arith, s .pre .0 .0) in
-    let low : f .held * 2 ^ (8 - f .count) < 2 ^ (f .count + (8 - f .count)) = shl-lt (f .count) (8 - f .count) (s .pre .0 .1) in
+    let low : f .held * 2 ^ (8 - f .count) < 2 ^ (f .count + (8 - f .count)) =
+    shl-lt (f .count) (8 - f .count) (s .pre .0 .1) in
     rw (c .power .ensures) (rw n at low)
 
 mul-out : tie.Need-mul-out
@@ -46,7 +48,10 @@ returns c =
     let o = s .args .out .now in
     let each : AllBytes o = bytes-of-each o (λ j. omega (arith, w .before .before .slice-known .given j)) in
     let last : f .held * 2 ^ (8 - f .count) < 256 = rw (w .power .ensures) at (byte-low w) in
-    rw (w .power .ensures) (end-part o (f .at) (f .count) (f .held) (bytes-snoc (take (f .at) o) (f .held * 2 ^ (8 - f .count)) (bytes-take (f .at) o each) last) (omega arith) (omega arith) (s .pre .0 .0))
+    rw (w .power .ensures)
+    (end-part o (f .at) (f .count) (f .held)
+    (bytes-snoc (take (f .at) o) (f .held * 2 ^ (8 - f .count)) (bytes-take (f .at) o each) last) (omega arith)
+    (omega arith) (s .pre .0 .0))
 
 returns-2 : tie.Need-returns-2
 returns-2 c =

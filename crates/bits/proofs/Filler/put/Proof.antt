@@ -1,4 +1,5 @@
--- `bits::Filler::put` meets its contract. The loop's invariant: the whole bytes and the digits that are left are all bits. Assumes nothing.
+-- `bits::Filler::put` meets its contract. The loop's invariant: the whole bytes and the digits that are left are all
+-- bits. Assumes nothing.
 use borrow.Author.Needs.{needs}
 use Prim.Native.Nat.{ℕ, _+_, _*_, _%_, _^_, _<_, _≤_}
 use mathlib.Core.Path.{_≡_, refl, sym, ap, _∙_}
@@ -20,7 +21,8 @@ use Rattle.bits.proofs.power.Reads as power-reads
 abbrev Inv-loop : tie.InvT-loop
 Inv-loop out₀ k v size all at₀ count₀ out at count =
     ((length out ≡ length out₀) × ((at * 8 + count ≡ at₀ * 8 + count₀) × (count ≤ 23)))
-    × ((unpack (take at out) ++ digits count all ≡ unpack (take at₀ out₀) ++ digits count₀ all) × (drop at out ≡ drop at out₀))
+    × ((unpack (take at out) ++ digits count all ≡ unpack (take at₀ out₀) ++ digits count₀ all)
+    × (drop at out ≡ drop at out₀))
 
 abbrev μ-loop : tie.MeasureT-loop
 μ-loop out₀ k v size all at₀ count₀ out at count = count
@@ -30,7 +32,8 @@ size-is : (c : tie.After-power Inv-loop μ-loop) → c .power .result ≡ 2 ^ c 
 size-is c = c .power .ensures
 
 few : (c : tie.After-power Inv-loop μ-loop)
-    → (c .before .before .args .self .held * c .power .result ≤ 128 * 65536) × ((1 ≤ c .power .result) × (c .power .result ≤ 65536))
+    → (c .before .before .args .self .held * c .power .result ≤ 128 * 65536)
+    × ((1 ≤ c .power .result) × (c .power .result ≤ 65536))
 few c =
     let s = c .before .before in
     let a = s .args in
@@ -50,7 +53,14 @@ rem-all : tie.Need-rem-all Inv-loop μ-loop
 rem-all c = omega (arith, few (c .before) .1 .0)
 
 add-all : tie.Need-add-all Inv-loop μ-loop
-add-all c = record { fits = omega (arith, few (c .before), mod-lt (c .before .before .before .args .v) {m = c .before .power .result} (few (c .before) .1 .0)) }
+add-all c =
+    record {
+      fits = omega (
+        arith,
+        few (c .before),
+        mod-lt (c .before .before .before .args .v) {m = c .before .power .result} (few (c .before) .1 .0),
+      );
+    }
 
 add-count : tie.Need-add-count Inv-loop μ-loop
 add-count c = record { fits = omega (arith, c .before .before .before .before .pre .0) }
@@ -65,7 +75,8 @@ cast-out : tie.Need-cast-out Inv-loop μ-loop
 cast-out c = record { fits = omega arith }
 
 slice-write-out : tie.Need-slice-write-out Inv-loop μ-loop
-slice-write-out c = omega (arith, c .before .loop .inv .0, c .loop-test .taken, c .before .before .before .before .before .before .pre .1)
+slice-write-out c =
+    omega (arith, c .before .loop .inv .0, c .loop-test .taken, c .before .before .before .before .before .before .pre .1)
 
 add-at : tie.Need-add-at Inv-loop μ-loop
 add-at c = search needs
@@ -85,7 +96,8 @@ loop-again c =
       (simp length-set (i .0 .0), (omega (arith, i .0 .1, c .loop-test .taken), omega (arith, i .0 .1))),
       (
         byte-out (p .out) (p .at) (p .count) all inside (c .loop-test .taken) ∙ i .1 .0,
-        drop-set-lt (p .at + 1) (p .out) (p .at) _ (omega arith) ∙ sym (drop-drop 1 (p .at) (p .out)) ∙ one ∙ drop-drop 1 (p .at) (s .args .out .now),
+        drop-set-lt (p .at + 1) (p .out) (p .at) _ (omega arith) ∙ sym (drop-drop 1 (p .at) (p .out)) ∙ one
+            ∙ drop-drop 1 (p .at) (s .args .out .now),
       ),
     )
 
@@ -107,14 +119,18 @@ returns c =
     let i = p .inv in
     let all : ℕ = a .self .held * w .power .result + a .v % w .power .result in
     let kept = ap (λ (m : ℕ). digits (p .count) (all % m)) (c .power2 .ensures) ∙ digits-low (p .count) all in
-    let joined = ap (λ (m : ℕ). digits (a .self .count + a .k) (a .self .held * m + a .v % m)) (size-is w) ∙ digits-join (a .self .count) (a .self .held) (a .k) (a .v) in
-    let low : all % c .power2 .result < c .power2 .result = mod-lt all (omega (arith, c .power2 .ensures, pow-pos (p .count))) in
+    let joined =
+    ap (λ (m : ℕ). digits (a .self .count + a .k) (a .self .held * m + a .v % m)) (size-is w)
+    ∙ digits-join (a .self .count) (a .self .held) (a .k) (a .v) in
+    let low : all % c .power2 .result < c .power2 .result =
+    mod-lt all (omega (arith, c .power2 .ensures, pow-pos (p .count))) in
     record {
       ready = (omega (arith, c .before .loop-test .left), omega (arith, c .power2 .ensures));
       place = omega (arith, i .0 .1, length-digits (a .k) (a .v));
       taken = ap (λ (x : List ℕ). unpack (take (p .at) (p .out)) ++ x) kept ∙ i .1 .0
           ∙ ap (λ (x : List ℕ). unpack (take (a .self .at) (a .out .now)) ++ x) joined
-          ∙ sym (append-assoc (unpack (take (a .self .at) (a .out .now))) (digits (a .self .count) (a .self .held)) (digits (a .k) (a .v)));
+          ∙ sym (append-assoc (unpack (take (a .self .at) (a .out .now))) (digits (a .self .count) (a .self .held))
+          (digits (a .k) (a .v)));
       rest = i .1 .1;
       long = i .0 .0;
     }

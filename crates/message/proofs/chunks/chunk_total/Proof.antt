@@ -1,4 +1,5 @@
--- `message::chunks::chunk_total` meets its contract: what the table says of the byte, moved to the chunk's place. Assumes nothing.
+-- `message::chunks::chunk_total` meets its contract: what the table says of the byte, moved to the chunk's place.
+-- Assumes nothing.
 use borrow.Author.Needs.{needs}
 use Prim.Native.Nat.{_+_, _-_, _*_, _≤_}
 use mathlib.Core.Path.{_≡_, ap, _∙_}
@@ -15,12 +16,16 @@ weigh-byte-requires c κs = search needs
 
 -- the two products are small, and the difference is the total
 small : (c : tie.After-weigh-byte) → let a = c .before .args in let w = c .weigh-byte .result in
-    ((a .first * w .ones ≤ 2041 * 8) × ((9 - a .nc) * w .ones ≤ 9 * 8)) × (w .total + a .first * w .ones ≡ total (a .first) (digits (a .nc) (a .v)) + (9 - a .nc) * w .ones)
+    ((a .first * w .ones ≤ 2041 * 8) × ((9 - a .nc) * w .ones ≤ 9 * 8))
+    × (w .total + a .first * w .ones ≡ total (a .first) (digits (a .nc) (a .v)) + (9 - a .nc) * w .ones)
 small c =
     let a = c .before .args in
     let p = c .before .pre in
     let e = c .weigh-byte .ensures in (
-      (mul-le-mul {n₂ = 2041} {m₂ = 8} (omega (arith, p .1 .1 .1)) (e .1 .1), mul-le-mul {n₂ = 9} {m₂ = 8} (omega arith) (e .1 .1)),
+      (
+        mul-le-mul {n₂ = 2041} {m₂ = 8} (omega (arith, p .1 .1 .1)) (e .1 .1),
+        mul-le-mul {n₂ = 9} {m₂ = 8} (omega arith) (e .1 .1),
+      ),
       rw (e .0 .0, e .1 .0) (chunk-adds (a .nc) (a .v) (a .first) (p .0 .1) (p .1 .0) (p .1 .1 .0)),
     )
 
@@ -28,7 +33,8 @@ mul-result : tie.Need-mul-result
 mul-result c = record { fits = omega (arith, small (c .before) .0 .0) }
 
 add-result : tie.Need-add-result
-add-result c = record { fits = omega (arith, small (c .before .before) .0 .0, c .before .before .weigh-byte .ensures .0 .1) }
+add-result c =
+    record { fits = omega (arith, small (c .before .before) .0 .0, c .before .before .weigh-byte .ensures .0 .1) }
 
 sub-result : tie.Need-sub-result
 sub-result c = search needs

@@ -24,13 +24,14 @@ bounds c = legal-bounds (named c) (c .pre .0)
 returns : tie.Need-returns
 returns c =
     let s = c .before .before .before in
-    checks-are (named s) (s .args .chunks .now) (s .args .out .now) (s .pre .1 .0) (s .pre .1 .1) (λ i h. absurd (omega arith))
+    checks-are (named s) (s .args .chunks .now) (s .args .out .now) (s .pre .1 .0) (s .pre .1 .1)
+    (λ i h. absurd (omega arith))
 
-slice-aggregate-fill-elements : tie.Need-slice-aggregate-fill-elements
-slice-aggregate-fill-elements c = search needs
+slice-aggregate-fill-powers : tie.Need-slice-aggregate-fill-powers
+slice-aggregate-fill-powers c = search needs
 
-fill-elements-requires : tie.Need-fill-elements-requires
-fill-elements-requires c κs =
+fill-powers-requires : tie.Need-fill-powers-requires
+fill-powers-requires c κs =
     let s = c .before .before .before .before in
     let b = bounds s in
     (b .nc-low, b .nc-high, size-high (s .args .nc) (b .nc-high))
@@ -38,18 +39,18 @@ fill-elements-requires c κs =
 slice-aggregate-fill-logs : tie.Need-slice-aggregate-fill-logs
 slice-aggregate-fill-logs c = search needs
 
--- where the function starts, and what each exponent names, seen from where the logs are made room for
+-- where the function starts, and the powers, seen from where the logs are made room for
 abbrev start : tie.After-logs → tie.Start
 start c = c .before .before .before .before .before .before .before .before
 
-abbrev filled : tie.After-logs → tie.After-fill-elements
+abbrev filled : tie.After-logs → tie.After-fill-powers
 filled c = c .before .before .before
 
 fill-logs-requires : tie.Need-fill-logs-requires
 fill-logs-requires c κs =
     let s = start c in
     let b = bounds s in
-    (b .nc-low, b .nc-high, filled c .fill-elements .ensures, size-high (s .args .nc) (b .nc-high))
+    (b .nc-low, b .nc-high, filled c .fill-powers .ensures, size-high (s .args .nc) (b .nc-high))
 
 slice-aggregate-checks : tie.Need-slice-aggregate-checks
 slice-aggregate-checks c = search needs
@@ -59,7 +60,7 @@ checks-requires c κs =
     let k = c .before .before .before .before in
     let s = start (k .before) in
     let b = bounds s in (
-      (b .nc-low, b .nc-high, filled (k .before) .fill-elements .ensures, k .fill-logs .ensures .1, s .pre .1 .0 .1),
+      (b .nc-low, b .nc-high, filled (k .before) .fill-powers .ensures, k .fill-logs .ensures .1, s .pre .1 .0 .1),
       (omega (arith, s .pre .1 .0 .0, b .chunks-high, size-low (s .args .nc) (b .nc-low)), s .pre .1 .1),
     )
 
@@ -79,8 +80,8 @@ fill-checks-spec =
     tie.close
     (tie.spec
     returns
-    slice-aggregate-fill-elements
-    fill-elements-requires
+    slice-aggregate-fill-powers
+    fill-powers-requires
     slice-aggregate-fill-logs
     fill-logs-requires
     slice-aggregate-checks

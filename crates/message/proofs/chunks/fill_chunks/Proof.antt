@@ -1,5 +1,5 @@
--- `message::chunks::fill_chunks` meets its contract. The loop's invariant: the slice starts with the numbers of the first i chunks.
--- Assumes nothing.
+-- `message::chunks::fill_chunks` meets its contract. The loop's invariant: the slice starts with the numbers of the
+-- first i chunks. Assumes nothing.
 use borrow.Author.Needs.{needs}
 use Prim.Native.Nat.{ℕ, _+_, _-_, _*_, _≤_}
 use mathlib.Core.Path.{_≡_, refl, sym, _∙_}
@@ -17,7 +17,8 @@ use Rattle.message.proofs.chunks.fill_chunks.Statement.{statement}
 use Rattle.message.proofs.chunks.fill_chunks.Tie as tie
 
 abbrev Inv-loop : tie.InvT-loop
-Inv-loop l1 l2 nc r row out₀ n i₀ out i = (i ≤ l1 * l2) × ((length out ≡ length out₀) × (out ≡ take i (fields (l1 * l2) nc row) ++ drop i out₀))
+Inv-loop l1 l2 nc r row out₀ n i₀ out i =
+    (i ≤ l1 * l2) × ((length out ≡ length out₀) × (out ≡ take i (fields (l1 * l2) nc row) ++ drop i out₀))
 
 abbrev μ-loop : tie.MeasureT-loop
 μ-loop l1 l2 nc r row out₀ n i₀ out i = l1 * l2 - i
@@ -35,7 +36,8 @@ loop-holds : tie.Need-loop-holds Inv-loop μ-loop
 loop-holds c = (search needs, (search needs, refl))
 
 -- the chunk stands in the row
-room : (c : tie.In-loop Inv-loop μ-loop) → let a = c .before .before .before .before .args in c .before .loop .i * a .nc + a .nc ≤ length (a .row .now)
+room : (c : tie.In-loop Inv-loop μ-loop) → let a = c .before .before .before .before .args in
+    c .before .loop .i * a .nc + a .nc ≤ length (a .row .now)
 room c =
     let s = c .before .before .before .before in
     let a = s .args in
@@ -64,8 +66,16 @@ loop-again c =
     let a = s .args in
     let p = c .before .before .loop in
     let f : List ℕ = fields (a .l1 * a .l2) (a .nc) (a .row .now) in
-    let v : c .number-at .result ≡ getD f (p .i) 0 = c .number-at .ensures ∙ sym (fields-at (a .l1 * a .l2) (a .nc) (p .i) (a .row .now) (omega arith)) in
-    (omega arith, (simp length-set (p .inv .1 .0), rw (p .inv .1 .1, v) (front-next (a .out .now) f (p .i) (omega arith) (omega (arith, length-fields (a .l1 * a .l2) (a .nc) (a .row .now))))))
+    let v : c .number-at .result ≡ getD f (p .i) 0 =
+    c .number-at .ensures ∙ sym (fields-at (a .l1 * a .l2) (a .nc) (p .i) (a .row .now) (omega arith)) in (
+      omega arith,
+      (
+        simp length-set (p .inv .1 .0),
+        rw (p .inv .1 .1, v)
+            (front-next (a .out .now) f (p .i) (omega arith)
+            (omega (arith, length-fields (a .l1 * a .l2) (a .nc) (a .row .now)))),
+      ),
+    )
 
 same-length : tie.Need-same-length Inv-loop μ-loop
 same-length c = search needs
@@ -76,7 +86,8 @@ returns c =
     let p = c .before .loop in
     let f : List ℕ = fields (a .l1 * a .l2) (a .nc) (a .row .now) in
     let e : p .i ≡ a .l1 * a .l2 = omega arith in
-    let whole : take (p .i) f ≡ f = take-all (p .i) f (omega (arith, length-fields (a .l1 * a .l2) (a .nc) (a .row .now))) in
+    let whole : take (p .i) f ≡ f =
+    take-all (p .i) f (omega (arith, length-fields (a .l1 * a .l2) (a .nc) (a .row .now))) in
     p .inv .1 .1 ∙ rw (whole, e, chunk-numbers (layout (a .l1) (a .l2) (a .nc) (a .r)) (a .row .now)) refl
 
 pub fill-chunks-spec : {M : Type 1} → statement M

@@ -1,5 +1,5 @@
--- `message::chunks::line_sum` meets its contract. The loop's invariant: what is added so far and the rest of the line make its whole total.
--- Assumes nothing.
+-- `message::chunks::line_sum` meets its contract. The loop's invariant: what is added so far and the rest of the line
+-- make its whole total. Assumes nothing.
 use borrow.Author.Needs.{needs}
 use Prim.Native.Nat.{ℕ, _+_, _-_, _*_, _<_, _≤_}
 use mathlib.Core.Path.{_≡_, _∙_}
@@ -16,7 +16,9 @@ use Rattle.message.proofs.chunks.line_sum.Tie as tie
 
 abbrev Inv-loop : tie.InvT-loop
 Inv-loop t nc chunks start stride count total₀ k₀ total k =
-    ((k ≤ count) × (total ≤ 20000 * k)) × (total + totalOf (k * nc + 1) (rowOf nc (picked (start + k * stride) stride (count - k) chunks)) ≡ totalOf 1 (rowOf nc (picked start stride count chunks)))
+    ((k ≤ count) × (total ≤ 20000 * k))
+    × (total + totalOf (k * nc + 1) (rowOf nc (picked (start + k * stride) stride (count - k) chunks))
+    ≡ totalOf 1 (rowOf nc (picked start stride count chunks)))
 
 abbrev μ-loop : tie.MeasureT-loop
 μ-loop t nc chunks start stride count total₀ k₀ total k = count - k
@@ -34,7 +36,10 @@ inside c =
     let a = s .args in
     let k : ℕ = c .before .loop .k in
     let q = s .pre .1 in (
-      (line-inside (a .start) (a .stride) (a .count) k (length (a .chunks .now)) (c .loop-test .taken) (q .1 .1), mul-le-mul {n₂ = 255} {m₂ = 255} (omega (arith, c .loop-test .taken, q .0 .0)) (q .0 .1)),
+      (
+        line-inside (a .start) (a .stride) (a .count) k (length (a .chunks .now)) (c .loop-test .taken) (q .1 .1),
+        mul-le-mul {n₂ = 255} {m₂ = 255} (omega (arith, c .loop-test .taken, q .0 .0)) (q .0 .1),
+      ),
       omega (arith, field-room (a .count) (a .nc) k (c .loop-test .taken), q .1 .0),
     )
 
@@ -56,11 +61,17 @@ add-chunk-total-2 c = record { fits = omega (arith, inside (c .before) .1) }
 chunk-total-requires : tie.Need-chunk-total-requires Inv-loop μ-loop
 chunk-total-requires c κs =
     let s = c .before .before .before .before in
-    let a = s .args in
-    ((s .pre .0 .0, s .pre .0 .1 .0), (s .pre .0 .1 .1 (a .start + c .before .before .loop .k * a .stride), (omega arith, omega (arith, inside (c .before) .1))))
+    let a = s .args in (
+      (s .pre .0 .0, s .pre .0 .1 .0),
+      (
+        s .pre .0 .1 .1 (a .start + c .before .before .loop .k * a .stride),
+        (omega arith, omega (arith, inside (c .before) .1)),
+      ),
+    )
 
 add-total : tie.Need-add-total Inv-loop μ-loop
-add-total c = record { fits = omega (arith, c .chunk-total .ensures .1, c .before .before .before .before .before .pre .1 .0 .0) }
+add-total c =
+    record { fits = omega (arith, c .chunk-total .ensures .1, c .before .before .before .before .before .pre .1 .0 .0) }
 
 add-k : tie.Need-add-k Inv-loop μ-loop
 add-k c = search needs
@@ -73,7 +84,12 @@ loop-again c =
     let a = c .before .before .before .before .before .args in
     let p = c .before .before .before .loop in (
       (omega arith, omega (arith, c .chunk-total .ensures .1)),
-      omega (arith, p .inv .1, line-turn (a .nc) (a .start) (a .stride) (a .count) (p .k) (a .chunks .now) (omega arith), c .chunk-total .ensures .0),
+      omega (
+        arith,
+        p .inv .1,
+        line-turn (a .nc) (a .start) (a .stride) (a .count) (p .k) (a .chunks .now) (omega arith),
+        c .chunk-total .ensures .0,
+      ),
     )
 
 mul-result : tie.Need-mul-result Inv-loop μ-loop
@@ -90,7 +106,12 @@ returns c =
     let a = c .before .before .before .args in
     let p = c .before .loop in
     line-sum-is (a .nc) (a .start) (a .stride) (a .count) (p .total) (a .chunks .now)
-    (omega (arith, p .inv .1, line-end (a .nc) (a .start + p .k * a .stride) (a .stride) (a .count) (p .k) (p .k * a .nc + 1) (a .chunks .now) (omega arith)))
+    (omega (
+      arith,
+      p .inv .1,
+      line-end (a .nc) (a .start + p .k * a .stride) (a .stride) (a .count) (p .k) (p .k * a .nc + 1) (a .chunks .now)
+          (omega arith),
+    ))
 
 pub line-sum-spec : {M : Type 1} → statement M
 line-sum-spec =

@@ -1,4 +1,5 @@
--- `message::chunks::sum_of` meets its contract: a block, or a chunk-string behind the blocks, is a line of chunks. Assumes nothing.
+-- `message::chunks::sum_of` meets its contract: a block, or a chunk-string behind the blocks, is a line of chunks.
+-- Assumes nothing.
 use borrow.Author.Needs.{needs}
 use Prim.Native.Nat.{_-_}
 use mathlib.Core.Path.{_∙_}
@@ -36,7 +37,10 @@ line-sum-requires c κs =
       (s .pre .0, (bounds s .nc-high, s .pre .1 .1 .0 .1)),
       (
         (high s .l2-high, omega arith),
-        (high s .block, omega (arith, field-room (a .l1) (a .l2) (a .k) (c .if1 .taken), s .pre .1 .1 .0 .0, mul-one (a .l2))),
+        (
+          high s .block,
+          omega (arith, field-room (a .l1) (a .l2) (a .k) (c .if1 .taken), s .pre .1 .1 .0 .0, mul-one (a .l2)),
+        ),
       ),
     )
 
@@ -54,7 +58,10 @@ line-sum-requires-2 c κs =
       (s .pre .0, (bounds s .nc-high, s .pre .1 .1 .0 .1)),
       (
         (high s .l1-high, high s .l2-high),
-        (omega (arith, high s .string, mul-comm (a .l1) (a .nc)), omega (arith, s .pre .1 .1 .1, s .pre .1 .1 .0 .0, c .if1 .left)),
+        (
+          omega (arith, high s .string, mul-comm (a .l1) (a .nc)),
+          omega (arith, s .pre .1 .1 .1, s .pre .1 .1 .0 .0, c .if1 .left),
+        ),
       ),
     )
 
@@ -62,7 +69,9 @@ returns-2 : tie.Need-returns-2
 returns-2 c =
     let s = c .before .before .before in
     let a = s .args in
-    c .line-sum2 .ensures ∙ string-line (named s) (a .chunks .now) (s .pre .1 .1 .0) (a .k - a .l1) (omega (arith, s .pre .1 .1 .1, c .before .if1 .left))
+    c .line-sum2 .ensures
+    ∙ string-line (named s) (a .chunks .now) (s .pre .1 .1 .0) (a .k - a .l1)
+    (omega (arith, s .pre .1 .1 .1, c .before .if1 .left))
     ∙ sum-of-string (named s) (rowOf (a .nc) (a .chunks .now)) (a .k) (c .before .if1 .left)
 
 pub sum-of-spec : {M : Type 1} → statement M

@@ -12,13 +12,20 @@ use Rattle.message.proofs.layouts.few_chunks.Tie as tie
 returns : tie.Need-returns
 returns c =
     let a = c .before .args in
-    sym (lt-leb (a .l1 * a .l2) (2 ^ a .nc - 1) (omega (arith, mul-le-mul-left (a .l1) (c .before .pre .1 .0), mul-one (a .l1), pow-mono {i = a .nc} {j = 8} (c .before .pre .1 .1))))
+    sym (lt-leb (a .l1 * a .l2) (2 ^ a .nc - 1)
+    (omega (
+      arith,
+      mul-le-mul-left (a .l1) (c .before .pre .1 .0),
+      mul-one (a .l1),
+      pow-mono {i = a .nc} {j = 8} (c .before .pre .1 .1),
+    )))
 
 returns-2 : tie.Need-returns-2
 returns-2 c =
     let s = c .before .before in
     let a = s .args in
-    sym (lt-leb (a .l1 * a .l2) (2 ^ a .nc - 1) (omega (arith, mul-le-mul-right (a .l2) (s .pre .0), one-mul (a .l2), pow-mono {i = a .nc} {j = 8} (s .pre .1 .1))))
+    sym (lt-leb (a .l1 * a .l2) (2 ^ a .nc - 1)
+    (omega (arith, mul-le-mul-right (a .l2) (s .pre .0), one-mul (a .l2), pow-mono {i = a .nc} {j = 8} (s .pre .1 .1))))
 
 power-requires : tie.Need-power-requires
 power-requires c κs = search needs
@@ -32,7 +39,8 @@ mul-if3 c =
 returns-3 : tie.Need-returns-3
 returns-3 c =
     let a = c .before .before .before .before .args in
-    sym (lt-leb (a .l1 * a .l2) (2 ^ a .nc - 1) (omega (arith, c .before .power .ensures, c .if3 .taken, pow-pos (a .nc))))
+    sym (lt-leb (a .l1 * a .l2) (2 ^ a .nc - 1)
+    (omega (arith, c .before .power .ensures, c .if3 .taken, pow-pos (a .nc))))
 
 returns-4 : tie.Need-returns-4
 returns-4 c =

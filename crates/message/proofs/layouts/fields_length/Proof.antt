@@ -31,11 +31,14 @@ width-requires-2 c κs = within (c .before) .string
 whole : (c : tie.After-width2) →
     let a = c .before .before .args in
     let l = layout (a .l1) (a .l2) (a .nc) (a .r) in
-    (a .l1 * c .before .width .result + a .l2 * c .width2 .result + a .r * a .nc ≡ fieldsLength l) × (fieldsLength l ≤ 1160)
+    (a .l1 * c .before .width .result + a .l2 * c .width2 .result + a .r * a .nc ≡ fieldsLength l)
+    × (fieldsLength l ≤ 1160)
 unfolding fieldsLength
 whole c =
-    let a = c .before .before .args in
-    (rw (c .before .width .ensures, c .width2 .ensures) refl, fields-high (layout (a .l1) (a .l2) (a .nc) (a .r)) (c .before .before .pre))
+    let a = c .before .before .args in (
+      rw (c .before .width .ensures, c .width2 .ensures) refl,
+      fields-high (layout (a .l1) (a .l2) (a .nc) (a .r)) (c .before .before .pre),
+    )
 
 mul-result : tie.Need-mul-result
 mul-result c = record { fits = omega (arith, whole c .0, whole c .1) }

@@ -38,7 +38,9 @@ few-chunks-requires c κs = search needs
 returns-6 : tie.Need-returns-6
 returns-6 c =
     let a = c .before .before .before .before .before .before .args in
-    c .few-chunks .ensures ∙ legal-by-chunks (layout (a .l1) (a .l2) (a .nc) (a .r)) (omega arith) (omega arith) (omega arith) (omega arith) (omega arith)
+    c .few-chunks .ensures
+    ∙ legal-by-chunks (layout (a .l1) (a .l2) (a .nc) (a .r)) (omega arith) (omega arith) (omega arith) (omega arith)
+    (omega arith)
 
 pub legal-spec : {M : Type 1} → statement M
 legal-spec =

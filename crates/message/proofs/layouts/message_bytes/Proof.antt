@@ -13,7 +13,13 @@ fields-length-requires c κs = search needs
 add-result : tie.Need-add-result
 add-result c =
     let a = c .before .args in
-    record { fits = omega (arith, c .fields-length .ensures, fields-high (layout (a .l1) (a .l2) (a .nc) (a .r)) (c .before .pre)) }
+    record {
+      fits = omega (
+        arith,
+        c .fields-length .ensures,
+        fields-high (layout (a .l1) (a .l2) (a .nc) (a .r)) (c .before .pre),
+      );
+    }
 
 add-result-2 : tie.Need-add-result-2
 add-result-2 c = search needs

@@ -1,4 +1,5 @@
--- `message::layouts::width` meets its contract. The loop's invariant: the halvings done and the width of what is left are the width. Assumes nothing.
+-- `message::layouts::width` meets its contract. The loop's invariant: the halvings done and the width of what is left
+-- are the width. Assumes nothing.
 use borrow.Author.Needs.{needs}
 use Prim.Native.Nat.{_+_, _≤_}
 use mathlib.Core.Path.{_≡_, ap, _∙_}
@@ -21,7 +22,14 @@ loop-holds c = (search needs, zero-add (width (c .args .w)))
 add-k : tie.Need-add-k Inv-loop μ-loop
 add-k c =
     let p = c .before .loop in
-    record { fits = omega (arith, p .inv .1, width-half (p .v) (c .loop-test .taken), width-most 11 (c .before .before .args .w) (omega arith)) }
+    record {
+      fits = omega (
+        arith,
+        p .inv .1,
+        width-half (p .v) (c .loop-test .taken),
+        width-most 11 (c .before .before .args .w) (omega arith),
+      );
+    }
 
 loop-less : tie.Need-loop-less Inv-loop μ-loop
 loop-less c = search needs

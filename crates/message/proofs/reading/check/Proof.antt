@@ -1,4 +1,5 @@
--- `message::reading::check` meets its contract: the mark, the version, and the rest by the layout that the head names. Assumes nothing.
+-- `message::reading::check` meets its contract: the mark, the version, and the rest by the layout that the head names.
+-- Assumes nothing.
 use borrow.Author.Needs.{needs}
 use Prim.Native.Nat.{ℕ, _≤_}
 use mathlib.Core.Path.{_≡_, refl, sym, _∙_}
@@ -35,7 +36,8 @@ version-one-requires c κs = mark (c .before .before .before .args .s .now) (is-
 returns-2 : tie.Need-returns-2
 returns-2 c =
     let s : List ℕ = c .before .before .before .before .before .args .s .now in
-    refused-answer (messageRefusal s) 1 s (refused-2 s (is-marked (c .before .before)) (sym (c .before .version-one .ensures) ∙ not-true _ (c .if2 .taken)))
+    refused-answer (messageRefusal s) 1 s
+    (refused-2 s (is-marked (c .before .before)) (sym (c .before .version-one .ensures) ∙ not-true _ (c .if2 .taken)))
 
 shared-slice-read-wide : tie.Need-shared-slice-read-wide
 shared-slice-read-wide c = omega (arith, long (c .before))

@@ -1,4 +1,5 @@
--- `message::reading::check_layout` meets its contract: each test that fails is the first of the table to apply. Assumes nothing.
+-- `message::reading::check_layout` meets its contract: each test that fails is the first of the table to apply. Assumes
+-- nothing.
 use borrow.Author.Needs.{needs}
 use Prim.Native.Nat.{ℕ}
 use mathlib.Core.Path.{_≡_, sym, _∙_}
@@ -26,7 +27,9 @@ returns : tie.Need-returns
 returns c =
     let t = c .before .before .before in
     let s : List ℕ = t .args .s .now in
-    refused-answer (messageRefusal s) 2 s (refused-3 s (t .pre .0) (t .pre .1 .0) (named t) (t .pre .1 .1) (sym (c .before .legal .ensures) ∙ not-true _ (c .if1 .taken)))
+    refused-answer (messageRefusal s) 2 s
+    (refused-3 s (t .pre .0) (t .pre .1 .0) (named t) (t .pre .1 .1)
+    (sym (c .before .legal .ensures) ∙ not-true _ (c .if1 .taken)))
 
 -- past the first test the layout is legal, past the second the message is as long as it gives
 is-legal : (c : tie.Else1) → legal (named (c .before .before .before)) ≡ true
@@ -46,7 +49,9 @@ returns-2 : tie.Need-returns-2
 returns-2 c =
     let t = c .before .before .before .before .before in
     let s : List ℕ = t .args .s .now in
-    refused-answer (messageRefusal s) 3 s (refused-4 s (t .pre .0) (t .pre .1 .0) (named t) (t .pre .1 .1) (is-legal (c .before .before)) (λ e. c .if2 .taken (e ∙ sym (c .before .message-bytes .ensures))))
+    refused-answer (messageRefusal s) 3 s
+    (refused-4 s (t .pre .0) (t .pre .1 .0) (named t) (t .pre .1 .1) (is-legal (c .before .before))
+    (λ e. c .if2 .taken (e ∙ sym (c .before .message-bytes .ensures))))
 
 sum-high-requires : tie.Need-sum-high-requires
 sum-high-requires c κs = (is-legal (c .before .before), is-long c)
@@ -70,7 +75,8 @@ returns-4 c =
     let s : List ℕ = t .args .s .now in
     refused-answer (messageRefusal s) 5 s
     (refused-6 s (t .pre .0) (t .pre .1 .0) (named t) (t .pre .1 .1) (is-legal (e .before .before)) (is-long e)
-    (sym (c .before .before .before .sum-high .ensures) ∙ c .before .before .if3 .left) (sym (c .before .spare-blank .ensures) ∙ not-true _ (c .if4 .taken)))
+    (sym (c .before .before .before .sum-high .ensures) ∙ c .before .before .if3 .left)
+    (sym (c .before .spare-blank .ensures) ∙ not-true _ (c .if4 .taken)))
 
 returns-5 : tie.Need-returns-5
 returns-5 c =
@@ -79,7 +85,8 @@ returns-5 c =
     let s : List ℕ = t .args .s .now in
     fit-answer (messageRefusal s) s (named t) (t .pre .1 .1)
     (refused-not s (t .pre .0) (t .pre .1 .0) (named t) (t .pre .1 .1) (is-legal (e .before .before)) (is-long e)
-    (sym (c .before .before .before .sum-high .ensures) ∙ c .before .before .if3 .left) (sym (c .before .spare-blank .ensures) ∙ not-false _ (c .if4 .left)))
+    (sym (c .before .before .before .sum-high .ensures) ∙ c .before .before .if3 .left)
+    (sym (c .before .spare-blank .ensures) ∙ not-false _ (c .if4 .left)))
 
 pub check-layout-spec : {M : Type 1} → statement M
 check-layout-spec =

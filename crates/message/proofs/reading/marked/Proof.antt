@@ -43,7 +43,8 @@ returns-5 : tie.Need-returns-5
 returns-5 c =
     let b = c .before .before .before .before in
     let a = b .before .before in
-    is-marked (a .before .args .s .now) (record { long = omega arith; first = b .if2 .left; second = c .before .before .if3 .left; third = c .if4 .left })
+    is-marked (a .before .args .s .now)
+    (record { long = omega arith; first = b .if2 .left; second = c .before .before .if3 .left; third = c .if4 .left })
 
 pub marked-spec : {M : Type 1} → statement M
 marked-spec =

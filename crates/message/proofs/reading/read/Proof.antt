@@ -1,4 +1,5 @@
--- `message::reading::read` meets its contract: the checks of the message, then the length of the target, then the numbers. Assumes nothing.
+-- `message::reading::read` meets its contract: the checks of the message, then the length of the target, then the
+-- numbers. Assumes nothing.
 use borrow.Author.Needs.{needs}
 use Prim.Native.Nat.{ℕ, _+_, _≤_}
 use mathlib.Core.Path.{_≡_, sym, ap, _∙_}
@@ -69,7 +70,8 @@ returns-2 c =
     let a = start k .args in
     let s : List ℕ = a .s .now in
     let o : List ℕ = a .out .now in
-    let e : readRefusal s (length o) ≡ 10 = refuses-target s o (answer k .0) (omega (arith, c .if1 .taken, numbers-count s (named k) (answer k .1))) in
+    let e : readRefusal s (length o) ≡ 10 =
+    refuses-target s o (answer k .0) (omega (arith, c .if1 .taken, numbers-count s (named k) (answer k .1))) in
     (refused-answer (readRefusal s (length o)) 9 s e, untouched s o (λ z. omega arith))
 
 read-numbers-requires : tie.Need-read-numbers-requires
@@ -88,8 +90,10 @@ returns-3 c =
     let s : List ℕ = a .s .now in
     let o : List ℕ = a .out .now in
     let room = r .before .before .if1 .left in
-    let e : readRefusal s (length o) ≡ 0 = refuses-nothing s o (answer k .0) (omega (arith, room, numbers-count s (named k) (answer k .1))) in
-    let put = numbers-written s o (r .read-numbers .last .1 .1 .1 .1 .1 .0) (named k) (answer k .1) e (r .read-numbers .ensures) in
+    let e : readRefusal s (length o) ≡ 0 =
+    refuses-nothing s o (answer k .0) (omega (arith, room, numbers-count s (named k) (answer k .1))) in
+    let put =
+    numbers-written s o (r .read-numbers .last .1 .1 .1 .1 .1 .0) (named k) (answer k .1) e (r .read-numbers .ensures) in
     (fit-answer (readRefusal s (length o)) s (named k) (answer k .1) e, put)
 
 pub read-spec : {M : Type 1} → statement M

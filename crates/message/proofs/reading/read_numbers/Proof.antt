@@ -17,7 +17,9 @@ use Rattle.message.proofs.reading.read_numbers.Tie as tie
 
 -- what stands after the head, and the sizes of the legal layout
 rest : (c : tie.Start) → Rest (layout (c .args .l1) (c .args .l2) (c .args .nc) (c .args .r)) (c .args .s .now)
-rest c = after-head (layout (c .args .l1) (c .args .l2) (c .args .nc) (c .args .r)) (c .args .s .now) (c .pre .0) (c .pre .1 .0)
+rest c =
+    after-head (layout (c .args .l1) (c .args .l2) (c .args .nc) (c .args .r)) (c .args .s .now) (c .pre .0)
+    (c .pre .1 .0)
 
 within : (c : tie.Start) → Sizes (layout (c .args .l1) (c .args .l2) (c .args .nc) (c .args .r))
 within c =
@@ -85,26 +87,34 @@ begun c = start (c .before .before .before)
 
 first : (c : tie.After-read-fields) →
     let a = begun c in
-    c .read-fields .last .1 .1 .1 .1 .0 ≡ readBlockSums (named a) (a .args .s .now) ++ drop (a .args .l1) (a .args .out .now)
+    c .read-fields .last .1 .1 .1 .1 .0
+    ≡ readBlockSums (named a) (a .args .s .now) ++ drop (a .args .l1) (a .args .out .now)
 first c =
     let a = begun c in
     let w = c .before .before in
-    c .read-fields .ensures ∙ block-written (named a) (a .args .s .now) (a .args .out .now) (w .before .width .result) (w .width2 .result) (w .before .width .ensures) (w .width2 .ensures)
+    c .read-fields .ensures
+    ∙ block-written (named a) (a .args .s .now) (a .args .out .now) (w .before .width .result) (w .width2 .result)
+    (w .before .width .ensures) (w .width2 .ensures)
 
 second : (c : tie.After-read-fields2) →
     let a = begun (c .before .before .before .before) in
-    c .read-fields2 .last .1 .1 .1 .1 .0 ≡ readBlockSums (named a) (a .args .s .now) ++ readStringSums (named a) (a .args .s .now) ++ drop (a .args .l1 + a .args .l2) (a .args .out .now)
+    c .read-fields2 .last .1 .1 .1 .1 .0
+    ≡ readBlockSums (named a) (a .args .s .now) ++ readStringSums (named a) (a .args .s .now)
+    ++ drop (a .args .l1 + a .args .l2) (a .args .out .now)
 second c =
     let d = c .before .before .before .before in
     let a = begun d in
     let w = d .before .before in
-    c .read-fields2 .ensures ∙ string-written (named a) (a .args .s .now) (a .args .out .now) (w .before .width .result) (w .width2 .result) (w .before .width .ensures) (w .width2 .ensures) (d .read-fields .last .1 .1 .1 .1 .0) (first d)
+    c .read-fields2 .ensures
+    ∙ string-written (named a) (a .args .s .now) (a .args .out .now) (w .before .width .result) (w .width2 .result)
+    (w .before .width .ensures) (w .width2 .ensures) (d .read-fields .last .1 .1 .1 .1 .0) (first d)
 
 -- the slice stays as long as it was
 room-after : (c : tie.After-read-fields) → length (c .read-fields .last .1 .1 .1 .1 .0) ≡ length (begun c .args .out .now)
 room-after c = search needs
 
-room-left : (c : tie.After-read-fields2) → length (c .read-fields2 .last .1 .1 .1 .1 .0) ≡ length (begun (c .before .before .before .before) .args .out .now)
+room-left : (c : tie.After-read-fields2)
+    → length (c .read-fields2 .last .1 .1 .1 .1 .0) ≡ length (begun (c .before .before .before .before) .args .out .now)
 room-left c = search needs
 
 -- where both widths are known, seen from the second call of `read_fields`
@@ -117,7 +127,10 @@ read-fields-requires-2 c κs =
     let q = start (w .before) in
     let t = rest q in (
       (omega (arith, w .width2 .ensures, t .string-width), omega (arith, t .long)),
-      (omega (arith, few w), (omega (arith, places w), omega (arith, q .pre .1 .1, room-after (c .before .before .before)))),
+      (
+        omega (arith, few w),
+        (omega (arith, places w), omega (arith, q .pre .1 .1, room-after (c .before .before .before))),
+      ),
     )
 
 add-read-fields : tie.Need-add-read-fields
@@ -129,7 +142,10 @@ read-fields-requires-3 c κs =
     let q = start (w .before) in
     let t = rest q in (
       (omega (arith, legal-bounds (named q) (q .pre .0) .nc-high), omega (arith, t .long)),
-      (omega (arith, few w), (omega (arith, places w), omega (arith, q .pre .1 .1, room-left (c .before .before .before)))),
+      (
+        omega (arith, few w),
+        (omega (arith, places w), omega (arith, q .pre .1 .1, room-left (c .before .before .before))),
+      ),
     )
 
 same-length : tie.Need-same-length
@@ -141,7 +157,9 @@ returns c =
     let d = v .before .before .before .before in
     let a = begun (d .before .before .before .before) in
     let w = widths (d .before .before) in
-    v .read-fields3 .ensures ∙ check-written (named a) (a .args .s .now) (a .args .out .now) (w .before .width .result) (w .width2 .result) (w .before .width .ensures) (w .width2 .ensures) (d .read-fields2 .last .1 .1 .1 .1 .0) (second d)
+    v .read-fields3 .ensures
+    ∙ check-written (named a) (a .args .s .now) (a .args .out .now) (w .before .width .result) (w .width2 .result)
+    (w .before .width .ensures) (w .width2 .ensures) (d .read-fields2 .last .1 .1 .1 .1 .0) (second d)
 
 pub read-numbers-spec : {M : Type 1} → statement M
 read-numbers-spec =

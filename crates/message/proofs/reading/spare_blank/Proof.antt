@@ -1,4 +1,5 @@
--- `message::reading::spare_blank` meets its contract: where the length is right, being fit is having no spare bit 1. Assumes nothing.
+-- `message::reading::spare_blank` meets its contract: where the length is right, being fit is having no spare bit 1.
+-- Assumes nothing.
 use borrow.Author.Needs.{needs}
 use Prim.Native.Nat.{ℕ}
 use mathlib.Core.Path.{refl, sym, _∙_}
@@ -18,7 +19,8 @@ use Rattle.message.proofs.reading.spare_blank.Tie as tie
 
 -- what stands after the head
 rest : (c : tie.Start) → Rest (layout (c .args .l1) (c .args .l2) (c .args .nc) (c .args .r)) (c .args .s .now)
-rest c = after-head (layout (c .args .l1) (c .args .l2) (c .args .nc) (c .args .r)) (c .args .s .now) (c .pre .0) (c .pre .1)
+rest c =
+    after-head (layout (c .args .l1) (c .args .l2) (c .args .nc) (c .args .r)) (c .args .s .now) (c .pre .0) (c .pre .1)
 
 fields-length-requires : tie.Need-fields-length-requires
 fields-length-requires c κs = search needs
@@ -43,7 +45,8 @@ returns c =
     let l : Layout = layout (a .l1) (a .l2) (a .nc) (a .r) in
     let d : List ℕ = drop 9 (a .s .now) in
     c .fits2 .ensures
-    ∙ rw (part-to-end (a .s .now) 9, c .before .before .fields-length .ensures) (sym (fits-by (fieldsLength l) d (blank (drop (fieldsLength l) (unpack d))) (t .bytes) refl))
+    ∙ rw (part-to-end (a .s .now) 9, c .before .before .fields-length .ensures)
+    (sym (fits-by (fieldsLength l) d (blank (drop (fieldsLength l) (unpack d))) (t .bytes) refl))
 
 pub spare-blank-spec : {M : Type 1} → statement M
 spare-blank-spec =

@@ -15,7 +15,8 @@ use Rattle.message.proofs.reading.sum_high.Tie as tie
 
 -- what stands after the head, and the sizes of the legal layout
 rest : (c : tie.Start) → Rest (layout (c .args .l1) (c .args .l2) (c .args .nc) (c .args .r)) (c .args .s .now)
-rest c = after-head (layout (c .args .l1) (c .args .l2) (c .args .nc) (c .args .r)) (c .args .s .now) (c .pre .0) (c .pre .1)
+rest c =
+    after-head (layout (c .args .l1) (c .args .l2) (c .args .nc) (c .args .r)) (c .args .s .now) (c .pre .0) (c .pre .1)
 
 within : (c : tie.Start) → Sizes (layout (c .args .l1) (c .args .l2) (c .args .nc) (c .args .r))
 within c =

@@ -25,7 +25,9 @@ returns-2 c =
     refuted (versionOne s) (λ e. c .if2 .taken (version s e .low))
 
 returns-3 : tie.Need-returns-3
-returns-3 c = is-version (c .before .before .before .before .args .s .now) (record { high = c .before .before .if1 .left; low = c .if2 .left })
+returns-3 c =
+    is-version (c .before .before .before .before .args .s .now)
+    (record { high = c .before .before .if1 .left; low = c .if2 .left })
 
 pub version-one-spec : {M : Type 1} → statement M
 version-one-spec =

@@ -35,7 +35,9 @@ put-requires c κs =
     let s = start (c .before .before .before .before) in
     let a = s .args in
     let p = c .before .before .before .before .loop in
-    let room = placed-room (a .start) (a .out .now) (a .nc) (a .values .now) (length (a .values .now)) refl (s .pre .1 .1) (p .i) (p .f) (p .out) (p .inv .1) (omega arith) in
+    let room =
+    placed-room (a .start) (a .out .now) (a .nc) (a .values .now) (length (a .values .now)) refl (s .pre .1 .1) (p .i)
+    (p .f) (p .out) (p .inv .1) (omega arith) in
     ((s .pre .0, p .inv .1 .ready), room)
 
 add-i : tie.Need-add-i Inv-loop μ-loop
@@ -53,8 +55,11 @@ loop-again c =
     let s = start (loop (c .before .before)) in
     let a = s .args in
     let p = loop (c .before .before) .loop in
-    let q = c .before .before .put in
-    (omega arith, placed-next (a .start) (a .out .now) (a .nc) (a .values .now) (p .i) (p .f) (p .out) (p .inv .1) (omega arith) _ (c .before .before .before .wide .ensures) _ _ (q .ensures))
+    let q = c .before .before .put in (
+      omega arith,
+      placed-next (a .start) (a .out .now) (a .nc) (a .values .now) (p .i) (p .f) (p .out) (p .inv .1) (omega arith) _
+          (c .before .before .before .wide .ensures) _ _ (q .ensures),
+    )
 
 same-length : tie.Need-same-length Inv-loop μ-loop
 same-length c = search needs

@@ -11,10 +11,12 @@ bounds : (c : tie.Start) → Bounds (layout (c .args .l1) (c .args .l2) (c .args
 bounds c = legal-bounds (layout (c .args .l1) (c .args .l2) (c .args .nc) (c .args .r)) (c .pre .0)
 
 cast-t7 : tie.Need-cast-t7
-cast-t7 c = let a = c .before .args in omega (arith, sizes (layout (a .l1) (a .l2) (a .nc) (a .r)) (bounds (c .before)) .l1-high)
+cast-t7 c = let a = c .before .args in
+    omega (arith, sizes (layout (a .l1) (a .l2) (a .nc) (a .r)) (bounds (c .before)) .l1-high)
 
 cast-t8 : tie.Need-cast-t8
-cast-t8 c = let a = c .before .args in omega (arith, sizes (layout (a .l1) (a .l2) (a .nc) (a .r)) (bounds (c .before)) .l2-high)
+cast-t8 c = let a = c .before .args in
+    omega (arith, sizes (layout (a .l1) (a .l2) (a .nc) (a .r)) (bounds (c .before)) .l2-high)
 
 cast-t9 : tie.Need-cast-t9
 cast-t9 c = omega (arith, bounds (c .before) .nc-high)

@@ -1,5 +1,5 @@
--- `message::writing::put_message` meets its contract: what the local arrays and the target hold on the way is said in Assembly.
--- Assumes nothing.
+-- `message::writing::put_message` meets its contract: what the local arrays and the target hold on the way is said in
+-- Assembly. Assumes nothing.
 use borrow.Author.Needs.{needs}
 use Prim.Native.Nat.{ℕ, _-_, _*_, _≤_}
 use mathlib.Core.Path.{_≡_}
@@ -47,7 +47,8 @@ row c = rowOf (start c .args .nc) (lent c)
 row-is : (c : tie.After-fill) → row c ≡ held (lay (start c)) (start c .args .row .now)
 row-is c =
     let s = start c in
-    row-lent (lay s) (s .args .row .now) (s .args .out .now) (s .pre .0) (s .pre .1 .0) (s .pre .1 .1) (c .fill .last .1 .1 .1 .0) _ (c .fill .ensures)
+    row-lent (lay s) (s .args .row .now) (s .args .out .now) (s .pre .0) (s .pre .1 .0) (s .pre .1 .1)
+    (c .fill .last .1 .1 .1 .0) _ (c .fill .ensures)
 
 put-head-requires : tie.Need-put-head-requires
 put-head-requires c κs =
@@ -70,7 +71,8 @@ filled c = c .before .before .before
 headed : (c : tie.After-put-head) → 9 ≤ length (c .put-head .last .1 .1 .1 .1 .0)
 headed c =
     let s = start (filled c) in
-    body-room (lay s) (s .args .row .now) (s .args .out .now) (s .pre .0) (s .pre .1 .0) (s .pre .1 .1) (c .put-head .last .1 .1 .1 .1 .0) (c .put-head .ensures)
+    body-room (lay s) (s .args .row .now) (s .args .out .now) (s .pre .0) (s .pre .1 .0) (s .pre .1 .1)
+    (c .put-head .last .1 .1 .1 .1 .0) (c .put-head .ensures)
 
 sub-put-fields-2 : tie.Need-sub-put-fields-2
 sub-put-fields-2 c = headed (c .before .before .before .before)
@@ -86,8 +88,12 @@ put-fields-requires c κs =
     let h = c .before .before .before .before .before in
     let u = filled h in
     let s = start u in
-    let chunked = lent-chunked (lay s) (s .args .row .now) (s .args .out .now) (s .pre .0) (s .pre .1 .0) (s .pre .1 .1) (u .fill .last .1 .1 .1 .0) _ (u .fill .ensures) in
-    let room = fields-room (lay s) (s .args .row .now) (s .args .out .now) (s .pre .0) (s .pre .1 .0) (s .pre .1 .1) (h .put-head .last .1 .1 .1 .1 .0) (h .put-head .ensures) in
+    let chunked =
+    lent-chunked (lay s) (s .args .row .now) (s .args .out .now) (s .pre .0) (s .pre .1 .0) (s .pre .1 .1)
+    (u .fill .last .1 .1 .1 .0) _ (u .fill .ensures) in
+    let room =
+    fields-room (lay s) (s .args .row .now) (s .args .out .now) (s .pre .0) (s .pre .1 .0) (s .pre .1 .1)
+    (h .put-head .last .1 .1 .1 .1 .0) (h .put-head .ensures) in
     ((s .pre .0, chunked), room)
 
 same-length : tie.Need-same-length
@@ -99,7 +105,9 @@ returns c =
     let h = q .before .before .before .before .before .before in
     let u = filled h in
     let s = start u in
-    assembled (lay s) (s .args .row .now) (s .args .out .now) (s .pre .0) (s .pre .1 .0) (s .pre .1 .1) (h .put-head .last .1 .1 .1 .1 .0) (h .put-head .ensures) (row u) (q .put-fields .last .1 .1 .1 .1 .1 .0) (row-is u) (q .put-fields .ensures)
+    assembled (lay s) (s .args .row .now) (s .args .out .now) (s .pre .0) (s .pre .1 .0) (s .pre .1 .1)
+    (h .put-head .last .1 .1 .1 .1 .0) (h .put-head .ensures) (row u) (q .put-fields .last .1 .1 .1 .1 .1 .0) (row-is u)
+    (q .put-fields .ensures)
 
 pub put-message-spec : {M : Type 1} → statement M
 put-message-spec =

@@ -28,7 +28,8 @@ bounds c = legal-bounds (named c) (c .pre .0 .0)
 abbrev start : tie.After-fill-checks → tie.Start
 start c = c .before .before .before .before
 
-values : (c : tie.After-fill-checks) → take (start c .args .r - 0) (c .fill-checks .last .1 .1 .1 .1 .1 .0) ≡ checks (named (start c)) (row (start c))
+values : (c : tie.After-fill-checks)
+    → take (start c .args .r - 0) (c .fill-checks .last .1 .1 .1 .1 .1 .0) ≡ checks (named (start c)) (row (start c))
 values c =
     let z : start c .args .r - 0 ≡ start c .args .r = omega arith in
     ap (λ (n : ℕ). take n (c .fill-checks .last .1 .1 .1 .1 .1 .0)) z ∙ c .fill-checks .ensures

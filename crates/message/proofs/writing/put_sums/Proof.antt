@@ -19,7 +19,9 @@ use Rattle.message.proofs.writing.put_sums.Tie as tie
 abbrev Inv-loop : tie.InvT-loop
 Inv-loop table l1 l2 nc r chunks first count k out₀ f₀ i₀ out f i =
     (i ≤ count)
-    × Placed f₀ out₀ k (take count (drop first (blockSums (layout l1 l2 nc r) (rowOf nc chunks) ++ stringSums (layout l1 l2 nc r) (rowOf nc chunks)))) i f out
+    × Placed f₀ out₀ k
+    (take count (drop first
+    (blockSums (layout l1 l2 nc r) (rowOf nc chunks) ++ stringSums (layout l1 l2 nc r) (rowOf nc chunks)))) i f out
 
 abbrev μ-loop : tie.MeasureT-loop
 μ-loop table l1 l2 nc r chunks first count k out₀ f₀ i₀ out f i = count - i
@@ -63,7 +65,9 @@ put-requires c κs =
     let s = start (c .before .before .before) in
     let a = s .args in
     let p = c .before .before .before .loop in
-    let room = placed-room (a .start) (a .out .now) (a .k) (vs s) (a .count) (count s) (s .pre .1 .1 .1) (p .i) (p .f) (p .out) (p .inv .1) (omega arith) in
+    let room =
+    placed-room (a .start) (a .out .now) (a .k) (vs s) (a .count) (count s) (s .pre .1 .1 .1) (p .i) (p .f) (p .out)
+    (p .inv .1) (omega arith) in
     ((s .pre .1 .0 .1, p .inv .1 .ready), room)
 
 add-i : tie.Need-add-i Inv-loop μ-loop
@@ -82,8 +86,13 @@ loop-again c =
     let a = s .args in
     let p = loop (c .before .before) .loop in
     let q = c .before .before .put in
-    let v = c .before .before .before .before .sum-of .ensures ∙ sum-of-part (lay s) (row s) (a .first) (a .count) (p .i) (omega arith) in
-    (omega arith, placed-next (a .start) (a .out .now) (a .k) (vs s) (p .i) (p .f) (p .out) (p .inv .1) (omega (arith, count s)) _ v _ _ (q .ensures))
+    let v =
+    c .before .before .before .before .sum-of .ensures
+    ∙ sum-of-part (lay s) (row s) (a .first) (a .count) (p .i) (omega arith) in (
+      omega arith,
+      placed-next (a .start) (a .out .now) (a .k) (vs s) (p .i) (p .f) (p .out) (p .inv .1) (omega (arith, count s)) _ v
+          _ _ (q .ensures),
+    )
 
 same-length : tie.Need-same-length Inv-loop μ-loop
 same-length c = search needs

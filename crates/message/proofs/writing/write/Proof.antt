@@ -17,20 +17,25 @@ legal-requires : tie.Need-legal-requires
 legal-requires c κs = search needs
 
 -- what is known past each test
-is-legal : (c : tie.Else1) → let a = c .before .before .before .before .args in legal (layout (a .l1) (a .l2) (a .nc) (a .r)) ≡ true
+is-legal : (c : tie.Else1) → let a = c .before .before .before .before .args in
+    legal (layout (a .l1) (a .l2) (a .nc) (a .r)) ≡ true
 is-legal c = sym (c .before .legal .ensures) ∙ not-false _ (c .if1 .left)
 
-bits-high : (c : tie.Else1) → let a = c .before .before .before .before .args in Sizes (layout (a .l1) (a .l2) (a .nc) (a .r))
-bits-high c = let a = c .before .before .before .before .args in let l : Layout = layout (a .l1) (a .l2) (a .nc) (a .r) in sizes l (legal-bounds l (is-legal c))
+bits-high : (c : tie.Else1) → let a = c .before .before .before .before .args in
+    Sizes (layout (a .l1) (a .l2) (a .nc) (a .r))
+bits-high c = let a = c .before .before .before .before .args in
+    let l : Layout = layout (a .l1) (a .l2) (a .nc) (a .r) in sizes l (legal-bounds l (is-legal c))
 
-is-packed : (c : tie.Else2) → let a = c .before .before .before .before .before .before .args in fits (rowBits (layout (a .l1) (a .l2) (a .nc) (a .r))) (a .row .now) ≡ true
+is-packed : (c : tie.Else2) → let a = c .before .before .before .before .before .before .args in
+    fits (rowBits (layout (a .l1) (a .l2) (a .nc) (a .r))) (a .row .now) ≡ true
 is-packed c = sym (c .before .fits2 .ensures) ∙ not-false _ (c .if2 .left)
 
 returns : tie.Need-returns
 returns c =
     let a = c .before .before .before .before .args in
     let l : Layout = layout (a .l1) (a .l2) (a .nc) (a .r) in
-    refused l (a .row .now) (a .out .now) 2 (refused-layout l (a .row .now) (length (a .out .now)) (sym (c .before .legal .ensures) ∙ not-true _ (c .if1 .taken)))
+    refused l (a .row .now) (a .out .now) 2
+    (refused-layout l (a .row .now) (length (a .out .now)) (sym (c .before .legal .ensures) ∙ not-true _ (c .if1 .taken)))
 
 mul-fits : tie.Need-mul-fits
 mul-fits c = omega (arith, bits-high c .chunks)
@@ -46,7 +51,9 @@ returns-2 c =
     let k = c .before .before in
     let a = k .before .before .before .before .args in
     let l : Layout = layout (a .l1) (a .l2) (a .nc) (a .r) in
-    refused l (a .row .now) (a .out .now) 7 (refused-packing l (a .row .now) (length (a .out .now)) (is-legal k) (sym (c .before .fits2 .ensures) ∙ not-true _ (c .if2 .taken)))
+    refused l (a .row .now) (a .out .now) 7
+    (refused-packing l (a .row .now) (length (a .out .now)) (is-legal k)
+    (sym (c .before .fits2 .ensures) ∙ not-true _ (c .if2 .taken)))
 
 message-bytes-requires : tie.Need-message-bytes-requires
 message-bytes-requires c κs = is-legal (c .before .before)
@@ -57,7 +64,9 @@ returns-3 c =
     let k = m .before .before .before in
     let a = k .before .before .before .before .args in
     let l : Layout = layout (a .l1) (a .l2) (a .nc) (a .r) in
-    refused l (a .row .now) (a .out .now) 9 (refused-target l (a .row .now) (length (a .out .now)) (is-legal k) (is-packed (m .before)) (omega (arith, m .message-bytes .ensures)))
+    refused l (a .row .now) (a .out .now) 9
+    (refused-target l (a .row .now) (length (a .out .now)) (is-legal k) (is-packed (m .before))
+    (omega (arith, m .message-bytes .ensures)))
 
 put-message-requires : tie.Need-put-message-requires
 put-message-requires c κs =
@@ -74,7 +83,9 @@ returns-4 c =
     let k = m .before .before .before in
     let a = k .before .before .before .before .args in
     let l : Layout = layout (a .l1) (a .l2) (a .nc) (a .r) in
-    written l (a .row .now) (a .out .now) _ _ (not-refused l (a .row .now) (length (a .out .now)) (is-legal k) (is-packed (m .before)) (omega (arith, m .message-bytes .ensures))) (m .message-bytes .ensures) (w .put-message .ensures)
+    written l (a .row .now) (a .out .now) _ _
+    (not-refused l (a .row .now) (length (a .out .now)) (is-legal k) (is-packed (m .before))
+    (omega (arith, m .message-bytes .ensures))) (m .message-bytes .ensures) (w .put-message .ensures)
 
 pub write-spec : {M : Type 1} → statement M
 write-spec =

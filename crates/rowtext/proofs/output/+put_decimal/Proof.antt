@@ -1,5 +1,5 @@
--- `rowtext::output::put_decimal`, which calls itself for the tens of its number, meets its contract. The number falls at each call.
--- Assumes nothing.
+-- `rowtext::output::put_decimal`, which calls itself for the tens of its number, meets its contract. The number falls
+-- at each call. Assumes nothing.
 use borrow.Author.Needs.{needs}
 use Prim.Native.Nat.{ℕ, _<_}
 use mathlib.Core.Path.{ap}
@@ -132,7 +132,8 @@ put-decimal-returns-2 t c =
     let p = q .before .before .before .before in
     let k = p .before .before .before .before in
     let h = p .before .before .if1 .left in
-    rw (decimal-more (k .args .n) h) (put-then (p .put-decimal .ensures) (q .put-char2 .ensures) (omega (arith, k .pre .1)))
+    rw (decimal-more (k .args .n) h)
+    (put-then (p .put-decimal .ensures) (q .put-char2 .ensures) (omega (arith, k .pre .1)))
 
 pub +put-decimal-spec : {M : Type 1} → statement M
 +put-decimal-spec = close μ-put-decimal λ t. put-decimal-lts.spec (

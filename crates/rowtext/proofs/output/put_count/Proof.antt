@@ -17,8 +17,10 @@ put-header-requires c κs = search needs
 put-rows-requires : tie.Need-put-rows-requires
 put-rows-requires c κs =
     let p = c .before .before .before in
-    let k = p .before .before .before .before .before in
-    (k .pre .1 .0, omega (arith, header-short countWord (k .args .count) (k .pre .0), p .put-header .ensures .after, k .pre .1 .1))
+    let k = p .before .before .before .before .before in (
+      k .pre .1 .0,
+      omega (arith, header-short countWord (k .args .count) (k .pre .0), p .put-header .ensures .after, k .pre .1 .1),
+    )
 
 same-length : tie.Need-same-length
 same-length c = search needs
@@ -29,7 +31,8 @@ returns c =
     let q = c .before .before in
     let p = q .before .before .before .before in
     let a = p .before .before .before .before .before .args in
-    rw (length-cut (a .w) (a .count) (a .list .now)) (put-then (p .put-header .ensures) (q .put-rows .ensures) (omega arith))
+    rw (length-cut (a .w) (a .count) (a .list .now))
+    (put-then (p .put-header .ensures) (q .put-rows .ensures) (omega arith))
 
 pub put-count-spec : {M : Type 1} → statement M
 put-count-spec =

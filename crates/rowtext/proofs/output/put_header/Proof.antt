@@ -1,4 +1,5 @@
--- `rowtext::output::put_header` meets its contract: the word, the number and the line feed one after another. Assumes nothing.
+-- `rowtext::output::put_header` meets its contract: the word, the number and the line feed one after another. Assumes
+-- nothing.
 use borrow.Author.Needs.{needs}
 use mathlib.Core.Path.{sym}
 use native.Mathlib.Nat.{zero-add}

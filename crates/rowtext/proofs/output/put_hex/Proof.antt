@@ -25,7 +25,10 @@ returns c =
     let p = c .before .before .put-char2 in
     let d = c .before .before .before .before in
     let q = d .before .before .before in
-    rw (q .before .before .hex-digit .ensures, d .hex-digit2 .ensures) at (put-then (q .put-char .ensures) (p .ensures) (omega arith))
+    rw (
+      q .before .before .hex-digit .ensures,
+      d .hex-digit2 .ensures,
+    ) at (put-then (q .put-char .ensures) (p .ensures) (omega arith))
 
 pub put-hex-spec : {M : Type 1} → statement M
 put-hex-spec =

@@ -1,4 +1,5 @@
--- `rowtext::output::put_row` meets its contract. The loop's invariant: the digits of the first i bytes are put. Assumes nothing.
+-- `rowtext::output::put_row` meets its contract. The loop's invariant: the digits of the first i bytes are put. Assumes
+-- nothing.
 use borrow.Author.Needs.{needs}
 use Prim.Native.Nat.{_-_, _≤_}
 use mathlib.Core.Path.{_≡_, refl}

@@ -1,4 +1,5 @@
--- `rowtext::output::put_rows` meets its contract. The loop's invariant: the lines of the first i rows are put. Assumes nothing.
+-- `rowtext::output::put_rows` meets its contract. The loop's invariant: the lines of the first i rows are put. Assumes
+-- nothing.
 use borrow.Author.Needs.{needs}
 use Prim.Native.Nat.{ℕ, _+_, _-_, _*_, _≤_}
 use mathlib.Core.Path.{_≡_, refl, ap, _∙_}
@@ -80,7 +81,14 @@ put-row-requires c κs =
     let t = c .before .before in
     let k = start (t .before) in
     let p = t .before .loop in
-    omega (arith, place t, lent-long t, row-fits (p .i) (k .args .count) (k .args .w * 2 + 1) (omega arith), k .pre .1, p .inv .1 .0)
+    omega (
+      arith,
+      place t,
+      lent-long t,
+      row-fits (p .i) (k .args .count) (k .args .w * 2 + 1) (omega arith),
+      k .pre .1,
+      p .inv .1 .0,
+    )
 
 add-i : tie.Need-add-i Inv-loop μ-loop
 add-i c = search needs
