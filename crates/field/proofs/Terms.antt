@@ -8,9 +8,9 @@ use native.Mathlib.Nat.{add-comm}
 use native.Mathlib.Numerals.{add-one}
 use native.Mathlib.Omega.{arith}
 use lib.Bits.{bitXor, xor-zero-l, xor-zero-r}
-use lib.ListN.{length, getD, set, take, drop, replicate}
+use lib.ListN.{length, getD, set, take, drop, replicate, List·getD-eq-default}
 use lib.Seq.{drop-cons, drop-length, getD-set-same, getD-set-other, getD-take, length-take-le}
-use Rattle.field.specs.Exponents.{AllPowers, Exponents, sumTo, term, Terms}
+use Rattle.field.specs.Exponents.{Exponents, sumTo, term, Terms}
 use Rattle.field.specs.Field.{power, times, checkFrom, check}
 use Rattle.field.proofs.Double.{size-low}
 use Rattle.field.proofs.Times.{times-of-zero, times-power, power-period}
@@ -36,6 +36,16 @@ zeros (suc n) (suc k) = zeros n k
 
 pub exponents-none : (nc : ℕ) → 3 ≤ nc → (n : ℕ) → Exponents nc (replicate n 0)
 exponents-none nc lo n k = rw (zeros n k) (omega (arith, size-low nc lo))
+
+-- the first of them are exponents
+pub exponents-take : (nc n : ℕ) (es : List ℕ) → Exponents nc es → n ≤ length es → Exponents nc (take n es)
+exponents-take nc n es q h k = go (decLt k n)
+  where
+    go : Dec (k < n) → getD (take n es) k 0 + 1 < 2 ^ nc
+    go (yes m) = rw (getD-take n es k 0 m) (q k)
+    go (no m) =
+        let over : length (take n es) ≤ k = omega (arith, length-take-le n es h) in
+        rw (List·getD-eq-default (take n es) 0 over) (omega (arith, q 0))
 
 -- an exponent is written
 pub exponents-set : (nc n v : ℕ) (es : List ℕ) → Exponents nc es → n < length es → v + 1 < 2 ^ nc
@@ -135,14 +145,14 @@ terms-all nc n i xs cs es q =
 abbrev pub AreTerms : (nc n i : ℕ) (cs es fs : List ℕ) → Type 0
 AreTerms nc n i cs es fs = (k : ℕ) → k < n → power nc (getD fs k 0) ≡ term nc i cs es k
 
--- the sum of what these exponents, lent, name is the check
-pub terms-check : (nc n i : ℕ) (p xs cs es fs : List ℕ) → AllPowers nc p → Exponents nc fs → n ≤ length fs
-    → Terms nc n (length xs) xs cs es → AreTerms nc n i cs es fs
-    → sumTo (length (take (n - 0) fs)) (λ k. getD p (getD (take (n - 0) fs) k 0) 0) ≡ check nc i xs
-terms-check nc n i p xs cs es fs a b l q t =
+-- the sum of these, of the exponents that are lent, is the check
+pub terms-check : (nc n i : ℕ) (xs cs es fs : List ℕ) → n ≤ length fs → Terms nc n (length xs) xs cs es
+    → AreTerms nc n i cs es fs
+    → sumTo (length (take (n - 0) fs)) (λ k. power nc (getD (take (n - 0) fs) k 0)) ≡ check nc i xs
+terms-check nc n i xs cs es fs l q t =
     let z : n - 0 ≡ n = omega arith in
     rw (z, length-take-le n fs l)
-    (sum-same n _ _ (λ k h. rw (getD-take n fs k 0 h) (a (getD fs k 0) (b k) ∙ t k h)) ∙ terms-all nc n i xs cs es q)
+    (sum-same n _ _ (λ k h. rw (getD-take n fs k 0 h) (t k h)) ∙ terms-all nc n i xs cs es q)
 
 module _ (nc : ℕ) (lo : 3 ≤ nc) (hi : nc ≤ 8) where
   -- the listed exponents are the terms of check 0

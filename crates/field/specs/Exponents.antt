@@ -6,10 +6,6 @@ use lib.Bits.{bitXor}
 use lib.ListN.{length, getD, drop}
 use Rattle.field.specs.Field.{power, times, checkFrom, check}
 
--- a list that has each power of 2 at its exponent's place
-abbrev pub AllPowers : (nc : ℕ) → List ℕ → Type 0
-AllPowers nc p = (e : ℕ) → e + 1 < 2 ^ nc → getD p e 0 ≡ power nc e
-
 -- a list of exponents, each below 2 ^ nc - 1 (past its end 0 stands, which is one)
 abbrev pub Exponents : (nc : ℕ) → List ℕ → Type 0
 Exponents nc es = (k : ℕ) → getD es k 0 + 1 < 2 ^ nc

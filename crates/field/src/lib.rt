@@ -5,7 +5,7 @@ ghost use Prim.Native.Nat.{ℕ, _+_, _-_, _*_, _^_, _<_, _≤_};
 ghost use lib.ListN.{length, getD};
 ghost use Rattle.field.specs.Field.{Element, Elements, power, times, Checks};
 ghost use Rattle.field.specs.Tables.{powers, start, withLogs, Logs};
-ghost use Rattle.field.specs.Exponents.{AllPowers, Exponents, sumTo, Terms};
+ghost use Rattle.field.specs.Exponents.{Exponents, sumTo, Terms};
 
 // The powers of 2 of the six fields one after another, 2 ^ nc - 1 for each.
 const POWERS: [u8; 498] = [
@@ -550,29 +550,15 @@ fn reduce(nc: usize, e: usize) -> usize
     if e < n { e } else { e - n }
 }
 
-// The powers of 2, each at its exponent's place.
-pub fn fill_powers(nc: usize, p: &mut [u8])
-    requires { ⌜ (3 ≤ nc) × (nc ≤ 8) × (2 ^ nc ≤ length (now p)) ⌝ }
-    ensures { λ _. ⌜ AllPowers nc (now (p .exit)) ⌝ }
-{
-    let t = table();
-    let n = order(nc);
-    let mut e: usize = 0;
-    while e < n {
-        p[e] = entry(&t, nc, e);
-        e += 1;
-    }
-}
-
-// Writes the log of each element but 0 at the element's place, and nothing else. p has the powers of 2.
-pub fn fill_logs(nc: usize, p: &[u8; 256], logs: &mut [u8])
-    requires { ⌜ (3 ≤ nc) × (nc ≤ 8) × AllPowers nc (now p) × (2 ^ nc ≤ length (now logs)) ⌝ }
+// Writes the log of each element but 0 at the element's place, and nothing else.
+pub fn fill_logs(t: &[u8; 498], nc: usize, logs: &mut [u8])
+    requires { ⌜ (now t ≡ powers) × (3 ≤ nc) × (nc ≤ 8) × (2 ^ nc ≤ length (now logs)) ⌝ }
     ensures { λ _. ⌜ (now (logs .exit) ≡ withLogs nc (2 ^ nc - 1) (now (logs .entry))) × Logs nc (now (logs .exit)) ⌝ }
 {
     let n = order(nc);
     let mut e: usize = 0;
     while e < n {
-        let x = bits::wide(p[e]);
+        let x = bits::wide(entry(t, nc, e));
         logs[x] = e as u8;
         e += 1;
     }
@@ -644,15 +630,16 @@ fn raise_all(nc: usize, n: usize, cs: &[u8], es: &mut [u8])
     }
 }
 
-// The field sum of the entries of p at places.
-fn sum(p: &[u8; 256], places: &[u8]) -> u8
-    ensures { λ r. ⌜ r ≡ sumTo (length (now (places .entry))) (λ k. getD (now (p .entry)) (getD (now (places .entry)) k 0) 0) ⌝ }
+// The field sum of the powers of 2 with these exponents.
+fn sum(t: &[u8; 498], nc: usize, es: &[u8]) -> u8
+    requires { ⌜ (now t ≡ powers) × (3 ≤ nc) × (nc ≤ 8) × Exponents nc (now es) ⌝ }
+    ensures { λ r. ⌜ r ≡ sumTo (length (now (es .entry))) (λ k. power nc (getD (now (es .entry)) k 0)) ⌝ }
 {
     let mut s: u8 = 0;
-    let mut c: usize = 0;
-    while c < places.len() {
-        s ^= p[bits::wide(places[c])];
-        c += 1;
+    let mut k: usize = 0;
+    while k < es.len() {
+        s ^= entry(t, nc, bits::wide(es[k]));
+        k += 1;
     }
     s
 }
@@ -665,10 +652,9 @@ fn eights(nc: usize, n: usize) -> usize
     (n + 7) / 8 * 8
 }
 
-// The first r checks of the chunks, at the start of a slice: the exponents of all terms of a check are made those of the next. p
-// has the powers of 2.
-pub fn checks(nc: usize, r: usize, p: &[u8; 256], logs: &[u8], chunks: &[u8], out: &mut [u8])
-    requires { ⌜ ((3 ≤ nc) × (nc ≤ 8) × AllPowers nc (now p) × Logs nc (now logs) × Elements nc (now chunks))
+// The first r checks of the chunks, at the start of a slice: the exponents of all terms of a check are made those of the next.
+pub fn checks(t: &[u8; 498], nc: usize, r: usize, logs: &[u8], chunks: &[u8], out: &mut [u8])
+    requires { ⌜ ((now t ≡ powers) × (3 ≤ nc) × (nc ≤ 8) × Logs nc (now logs) × Elements nc (now chunks))
         × ((length (now chunks) < 2 ^ nc) × (r ≤ length (now out))) ⌝ }
     ensures { λ _. ⌜ Checks nc r (now (chunks .entry)) (now (out .exit)) ⌝ }
 {
@@ -681,7 +667,7 @@ pub fn checks(nc: usize, r: usize, p: &[u8; 256], logs: &[u8], chunks: &[u8], ou
         if 0 < i {
             raise_all(nc, m, &cs, &mut es);
         }
-        out[i] = sum(p, &es[0..n]);
+        out[i] = sum(t, nc, &es[0..n]);
         i += 1;
     }
 }

@@ -1,5 +1,6 @@
--- Lines of chunks: how long a line is, where it splits, and which bits of a row it holds. The chunks of a row as numbers give
--- its bits back, its blocks and its chunk-strings are lines of them, and so the sums of a row are sums of lines. Assumes nothing.
+-- Lines of chunks: how long a line is, where it splits, and which bits of a row it holds. The chunks of a row as
+-- numbers give its bits back, its blocks and its chunk-strings are lines of them, and so the sums of a row are sums of
+-- lines. Assumes nothing.
 use Prim.Native.Nat.{ℕ, zero, suc, _+_, _*_, _^_, _<_, _≤_}
 use mathlib.Core.Path.{_≡_, refl, sym, ap, ap₂, _∙_}
 use mathlib.Core.Bool.{true}
@@ -46,7 +47,8 @@ line-cons nc start stride n vs = refl
 pub line-split : (nc start stride a b : ℕ) (vs : List ℕ)
     → line nc start stride (a + b) vs ≡ line nc start stride a vs ++ line nc (start + a * stride) stride b vs
 unfolding line
-line-split nc start stride zero b vs = let e : start + 0 * stride ≡ start = omega (arith, zero-mul stride) in rw (zero-add b, e) refl
+line-split nc start stride zero b vs = let e : start + 0 * stride ≡ start = omega (arith, zero-mul stride) in
+    rw (zero-add b, e) refl
 line-split nc start stride (suc a) b vs =
     let e : start + stride + a * stride ≡ start + suc a * stride = omega (arith, suc-mul a stride) in
     let m : suc a + b ≡ suc (a + b) = omega arith in
@@ -105,12 +107,14 @@ module _ (l : Layout) (x : List ℕ) where
     unfolding values
     value-low c = chunk-elements l x (row .1) c
 
-    pub chunk-digits : (c : ℕ) → c < l .l1 * l .l2 → digits (l .nc) (getD (values l x) c 0) ≡ take (l .nc) (drop (c * l .nc) x)
+    pub chunk-digits : (c : ℕ) → c < l .l1 * l .l2
+        → digits (l .nc) (getD (values l x) c 0) ≡ take (l .nc) (drop (c * l .nc) x)
     unfolding fields flatMap
     chunk-digits c h =
         let y : List ℕ = drop (c * l .nc) x in
         let one : 1 * l .nc ≡ l .nc = one-mul (l .nc) in
-        let room : 1 * l .nc ≤ length y = rw one (simp length-drop (omega (arith, field-room (l .l1 * l .l2) (l .nc) c h, row .0))) in
+        let room : 1 * l .nc ≤ length y =
+        rw one (simp length-drop (omega (arith, field-room (l .l1 * l .l2) (l .nc) c h, row .0))) in
         let d = flat-fields 1 (l .nc) y (bits-drop (c * l .nc) x (row .1)) room in
         ap (digits (l .nc)) (value-at c h) ∙ rw (append-nil, one) at d
 
@@ -129,13 +133,16 @@ module _ (l : Layout) (x : List ℕ) where
     -- all chunks are the row
     pub row-line : line (l .nc) 0 1 (l .l1 * l .l2) (values l x) ≡ x
     row-line =
-        piece-line 0 (l .l1 * l .l2) (omega arith) ∙ rw (zero-mul (l .nc)) (take-all (rowBits l) x (omega (arith, row .0)))
+        piece-line 0 (l .l1 * l .l2) (omega arith)
+        ∙ rw (zero-mul (l .nc)) (take-all (rowBits l) x (omega (arith, row .0)))
 
     -- block i
-    pub block-line : (i : ℕ) → i < l .l1 → getD (blockSums l x) i 0 ≡ sum (line (l .nc) (i * l .l2) 1 (l .l2) (values l x))
+    pub block-line : (i : ℕ) → i < l .l1
+        → getD (blockSums l x) i 0 ≡ sum (line (l .nc) (i * l .l2) 1 (l .l2) (values l x))
     block-line i h =
         block-sum-at l x i h
-        ∙ ap sum (sym (piece-line (i * l .l2) (l .l2) (field-room (l .l1) (l .l2) i h) ∙ rw (mul-assoc i (l .l2) (l .nc)) refl))
+        ∙ ap sum (sym (piece-line (i * l .l2) (l .l2) (field-room (l .l1) (l .l2) i h)
+        ∙ rw (mul-assoc i (l .l2) (l .nc)) refl))
 
     -- chunk-string j from block i on
     string-from : (j : ℕ) → j < l .l2 → (n i : ℕ) → i + n ≡ l .l1

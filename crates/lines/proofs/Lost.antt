@@ -1,5 +1,5 @@
--- A chunk that lost one bit: what the bit adds to the total of the positions, wherever the chunk's first bit stands, and the chunk
--- that it makes again. Assumes nothing.
+-- A chunk that lost one bit: what the bit adds to the total of the positions, wherever the chunk's first bit stands,
+-- and the chunk that it makes again. Assumes nothing.
 use Prim.Native.Nat.{ℕ, zero, suc, _+_, _-_, _*_, _%_, _<_, _≤_}
 use mathlib.Core.Path.{_≡_, refl, sym, ap, _∙_}
 use mathlib.Core.Bool.{true}
@@ -57,8 +57,8 @@ ones-behind (suc k) (b ∷ y) a h =
     let r = ones-behind k y (a .1) (omega arith) in
     (omega (arith, r .0), (omega (arith, r .1 .0, a .0), omega (arith, r .1 .1)))
 
--- a 0 that is put back adds at most the number of ones, a 1 at least as much and its position; so what it adds says which it is,
--- and what it adds in the chunk itself
+-- a 0 that is put back adds at most the number of ones, a 1 at least as much and its position; so what it adds says
+-- which it is, and what it adds in the chunk itself
 pub adds : (first g : ℕ) (x y : List ℕ) → 1 ≤ first → AllBits x → AllBits y → comesFrom x 1 y ≡ true
     → total first x ≡ total first y + g
     → ((g ≤ ones y) × (total 1 x ≡ total 1 y + g))
@@ -95,8 +95,10 @@ adds-most : (first : ℕ) (x y : List ℕ) → 1 ≤ first → AllBits x → All
 adds-most first x y low ax ay c =
     let p = put (one x y c) ax in
     let r = ones-behind (p .at) y ay (p .inside) in
-    let gain = ap (total first) (p .is) ∙ total-put first (p .at) (p .bit) y (p .inside) in
-    ((first + p .at) * p .bit + ones (drop (p .at) y), (omega (arith, r .1 .1, times-bit (first + p .at) (p .bit) (p .small)), gain))
+    let gain = ap (total first) (p .is) ∙ total-put first (p .at) (p .bit) y (p .inside) in (
+      (first + p .at) * p .bit + ones (drop (p .at) y),
+      (omega (arith, r .1 .1, times-bit (first + p .at) (p .bit) (p .small)), gain),
+    )
 
 -- the string that has a total and from which the bits at hand come is the mended one
 pub made-again : (w whole : ℕ) (x y : List ℕ) → AllBits x → comesFrom x 1 y ≡ true → length y + 1 ≡ w → total 1 x ≡ whole
@@ -129,7 +131,8 @@ weighed rest before o t y e f =
     rw (e, f) (omega (arith, far))
 
 -- ---- a line that lost one bit in a chunk
-module _ (nc start stride count hole s : ℕ) (bits vs us : List ℕ) (h : hole < count) (n : length bits + 1 ≡ nc) (b : AllBits bits)
+module _ (nc start stride count hole s : ℕ) (bits vs us : List ℕ) (h : hole < count) (n : length bits + 1 ≡ nc)
+    (b : AllBits bits)
     (m : Mendable nc start stride count hole s bits vs us) where
   abbrev value : ℕ
   value = getD us (start + hole * stride) 0

@@ -1,5 +1,5 @@
--- A line around one of its chunks: its total changes just by what that chunk brings, and so its sum is known from the line with a zero
--- there. Assumes nothing.
+-- A line around one of its chunks: its total changes just by what that chunk brings, and so its sum is known from the
+-- line with a zero there. Assumes nothing.
 use Prim.Native.Nat.{ℕ, zero, suc, _+_, _-_, _*_, _%_, _<_, _≤_}
 use mathlib.Core.Path.{_≡_, refl, sym, ap, _∙_}
 use mathlib.Core.List.{List, _++_}
@@ -70,7 +70,8 @@ module _ (nc start stride count t : ℕ) (h : t < count) where
   module _ (vs : List ℕ) (s : 0 < stride) (g : start + t * stride < length vs) where
     -- lines in which chunk t alone is put anew
     alike : (u v i : ℕ) → i < count → (i ≡ t → ⊥)
-        → getD (set vs (start + t * stride) u) (start + i * stride) 0 ≡ getD (set vs (start + t * stride) v) (start + i * stride) 0
+        → getD (set vs (start + t * stride) u) (start + i * stride) 0
+        ≡ getD (set vs (start + t * stride) v) (start + i * stride) 0
     alike u v i k n =
         getD-set-other vs (start + t * stride) (start + i * stride) u 0 other
         ∙ sym (getD-set-other vs (start + t * stride) (start + i * stride) v 0 other)
@@ -90,7 +91,8 @@ module _ (nc start stride count t : ℕ) (h : t < count) where
     -- what chunk t leaves of the total of its line gives the sum of the line with a zero there
     pub sum-rest : (whole own : ℕ) → whole ≡ total 1 (line nc start stride count vs)
         → own ≡ total (t * nc + 1) (digits nc (getD vs (start + t * stride) 0))
-        → (own ≤ whole) × ((whole - own) % (count * nc + 1) ≡ sum (line nc start stride count (set vs (start + t * stride) 0)))
+        → (own ≤ whole) × ((whole - own) % (count * nc + 1)
+        ≡ sum (line nc start stride count (set vs (start + t * stride) 0)))
     sum-rest whole own e f =
         let at : ℕ = start + t * stride in
         let bare : List ℕ = set vs at 0 in
@@ -103,7 +105,8 @@ module _ (nc start stride count t : ℕ) (h : t < count) where
 
     -- the sum of a line with v as chunk t, from the sum of the line with a zero there
     pub sum-set : (v : ℕ)
-        → (sum (line nc start stride count (set vs (start + t * stride) 0)) + total (t * nc + 1) (digits nc v)) % (count * nc + 1)
+        → (sum (line nc start stride count (set vs (start + t * stride) 0)) + total (t * nc + 1) (digits nc v))
+        % (count * nc + 1)
         ≡ sum (line nc start stride count (set vs (start + t * stride) v))
     sum-set v =
         let at : ℕ = start + t * stride in

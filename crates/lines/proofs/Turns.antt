@@ -1,5 +1,5 @@
--- What the loops over a line ask: where its chunks stand, what a slice holds after a chunk more, and what a chunk adds to the
--- total of the positions of the ones. Assumes nothing.
+-- What the loops over a line ask: where its chunks stand, what a slice holds after a chunk more, and what a chunk adds
+-- to the total of the positions of the ones. Assumes nothing.
 use Prim.Native.Nat.{ℕ, suc, _+_, _-_, _*_, _%_, _<_, _≤_}
 use mathlib.Core.Path.{_≡_, refl, sym, ap, _∙_}
 use mathlib.Core.List.{List, _++_, append-assoc, append-nil}
@@ -58,7 +58,8 @@ spread-next nc start stride at t vs o p q h e f =
     length-append (take at o) (line nc start stride t vs)
     ∙ omega (arith, length-take-le at o (omega arith), length-line nc start stride t vs)
     in
-    f ∙ rw (e, part-next front d o (at + t * nc) nc n, field-step at nc t, line-end nc start stride t vs) (simp append-assoc)
+    f ∙ rw (e, part-next front d o (at + t * nc) nc n, field-step at nc t, line-end nc start stride t vs)
+    (simp append-assoc)
 
 -- ---- the total of a line
 -- chunk t and the chunks behind it
@@ -92,7 +93,8 @@ pub total-most : (nc start stride count : ℕ) (vs : List ℕ) → count * nc �
 total-most nc start stride count vs h =
     let more : 1 + count * nc ≤ 1 + longest = omega arith in
     let l : List ℕ = line nc start stride count vs in
-    le-trans (total-high 1 l (bits-line nc start stride count vs)) (rw (length-line nc start stride count vs) (mul-le-mul h more))
+    le-trans (total-high 1 l (bits-line nc start stride count vs))
+    (rw (length-line nc start stride count vs) (mul-le-mul h more))
 
 -- the sum of a line is its total, modulo its length and one
 pub sum-of-total : (nc start stride count : ℕ) (vs : List ℕ)

@@ -1,5 +1,5 @@
--- A row as the numbers of its chunks, and the lines of chunks that have a sum: a block is a line of neighbouring chunks, a
--- chunk-string a line of every l2-th chunk (document 01, "Rows, blocks, chunks").
+-- A row as the numbers of its chunks, and the lines of chunks that have a sum: a block is a line of neighbouring
+-- chunks, a chunk-string a line of every l2-th chunk (document 01, "Rows, blocks, chunks").
 use Prim.Native.Nat.{ℕ, zero, suc, _+_, _*_, _^_, _<_, _≤_}
 use mathlib.Core.Path.{_≡_}
 use mathlib.Core.Bool.{true, cond}
@@ -34,8 +34,8 @@ pub record Inside (nc start stride count size : ℕ) : Type 0 where
   pub stride-high : stride ≤ 255
   pub last : start + count * stride < size + stride
 
--- the numbers us are those of a row whose line lost one bit: beside chunk hole of the line they are the numbers vs in hand, the line
--- has the sum s, and the bits at hand come from chunk hole by one deletion
+-- the numbers us are those of a row whose line lost one bit: beside chunk hole of the line they are the numbers vs in
+-- hand, the line has the sum s, and the bits at hand come from chunk hole by one deletion
 pub record Mendable (nc start stride count hole s : ℕ) (bits vs us : List ℕ) : Type 0 where
   pub around : (t : ℕ) → t < count → (t ≡ hole → ⊥) → getD us (start + t * stride) 0 ≡ getD vs (start + t * stride) 0
   pub has-sum : sum (line nc start stride count us) ≡ s

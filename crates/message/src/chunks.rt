@@ -123,9 +123,8 @@ pub fn fill_checks(l1: usize, l2: usize, nc: usize, r: usize, chunks: &[u8], out
     if r == 0 {
         return;
     }
-    let mut p: [u8; 256] = [0; 256];
-    field::fill_powers(nc, &mut p);
+    let t = field::table();
     let mut logs: [u8; 256] = [0; 256];
-    field::fill_logs(nc, &p, &mut logs);
-    field::checks(nc, r, &p, &logs, chunks, out);
+    field::fill_logs(&t, nc, &mut logs);
+    field::checks(&t, nc, r, &logs, chunks, out);
 }

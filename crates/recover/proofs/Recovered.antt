@@ -156,7 +156,8 @@ module _ (l : Layout) (ns y x row : List ℕ) (cells : Cells) (n : ℕ) (places 
         ap (λ (v : ℕ). v % 2 ^ l .nc) (given-check i few) ∙ mod-eq-of-lt (check-low i) ∙ sum
         in
         let all : n ≡ n - 0 = omega arith in
-        h i (omega arith) ∙ ap (λ (v : ℕ). bitXor v f) number ∙ other-summand b f ∙ ap (brought (l .nc) i place content 0) all
+        h i (omega arith) ∙ ap (λ (v : ℕ). bitXor v f) number ∙ other-summand b f
+        ∙ ap (brought (l .nc) i place content 0) all
 
     -- the erased chunks put in, the row is in hand
     recovered : (found exit : List ℕ) → ((w : ℕ) → w < n → getD found w 0 ≡ content w)

@@ -87,7 +87,8 @@ module _ (l : Layout) (cells : Cells) where
 
   -- the next cell when its place is new
   pub collected-new : (z n p : ℕ) (places : List ℕ) → Open cells z → n < length places → p ≡ chunkOf l cells z
-      → p < l .l1 * l .l2 → (Among n places p → ⊥) → Collected l cells z n places → Collected l cells (z + 1) (n + 1) (set places n p)
+      → p < l .l1 * l .l2 → (Among n places p → ⊥) → Collected l cells z n places
+      → Collected l cells (z + 1) (n + 1) (set places n p)
   collected-new z n p places unfound room is low new k =
       record {
         few = omega (arith, k .few);
@@ -102,9 +103,11 @@ module _ (l : Layout) (cells : Cells) where
       }
 
   -- where no cell is open there is no place
-  pub collected-closed : (k n : ℕ) (places : List ℕ) → Collected l cells k n places → ((z : ℕ) → z < k → Open cells z → ⊥) → n ≡ 0
+  pub collected-closed : (k n : ℕ) (places : List ℕ) → Collected l cells k n places
+      → ((z : ℕ) → z < k → Open cells z → ⊥) → n ≡ 0
   collected-closed k zero places c closed = refl
-  collected-closed k (suc n) places c closed = let o = c .only 0 (omega arith) in absurd (closed (o .0) (o .1 .0) (o .1 .1 .0))
+  collected-closed k (suc n) places c closed = let o = c .only 0 (omega arith) in
+      absurd (closed (o .0) (o .1 .0) (o .1 .1 .0))
 
 -- ---- contents put at the places
 module _ (places contents entry : List ℕ) where

@@ -35,7 +35,8 @@ pub record PutAt (n : ℕ) (places contents entry exit : List ℕ) : Type 0 wher
   pub there : (w : ℕ) → w < n → getD exit (getD places w 0) 0 ≡ getD contents w 0
   pub elsewhere : (p : ℕ) → (Among n places p → ⊥) → getD exit p 0 ≡ getD entry p 0
 
--- the numbers s are what is missing of the first n checks among the numbers ns: the field sum of each and that of the chunks vs
+-- the numbers s are what is missing of the first n checks among the numbers ns: the field sum of each and that of the
+-- chunks vs
 abbrev pub Missing : Layout → (n : ℕ) (ns vs s : List ℕ) → Type 0
 Missing l n ns vs s =
     (i : ℕ) → i < n → getD s i 0 ≡ bitXor (getD ns (l .l1 + l .l2 + i) 0 % 2 ^ l .nc) (check (l .nc) i vs)

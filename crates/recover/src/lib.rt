@@ -8,8 +8,7 @@ ghost use Prim.Native.Nat.{ℕ, _+_, _*_, _%_, _^_, _<_, _≤_};
 ghost use mathlib.Core.List.{List};
 ghost use lib.ListN.{length, getD, take};
 ghost use Rattle.field.specs.Field.{Elements};
-ghost use Rattle.field.specs.Tables.{Logs};
-ghost use Rattle.field.specs.Exponents.{AllPowers};
+ghost use Rattle.field.specs.Tables.{powers, Logs};
 ghost use Rattle.message.specs.Layout.{legal as isLegal};
 ghost use Rattle.cells.specs.Cells.{chunkOf, Under};
 ghost use Rattle.found.specs.Found.{Given, Sent, InHand};
@@ -123,12 +122,12 @@ fn reduce(nc: usize, count: usize, row: [u8; 255]) -> [u8; 255]
 fn missing(
     l: Layout,
     n: usize,
-    p: &[u8; 256],
+    t: &[u8; 498],
     logs: &[u8],
     numbers: &[u16],
     chunks: &[u8],
 ) -> [u8; 16]
-    requires { ⌜ ((isLegal l ≡ true) × (n ≤ l .r)) × ((AllPowers (l .nc) (now p) × Logs (l .nc) (now logs)
+    requires { ⌜ ((isLegal l ≡ true) × (n ≤ l .r)) × (((now t ≡ powers) × Logs (l .nc) (now logs)
         × (length (now numbers) ≡ l .l1 + l .l2 + l .r))
         × (Elements (l .nc) (now chunks) × (length (now chunks) < 2 ^ l .nc))) ⌝ }
     ensures { λ r. ⌜ Elements (l .nc) r × Missing l n (now (numbers .entry)) (now (chunks .entry)) r ⌝ }
@@ -136,7 +135,7 @@ fn missing(
     let size = field::order(l.nc) + 1;
     let first = l.l1 + l.l2;
     let mut own: [u8; 16] = [0; 16];
-    field::checks(l.nc, n, p, logs, chunks, &mut own);
+    field::checks(t, l.nc, n, logs, chunks, &mut own);
     let mut out: [u8; 16] = [0; 16];
     let mut i: usize = 0;
     while i < n {
@@ -155,14 +154,12 @@ pub fn recover(l: Layout, numbers: &[u16], e: Erased, row: &[u8; 255]) -> [u8; 2
         → Under l y cells (now (row .entry)) x → InHand l r x) ⌝ }
 {
     let nc = l.nc;
-    let mut p: [u8; 256] = [0; 256];
-    field::fill_powers(nc, &mut p);
-    let mut logs: [u8; 256] = [0; 256];
-    field::fill_logs(nc, &p, &mut logs);
     let t = field::table();
+    let mut logs: [u8; 256] = [0; 256];
+    field::fill_logs(&t, nc, &mut logs);
     let count = l.l1 * l.l2;
     let base = reduce(nc, count, put(*row, e, [0; 12]));
-    let s = missing(l, e.n, &p, &logs, numbers, &base[0..count]);
+    let s = missing(l, e.n, &t, &logs, numbers, &base[0..count]);
     let places = e.places;
     let contents = erasures::solve(&t, nc, &logs, places, e.n, 0, s);
     put(base, e, contents)

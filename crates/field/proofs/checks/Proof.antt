@@ -10,17 +10,17 @@ use lib.ListN.{length, getD, length-set, getD-replicate}
 use Rattle.field.specs.Exponents.{Exponents}
 use Rattle.field.specs.Field.{check, Checks}
 use Rattle.field.proofs.Double.{size-low, size-high}
-use Rattle.field.proofs.Terms.{AreTerms, exponents-none, terms-check, first-terms, next-terms, entries-next}
+use Rattle.field.proofs.Terms.{AreTerms, exponents-none, exponents-take, terms-check, first-terms, next-terms, entries-next}
 use Rattle.field.proofs.checks.Statement.{statement}
 use Rattle.field.proofs.checks.Tie as tie
 
 abbrev Inv-loop : tie.InvT-loop
-Inv-loop nc r p logs chunks out₀ cs es₀ n m i₀ out es i =
+Inv-loop t nc r logs chunks out₀ cs es₀ n m i₀ out es i =
     (length out ≡ length out₀) × (length es ≡ 256) × (i ≤ r) × Exponents nc es × AreTerms nc n (i - 1) cs es₀ es
     × Checks nc i chunks out
 
 abbrev μ-loop : tie.MeasureT-loop
-μ-loop nc r p logs chunks out₀ cs es₀ n m i₀ out es i = r - i
+μ-loop t nc r logs chunks out₀ cs es₀ n m i₀ out es i = r - i
 
 -- where the function starts, seen from where the terms are made room for
 abbrev start : tie.After-es Inv-loop μ-loop → tie.Start Inv-loop μ-loop
@@ -36,9 +36,9 @@ fill-terms-requires : tie.Need-fill-terms-requires Inv-loop μ-loop
 fill-terms-requires c κs =
     let s = start c in
     let q = s .pre .0 in
-    let few : length (s .args .chunks .now) ≤ 256 = omega (arith, s .pre .1 .0, size-high (s .args .nc) (q .1)) in
-    let none = exponents-none (s .args .nc) (q .0) 256 in
-    ((q .0, q .1, q .3, q .4), (s .pre .1 .0, few, few), (none, none))
+    let few : length (s .args .chunks .now) ≤ 256 = omega (arith, s .pre .1 .0, size-high (s .args .nc) (q .2)) in
+    let none = exponents-none (s .args .nc) (q .1) 256 in
+    ((q .1, q .2, q .3, q .4), (s .pre .1 .0, few, few), (none, none))
 
 -- where the terms are listed, seen from where they are held again
 abbrev listed : tie.After-es2 Inv-loop μ-loop → tie.After-fill-terms Inv-loop μ-loop
@@ -58,7 +58,7 @@ few c = omega (arith, listed c .fill-terms .ensures .few, start (listed c .befor
 eights-requires : tie.Need-eights-requires Inv-loop μ-loop
 eights-requires c κs =
     let q = start (listed c .before) .pre .0 in
-    (q .0, q .1, omega (arith, few c))
+    (q .1, q .2, omega (arith, few c))
 
 loop-holds : tie.Need-loop-holds Inv-loop μ-loop
 loop-holds c =
@@ -68,7 +68,7 @@ loop-holds c =
       search needs,
       search needs,
       t .fill-terms .ensures .exponents,
-      first-terms (s .args .nc) (s .pre .0 .0) (s .pre .0 .1) (t .fill-terms .result) (places t) (exponents t),
+      first-terms (s .args .nc) (s .pre .0 .1) (s .pre .0 .2) (t .fill-terms .result) (places t) (exponents t),
       λ i h. absurd (omega arith),
     )
 
@@ -90,8 +90,8 @@ raise-all-requires c κs =
     let t = c .before .before .before in
     let q = begun t .pre .0 in
     let high : rounded t .eights .result ≤ 256 =
-    omega (arith, rounded t .eights .ensures .1, size-high (begun t .args .nc) (q .1)) in (
-      (q .0, q .1, search needs, omega (arith, t .before .loop .inv .1)),
+    omega (arith, rounded t .eights .ensures .1, size-high (begun t .args .nc) (q .2)) in (
+      (q .1, q .2, search needs, omega (arith, t .before .loop .inv .1)),
       (listed (rounded t .before) .fill-terms .ensures .places, t .before .loop .inv .3),
     )
 
@@ -112,7 +112,7 @@ terms c =
     ⊎-elim
     (λ w. let raised = w .3 .ensures in
     let next =
-    next-terms nc (s .pre .0 .0) (s .pre .0 .1) n (p .i - 1) (p .i) (places t) (exponents t) (p .es)
+    next-terms nc (s .pre .0 .1) (s .pre .0 .2) n (p .i - 1) (p .i) (places t) (exponents t) (p .es)
     (w .3 .last .1 .1 .1 .0) (omega arith) (p .inv .4)
     (λ k h. raised .1 k (omega (arith, r .eights .ensures .0))) in
     subst Are (sym (w .5)) (search needs, raised .0, next))
@@ -130,10 +130,18 @@ part-sum-end : tie.Need-part-sum-end Inv-loop μ-loop
 part-sum-end c =
     let t = c .before .before in
     let s = begun t in
-    omega (arith, few (rounded t .before), size-high (s .args .nc) (s .pre .0 .1), terms (c .before) .0)
+    omega (arith, few (rounded t .before), size-high (s .args .nc) (s .pre .0 .2), terms (c .before) .0)
 
 sum-requires : tie.Need-sum-requires Inv-loop μ-loop
-sum-requires c κs = search needs
+sum-requires c κs =
+    let j = c .before .before in
+    let t = j .before in
+    let q = begun t .pre .0 in
+    let n : ℕ = listed (rounded t .before) .fill-terms .result in
+    let z : n - 0 ≡ n = omega arith in
+    let long : n ≤ length (j .if1 .es) =
+    omega (arith, few (rounded t .before), size-high (begun t .args .nc) (q .2), terms j .0) in
+    (q .0, q .1, q .2, rw z (exponents-take (begun t .args .nc) n (j .if1 .es) (terms j .1) long))
 
 slice-write-out : tie.Need-slice-write-out Inv-loop μ-loop
 slice-write-out c = search needs
@@ -154,13 +162,13 @@ loop-again c =
     let n : ℕ = t .fill-terms .result in
     let p = j .before .before .loop in
     let q = terms j in
-    let long : n ≤ length (j .if1 .es) = omega (arith, few (r .before), size-high (a .nc) (s .pre .0 .1), q .0) in
+    let long : n ≤ length (j .if1 .es) = omega (arith, few (r .before), size-high (a .nc) (s .pre .0 .2), q .0) in
     let last : p .i + 1 - 1 ≡ p .i = omega arith in
     let Is : ℕ → ℕ → Type 0 = λ i v. v ≡ check (a .nc) i (a .chunks .now) in
     let sum =
     c .sum .ensures
-    ∙ terms-check (a .nc) n (p .i) (a .p .now) (a .chunks .now) (places t) (exponents t) (j .if1 .es) (s .pre .0 .2)
-    (q .1) long (t .fill-terms .ensures) (q .2) in (
+    ∙ terms-check (a .nc) n (p .i) (a .chunks .now) (places t) (exponents t) (j .if1 .es) long
+    (t .fill-terms .ensures) (q .2) in (
       simp length-set (p .inv .0),
       q .0,
       omega arith,

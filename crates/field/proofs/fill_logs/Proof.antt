@@ -12,10 +12,10 @@ use Rattle.field.proofs.fill_logs.Statement.{statement}
 use Rattle.field.proofs.fill_logs.Tie as tie
 
 abbrev Inv-loop : tie.InvT-loop
-Inv-loop nc p logs₀ n e₀ logs e = (e ≤ n) × (logs ≡ withLogs nc e logs₀)
+Inv-loop t nc logs₀ n e₀ logs e = (e ≤ n) × (logs ≡ withLogs nc e logs₀)
 
 abbrev μ-loop : tie.MeasureT-loop
-μ-loop nc p logs₀ n e₀ logs e = n - e
+μ-loop t nc logs₀ n e₀ logs e = n - e
 
 order-requires : tie.Need-order-requires Inv-loop μ-loop
 order-requires c κs = search needs
@@ -29,10 +29,10 @@ loop-holds c =
 abbrev start : tie.At-loop Inv-loop μ-loop → tie.Start Inv-loop μ-loop
 start c = c .before .before .before
 
-element-copy-out-wide : tie.Need-element-copy-out-wide Inv-loop μ-loop
-element-copy-out-wide c =
-    let s = start (c .before) in
-    omega (arith, size-high (s .args .nc) (s .pre .1))
+entry-requires : tie.Need-entry-requires Inv-loop μ-loop
+entry-requires c κs =
+    let q = start (c .before) .pre in
+    (q .0, q .1, q .2, omega arith)
 
 wide-requires : tie.Need-wide-requires Inv-loop μ-loop
 wide-requires c κs = search needs
@@ -43,12 +43,12 @@ element : (c : tie.After-wide Inv-loop μ-loop) → let l = c .before .before .b
 element c =
     let l = c .before .before .before in
     let s = start l in
-    c .wide .ensures ∙ s .pre .2 (l .loop .e) (omega arith)
+    c .wide .ensures ∙ c .before .entry .ensures
 
 cast-logs : tie.Need-cast-logs Inv-loop μ-loop
 cast-logs c =
     let s = start (c .before .before .before) in
-    record { fits = omega (arith, size-high (s .args .nc) (s .pre .1)) }
+    record { fits = omega (arith, size-high (s .args .nc) (s .pre .2)) }
 
 slice-write-logs : tie.Need-slice-write-logs Inv-loop μ-loop
 slice-write-logs c =
@@ -56,7 +56,7 @@ slice-write-logs c =
     let s = start l in
     let nc = s .args .nc in
     let same = ap length (l .loop .inv .1) ∙ length-withLogs nc (l .loop .e) (s .args .logs .now) in
-    omega (arith, power-element nc (s .pre .0) (s .pre .1) (l .loop .e), element c)
+    omega (arith, power-element nc (s .pre .1) (s .pre .2) (l .loop .e), element c)
 
 add-e : tie.Need-add-e Inv-loop μ-loop
 add-e c = search needs
@@ -83,7 +83,7 @@ returns c =
     let xs = s .args .logs .now in
     let all : l .loop .e ≡ 2 ^ nc - 1 = omega arith in
     let done = l .loop .inv .1 ∙ ap (λ (k : ℕ). withLogs nc k xs) all in
-    (done, subst (Logs nc) (sym done) (logs-filled nc (s .pre .0) (s .pre .1) xs (s .pre .3)))
+    (done, subst (Logs nc) (sym done) (logs-filled nc (s .pre .1) (s .pre .2) xs (s .pre .3)))
 
 pub fill-logs-spec : {M : Type 1} → statement M
 fill-logs-spec =
@@ -93,7 +93,7 @@ fill-logs-spec =
     μ-loop
     order-requires
     loop-holds
-    element-copy-out-wide
+    entry-requires
     wide-requires
     cast-logs
     slice-write-logs

@@ -1,5 +1,5 @@
--- `lines::line_total` meets its contract. The loop's invariant: what is added so far and the rest of the line make its whole total.
--- Assumes nothing.
+-- `lines::line_total` meets its contract. The loop's invariant: what is added so far and the rest of the line make its
+-- whole total. Assumes nothing.
 use borrow.Author.Needs.{needs}
 use Prim.Native.Nat.{_+_, _-_, _*_, _≤_}
 use mathlib.Core.Path.{_≡_, _∙_}
@@ -15,7 +15,8 @@ use Rattle.lines.proofs.line_total.Tie as tie
 abbrev Inv-loop : tie.InvT-loop
 Inv-loop table nc start stride count vs sum₀ t₀ sum t =
     (t ≤ count)
-    × (sum + total (t * nc + 1) (line nc (start + t * stride) stride (count - t) vs) ≡ total 1 (line nc start stride count vs))
+    × (sum + total (t * nc + 1) (line nc (start + t * stride) stride (count - t) vs)
+    ≡ total 1 (line nc start stride count vs))
 
 abbrev μ-loop : tie.MeasureT-loop
 μ-loop table nc start stride count vs sum₀ t₀ sum t = count - t
@@ -26,7 +27,8 @@ turn : (c : tie.In-loop Inv-loop μ-loop) → let a = c .before .before .before 
 turn c =
     let s = c .before .before .before in
     let a = s .args in
-    chunk-of (a .nc) (a .start) (a .stride) (a .count) (length (a .vs .now)) (c .before .loop .t) (s .pre .1) (omega arith)
+    chunk-of (a .nc) (a .start) (a .stride) (a .count) (length (a .vs .now)) (c .before .loop .t) (s .pre .1)
+    (omega arith)
 
 loop-holds : tie.Need-loop-holds Inv-loop μ-loop
 loop-holds c =
@@ -57,7 +59,8 @@ chunk-total-requires c κs =
 added : (c : tie.After-chunk-total Inv-loop μ-loop)
     → let p = c .before .before .before .loop in let a = c .before .before .before .before .before .args in
     p .sum + c .chunk-total .result
-    + total ((p .t + 1) * a .nc + 1) (line (a .nc) (a .start + (p .t + 1) * a .stride) (a .stride) (a .count - (p .t + 1)) (a .vs .now))
+    + total ((p .t + 1) * a .nc + 1)
+    (line (a .nc) (a .start + (p .t + 1) * a .stride) (a .stride) (a .count - (p .t + 1)) (a .vs .now))
     ≡ total 1 (line (a .nc) (a .start) (a .stride) (a .count) (a .vs .now))
 added c =
     let p = c .before .before .before .loop in

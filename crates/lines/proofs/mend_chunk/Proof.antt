@@ -1,4 +1,5 @@
--- `lines::mend_chunk` meets its contract: what a bit adds says which it is, and what it adds in the chunk itself. Assumes nothing.
+-- `lines::mend_chunk` meets its contract: what a bit adds says which it is, and what it adds in the chunk itself.
+-- Assumes nothing.
 use borrow.Author.Needs.{needs}
 use Prim.Native.Nat.{_*_, _≤_}
 use mathlib.Core.Logic.{⊎-elim}

@@ -1,4 +1,5 @@
--- `lines::mend_line` meets its contract: the line's sum says what the lost bit adds, and that says the chunk. Assumes nothing.
+-- `lines::mend_line` meets its contract: the line's sum says what the lost bit adds, and that says the chunk. Assumes
+-- nothing.
 use borrow.Author.Needs.{needs}
 use Prim.Native.Nat.{ℕ, _+_, _-_, _*_, _≤_}
 use mathlib.Core.Path.{_∙_}
@@ -16,7 +17,8 @@ use Rattle.lines.proofs.mend_line.Statement.{statement}
 use Rattle.lines.proofs.mend_line.Tie as tie
 
 -- the chunk stands among the numbers, and its bits in the line
-stands : (s : tie.Start) → let a = s .args in Chunk (a .nc) (a .start) (a .stride) (a .count) (length (a .vs .now)) (a .hole)
+stands : (s : tie.Start) → let a = s .args in
+    Chunk (a .nc) (a .start) (a .stride) (a .count) (length (a .vs .now)) (a .hole)
 stands s =
     let a = s .args in
     chunk-of (a .nc) (a .start) (a .stride) (a .count) (length (a .vs .now)) (a .hole) (s .pre .0 .0) (s .pre .1 .0)
@@ -59,8 +61,10 @@ shared-slice-read-chunk-total c = stands (entry (c .before .before)) .stands
 chunk-total-requires : tie.Need-chunk-total-requires
 chunk-total-requires c κs =
     let s = entry (c .before .before) in
-    let i = s .pre .0 .0 in
-    ((c .before .before .before .before .weights .ensures, i .nc-high), (omega arith, omega (arith, stands s .room, i .short)))
+    let i = s .pre .0 .0 in (
+      (c .before .before .before .before .weights .ensures, i .nc-high),
+      (omega arith, omega (arith, stands s .room, i .short)),
+    )
 
 weigh-requires : tie.Need-weigh-requires
 weigh-requires c κs = search needs
@@ -132,13 +136,16 @@ returns c us m =
     let rest : ℕ = whole .result - own .result in
     let e = w .weigh .ensures in
     let short = weighed rest before (w .weigh .result .ones) (w .weigh .result .total) y (e .1) (e .0) in
-    let adds = lost-adds (a .nc) (a .start) (a .stride) (a .count) (a .hole) (a .sum) y (a .vs .now) us (p .0) (p .1 .0 .0)
-    (p .1 .0 .1) m rest (k .lacking .result) (omega (arith, parts w .0, whole .ensures, own .ensures .0)) (k .lacking .ensures .0)
+    let adds =
+    lost-adds (a .nc) (a .start) (a .stride) (a .count) (a .hole) (a .sum) y (a .vs .now) us (p .0) (p .1 .0 .0)
+    (p .1 .0 .1) m rest (k .lacking .result) (omega (arith, parts w .0, whole .ensures, own .ensures .0))
+    (k .lacking .ensures .0)
     (rw short at (k .lacking .ensures .1)) in
     let x = digits (a .nc) (getD us (a .start + a .hole * a .stride) 0) in
     let r = c .mend-chunk .ensures x (bits-digits (a .nc) _) (m .comes) adds in (
       r .0,
-      r .1 ∙ lost-number (a .nc) (a .start) (a .stride) (a .count) (a .hole) (a .sum) y (a .vs .now) us (p .0) (p .1 .0 .0)
+      r .1 ∙ lost-number (a .nc) (a .start) (a .stride) (a .count) (a .hole) (a .sum) y (a .vs .now) us (p .0)
+          (p .1 .0 .0)
           (p .1 .0 .1) m,
     )
 

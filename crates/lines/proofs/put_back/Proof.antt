@@ -1,4 +1,5 @@
--- `lines::put_back` meets its contract: a string that has this total and gives the bits at hand is the mended one. Assumes nothing.
+-- `lines::put_back` meets its contract: a string that has this total and gives the bits at hand is the mended one.
+-- Assumes nothing.
 use borrow.Author.Needs.{needs}
 use Prim.Native.Nat.{_+_, _-_, _%_, _≤_}
 use mathlib.Core.Path.{_≡_, refl, ap, _∙_}
@@ -19,11 +20,13 @@ sum-low s = omega (arith, mod-lt (s .args .whole) {m = s .args .nc + 1} (omega a
 -- the mended bits, seen from behind the call
 mended-bits : (c : tie.After-mend-bits) → let a = c .before .before .before .args in
     let s = a .whole % (a .nc + 1) in
-    (take (a .nc - 0) (c .mend-bits .last .1 .1 .0) ≡ mended (a .nc) s (a .bits .now)) × Row (a .nc) (mended (a .nc) s (a .bits .now))
+    (take (a .nc - 0) (c .mend-bits .last .1 .1 .0) ≡ mended (a .nc) s (a .bits .now))
+    × Row (a .nc) (mended (a .nc) s (a .bits .now))
 mended-bits c =
     let s = c .before .before .before in
     let a = s .args in
-    front-mended (a .nc) (a .whole % (a .nc + 1)) (a .bits .now) (c .mend-bits .last .1 .1 .0) _ (s .pre .1) (s .pre .0 .0)
+    front-mended (a .nc) (a .whole % (a .nc + 1)) (a .bits .now) (c .mend-bits .last .1 .1 .0) _ (s .pre .1)
+    (s .pre .0 .0)
     (sum-low s) (c .mend-bits .ensures)
 
 add-mend-bits : tie.Need-add-mend-bits

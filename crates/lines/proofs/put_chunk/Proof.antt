@@ -1,4 +1,5 @@
--- `lines::put_chunk` meets its contract: eight digits are a byte's. The loop's invariant: the first i digits are pasted in. Assumes nothing.
+-- `lines::put_chunk` meets its contract: eight digits are a byte's. The loop's invariant: the first i digits are pasted
+-- in. Assumes nothing.
 use borrow.Author.Needs.{needs}
 use Prim.Native.Nat.{ℕ, _+_, _-_, _/_, _%_, _^_, _<_, _≤_}
 use mathlib.Core.Path.{_≡_, sym, ap, ap₂, _∙_}
@@ -75,8 +76,13 @@ loop-again c =
     let bit : a .v / 2 ^ (k - 1 - p .i) % 2 ≡ getD (digits k (a .v)) (p .i) 0 =
     rw shift (sym (digits-at k (a .v) (p .i) (omega arith)))
     in
-    let n : p .i < length (digits k (a .v)) = omega (arith, length-digits k (a .v)) in
-    (omega arith, (simp length-set (p .inv .1 .0), rw (p .inv .1 .1, bit) (paste-next (a .out .now) (a .at) (digits k (a .v)) (p .i) (omega arith) n)))
+    let n : p .i < length (digits k (a .v)) = omega (arith, length-digits k (a .v)) in (
+      omega arith,
+      (
+        simp length-set (p .inv .1 .0),
+        rw (p .inv .1 .1, bit) (paste-next (a .out .now) (a .at) (digits k (a .v)) (p .i) (omega arith) n),
+      ),
+    )
 
 same-length-2 : tie.Need-same-length-2 Inv-loop μ-loop
 same-length-2 c = search needs

@@ -1,4 +1,5 @@
--- `lines::spread` meets its contract. The loop's invariant: the bits of the first t chunks stand from the place on. Assumes nothing.
+-- `lines::spread` meets its contract. The loop's invariant: the bits of the first t chunks stand from the place on.
+-- Assumes nothing.
 use borrow.Author.Needs.{needs}
 use Prim.Native.Nat.{_+_, _-_, _*_, _≤_}
 use mathlib.Core.Path.{_≡_, _∙_, ap}
@@ -30,7 +31,8 @@ turn : (c : tie.In-loop Inv-loop μ-loop) → let a = entry c .args in
 turn c =
     let s = entry c in
     let a = s .args in
-    chunk-of (a .nc) (a .start) (a .stride) (a .count) (length (a .vs .now)) (c .before .loop .t) (s .pre .0) (omega arith)
+    chunk-of (a .nc) (a .start) (a .stride) (a .count) (length (a .vs .now)) (c .before .loop .t) (s .pre .0)
+    (omega arith)
 
 mul-put-chunk : tie.Need-mul-put-chunk Inv-loop μ-loop
 mul-put-chunk c = omega (arith, turn c .stands)
@@ -49,8 +51,10 @@ add-put-chunk-2 c = omega (arith, turn (c .before .before) .room)
 
 put-chunk-requires : tie.Need-put-chunk-requires Inv-loop μ-loop
 put-chunk-requires c κs =
-    let s = entry (c .before .before) in
-    (s .pre .0 .nc-high, omega (arith, turn (c .before .before) .room, s .pre .1, c .before .before .before .loop .inv .1 .0))
+    let s = entry (c .before .before) in (
+      s .pre .0 .nc-high,
+      omega (arith, turn (c .before .before) .room, s .pre .1, c .before .before .before .loop .inv .1 .0),
+    )
 
 add-t : tie.Need-add-t Inv-loop μ-loop
 add-t c = search needs
@@ -68,7 +72,8 @@ loop-again c =
     omega (arith, turn (c .before .before .before .before .before) .room, s .pre .1)
     in
     let e =
-    spread-next (a .nc) (a .start) (a .stride) (a .at) (p .t) (a .vs .now) (a .out .now) (p .out) (put .last .1 .1 .0) room (p .inv .1 .1)
+    spread-next (a .nc) (a .start) (a .stride) (a .at) (p .t) (a .vs .now) (a .out .now) (p .out) (put .last .1 .1 .0)
+    room (p .inv .1 .1)
     (put .ensures)
     in
     (omega arith, (search needs, e))

@@ -70,7 +70,8 @@ returns-3 c =
     let a = s .args in
     let room : a .e .n < length (a .e .places) = omega (arith, long s, s .pre .1 .1 .0, s .pre .1 .1 .1 .few) in
     let unfound : Open (a .t2) (a .z) = (s .pre .1 .1 .0, omega (arith, k .before .if1 .left)) in
-    collected-new (a .l) (a .t2) (a .z) (a .e .n) (k .chunk-of .result) (a .e .places) unfound room (k .chunk-of .ensures .0)
+    collected-new (a .l) (a .t2) (a .z) (a .e .n) (k .chunk-of .result) (a .e .places) unfound room
+    (k .chunk-of .ensures .0)
     (low k) (c .before .among .ensures .1 (c .if2 .left)) (s .pre .1 .1 .1)
 
 pub add-cell-spec : {M : Type 1} → statement M

@@ -1,5 +1,5 @@
--- `recover::missing` meets its contract: before the i-th turn the first i sums are those of the checks given and the row's
--- own. Assumes nothing.
+-- `recover::missing` meets its contract: before the i-th turn the first i sums are those of the checks given and the
+-- row's own. Assumes nothing.
 use borrow.Author.Needs.{needs}
 use Prim.Native.Nat.{ℕ, _+_, _-_, _%_, _^_, _<_, _≤_}
 use mathlib.Core.Path.{_≡_, refl, _∙_}
@@ -18,12 +18,12 @@ use Rattle.recover.proofs.missing.Statement.{statement}
 use Rattle.recover.proofs.missing.Tie as tie
 
 abbrev Inv-loop : tie.InvT-loop
-Inv-loop n p logs numbers chunks size first own out₀ i₀ out i =
+Inv-loop n t logs numbers chunks size first own out₀ i₀ out i =
     ((i ≤ n) × (length out ≡ 16)) × (((k : ℕ) → getD out k 0 < size)
     × ((k : ℕ) → k < i → getD out k 0 ≡ bitXor (getD numbers (first + k) 0 % size) (getD own k 0)))
 
 abbrev μ-loop : tie.MeasureT-loop
-μ-loop n p logs numbers chunks size first own out₀ i₀ out i = n - i
+μ-loop n t logs numbers chunks size first own out₀ i₀ out i = n - i
 
 bounds : (s : tie.Start Inv-loop μ-loop) → Bounds (s .args .l)
 bounds s = legal-bounds (s .args .l) (s .pre .0 .0)
@@ -36,8 +36,14 @@ entry c = c .before .before .before .before
 abbrev start : tie.After-own2 Inv-loop μ-loop → tie.Start Inv-loop μ-loop
 start c = entry (c .before .before .before .before)
 
-is-size : (c : tie.After-own2 Inv-loop μ-loop) → c .before .before .before .before .order .result + 1 ≡ 2 ^ start c .args .l .nc
-is-size c = omega (arith, c .before .before .before .before .order .ensures, size-low (start c .args .l .nc) (bounds (start c) .nc-low))
+is-size : (c : tie.After-own2 Inv-loop μ-loop)
+    → c .before .before .before .before .order .result + 1 ≡ 2 ^ start c .args .l .nc
+is-size c =
+    omega (
+      arith,
+      c .before .before .before .before .order .ensures,
+      size-low (start c .args .l .nc) (bounds (start c) .nc-low),
+    )
 
 -- there are at most 16 checks
 few : (c : tie.After-own2 Inv-loop μ-loop) → start c .args .n ≤ 16
@@ -69,7 +75,7 @@ checks-requires c κs =
     let s = entry (c .before .before) in
     let b = bounds s in
     let p = s .pre .1 in
-    ((b .nc-low, b .nc-high, p .0 .0, p .0 .1, p .1 .0), (p .1 .1, omega (arith, s .pre .0 .1, b .r-high)))
+    ((p .0 .0, b .nc-low, b .nc-high, p .0 .1, p .1 .0), (p .1 .1, omega (arith, s .pre .0 .1, b .r-high)))
 
 loop-holds : tie.Need-loop-holds Inv-loop μ-loop
 loop-holds c =
@@ -84,7 +90,8 @@ mul-out : tie.Need-mul-out Inv-loop μ-loop
 mul-out c = search needs
 
 shared-slice-read-out : tie.Need-shared-slice-read-out Inv-loop μ-loop
-shared-slice-read-out c = let s = start (turn c) in omega (arith, s .pre .1 .0 .2, s .pre .0 .1, c .before .loop-test .taken)
+shared-slice-read-out c = let s = start (turn c) in
+    omega (arith, s .pre .1 .0 .2, s .pre .0 .1, c .before .loop-test .taken)
 
 cast-out : tie.Need-cast-out Inv-loop μ-loop
 cast-out c =

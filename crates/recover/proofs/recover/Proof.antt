@@ -34,26 +34,19 @@ places s =
       apart = p .apart;
     }
 
--- where the elements are filled and where the function starts, seen from where the logs are made room for
-abbrev filled : tie.After-logs → tie.After-fill-powers
-filled c = c .before .before .before
+-- where the table is made and where the function starts, seen from where the logs are filled
+abbrev tabled : tie.After-fill-logs → tie.After-table
+tabled c = c .before .before .before
 
-abbrev begun : tie.After-logs → tie.Start
-begun c = filled c .before .before .before
+abbrev entry : tie.After-fill-logs → tie.Start
+entry c = tabled c .before .before
 
--- where the logs are filled and where the function starts, seen from where `table` has answered
-abbrev logged : tie.After-table → tie.After-fill-logs
-logged c = c .before .before
-
-abbrev entry : tie.After-table → tie.Start
-entry c = begun (logged c .before)
-
--- where the row in hand is in the field: where `table` has answered, and the function's start
-abbrev tabled : tie.After-reduce → tie.After-table
-tabled c = c .before .before .before .before
+-- where the row in hand is in the field: where the logs are filled, and the function's start
+abbrev logged : tie.After-reduce → tie.After-fill-logs
+logged c = c .before .before .before .before .before
 
 abbrev start : tie.After-reduce → tie.Start
-start c = entry (tabled c)
+start c = entry (logged c)
 
 long : (c : tie.After-reduce) → 255 ≤ length (c .reduce .result)
 long c =
@@ -63,40 +56,32 @@ long c =
 elements : (c : tie.After-reduce) → Elements (start c .args .l .nc) (c .reduce .result)
 elements c = c .reduce .ensures .1
 
-slice-aggregate-fill-powers : tie.Need-slice-aggregate-fill-powers
-slice-aggregate-fill-powers c = search needs
-
-fill-powers-requires : tie.Need-fill-powers-requires
-fill-powers-requires c κs =
-    let s = c .before .before in
-    let b = bounds s in
-    (b .nc-low, b .nc-high, size-high (s .args .l .nc) (b .nc-high))
+table-requires : tie.Need-table-requires
+table-requires c κs = search needs
 
 slice-aggregate-fill-logs : tie.Need-slice-aggregate-fill-logs
 slice-aggregate-fill-logs c = search needs
 
 fill-logs-requires : tie.Need-fill-logs-requires
 fill-logs-requires c κs =
-    let s = begun c in
+    let t = c .before .before in
+    let s = t .before .before in
     let b = bounds s in
-    (b .nc-low, b .nc-high, filled c .fill-powers .ensures, size-high (s .args .l .nc) (b .nc-high))
-
-table-requires : tie.Need-table-requires
-table-requires c κs = search needs
+    (t .table .ensures, b .nc-low, b .nc-high, size-high (s .args .l .nc) (b .nc-high))
 
 mul-count : tie.Need-mul-count
 mul-count c =
-    let s = entry (c .before) in
+    let s = entry (c .before .before) in
     record { fits = omega (arith, sizes (s .args .l) (bounds s) .chunks) }
 
 put-requires : tie.Need-put-requires
 put-requires c κs =
-    let s = entry (c .before .before) in
+    let s = entry (c .before .before .before) in
     (s .pre .1 .1 .0, spots s)
 
 reduce-requires : tie.Need-reduce-requires
 reduce-requires c κs =
-    let s = entry (c .before .before .before) in
+    let s = entry (c .before .before .before .before) in
     let b = bounds s in
     ((b .nc-low, b .nc-high), sizes (s .args .l) b .chunks)
 
@@ -118,7 +103,7 @@ part-missing-end c =
 missing-requires : tie.Need-missing-requires
 missing-requires c κs =
     let k = c .before .before .before .before in
-    let f = logged (tabled k) in
+    let f = logged k in
     let s = start k in
     let l = s .args .l in
     let b = bounds s in
@@ -126,7 +111,7 @@ missing-requires c κs =
     let low = size-low (l .nc) (b .nc-low) in (
       (s .pre .0, s .pre .1 .1 .1 .0),
       (
-        (filled (f .before) .fill-powers .ensures, f .fill-logs .ensures .1, s .pre .1 .0),
+        (tabled f .table .ensures, f .fill-logs .ensures .1, s .pre .1 .0),
         (n .0, omega (arith, n .1, b .chunks-high, low)),
       ),
     )
@@ -144,7 +129,7 @@ solve-requires c κs =
     let k = reduced m in
     let s = start k in
     let b = bounds s in (
-      (tabled k .table .ensures, b .nc-low, b .nc-high, logged (tabled k) .fill-logs .ensures .1),
+      (tabled (logged k) .table .ensures, b .nc-low, b .nc-high, logged k .fill-logs .ensures .1),
       (omega arith, s .pre .1 .1 .0, places s, m .missing .ensures .0),
     )
 
@@ -163,7 +148,8 @@ returns c cells collected y x given sent under =
     let v = c .before .solve in
     let few : a .e .n ≤ a .l .r = omega (arith, s .pre .1 .1 .1 .0) in
     let all : a .l .l1 * a .l .l2 - 0 ≡ a .l .l1 * a .l .l2 = omega arith in
-    solved (a .l) (a .numbers .now) y x (a .row .now) cells (a .e .n) (a .e .places) given sent under collected (replicate 12 0)
+    solved (a .l) (a .numbers .now) y x (a .row .now) cells (a .e .n) (a .e .places) given sent under collected
+    (replicate 12 0)
     (p .result) (k .reduce .result) (long k) (blank-at 12) (p .ensures) (k .reduce .ensures .0) (m .missing .result)
     (v .result) (c .put2 .result) few (rw all at (m .missing .ensures .1)) (v .ensures .1) (c .put2 .ensures)
 
@@ -171,11 +157,9 @@ pub recover-spec : {M : Type 1} → statement M
 recover-spec =
     tie.close
     (tie.spec
-    slice-aggregate-fill-powers
-    fill-powers-requires
+    table-requires
     slice-aggregate-fill-logs
     fill-logs-requires
-    table-requires
     mul-count
     put-requires
     reduce-requires

@@ -1,4 +1,5 @@
--- `recover::reduce` meets its contract: each number passed is what 2 ^ nc leaves of it, the others are zero. Assumes nothing.
+-- `recover::reduce` meets its contract: each number passed is what 2 ^ nc leaves of it, the others are zero. Assumes
+-- nothing.
 use borrow.Author.Needs.{needs}
 use Prim.Native.Nat.{ℕ, _+_, _-_, _%_, _^_, _<_, _≤_}
 use mathlib.Core.Path.{_≡_, refl, _∙_}

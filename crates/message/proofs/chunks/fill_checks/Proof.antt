@@ -1,4 +1,4 @@
--- `message::chunks::fill_checks` meets its contract: there are no checks, or the elements and their logs, and the checks
+-- `message::chunks::fill_checks` meets its contract: there are no checks, or the logs of the elements, and the checks
 -- of the chunks. Assumes nothing.
 use borrow.Author.Needs.{needs}
 use Prim.Native.Nat.{ℕ}
@@ -27,30 +27,24 @@ returns c =
     checks-are (named s) (s .args .chunks .now) (s .args .out .now) (s .pre .1 .0) (s .pre .1 .1)
     (λ i h. absurd (omega arith))
 
-slice-aggregate-fill-powers : tie.Need-slice-aggregate-fill-powers
-slice-aggregate-fill-powers c = search needs
-
-fill-powers-requires : tie.Need-fill-powers-requires
-fill-powers-requires c κs =
-    let s = c .before .before .before .before in
-    let b = bounds s in
-    (b .nc-low, b .nc-high, size-high (s .args .nc) (b .nc-high))
+table-requires : tie.Need-table-requires
+table-requires c κs = search needs
 
 slice-aggregate-fill-logs : tie.Need-slice-aggregate-fill-logs
 slice-aggregate-fill-logs c = search needs
 
--- where the function starts, and the powers, seen from where the logs are made room for
-abbrev start : tie.After-logs → tie.Start
-start c = c .before .before .before .before .before .before .before .before
+-- where the table is made and where the function starts, seen from where the logs are made room for
+abbrev tabled : tie.After-logs → tie.After-table
+tabled c = c .before .before
 
-abbrev filled : tie.After-logs → tie.After-fill-powers
-filled c = c .before .before .before
+abbrev start : tie.After-logs → tie.Start
+start c = tabled c .before .before .before .before
 
 fill-logs-requires : tie.Need-fill-logs-requires
 fill-logs-requires c κs =
     let s = start c in
     let b = bounds s in
-    (b .nc-low, b .nc-high, filled c .fill-powers .ensures, size-high (s .args .nc) (b .nc-high))
+    (tabled c .table .ensures, b .nc-low, b .nc-high, size-high (s .args .nc) (b .nc-high))
 
 slice-aggregate-checks : tie.Need-slice-aggregate-checks
 slice-aggregate-checks c = search needs
@@ -60,7 +54,7 @@ checks-requires c κs =
     let k = c .before .before .before .before in
     let s = start (k .before) in
     let b = bounds s in (
-      (b .nc-low, b .nc-high, filled (k .before) .fill-powers .ensures, k .fill-logs .ensures .1, s .pre .1 .0 .1),
+      (tabled (k .before) .table .ensures, b .nc-low, b .nc-high, k .fill-logs .ensures .1, s .pre .1 .0 .1),
       (omega (arith, s .pre .1 .0 .0, b .chunks-high, size-low (s .args .nc) (b .nc-low)), s .pre .1 .1),
     )
 
@@ -80,8 +74,7 @@ fill-checks-spec =
     tie.close
     (tie.spec
     returns
-    slice-aggregate-fill-powers
-    fill-powers-requires
+    table-requires
     slice-aggregate-fill-logs
     fill-logs-requires
     slice-aggregate-checks
