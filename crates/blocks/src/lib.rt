@@ -3,9 +3,10 @@
 use cells::Cells;
 use message::Layout;
 ghost use mathlib.Core.Path.{_≡_};
-ghost use mathlib.Core.Bool.{true, false};
+ghost use mathlib.Core.Bool.{true, false, cond};
 ghost use mathlib.Core.List.{List};
 ghost use Prim.Native.Nat.{ℕ, _+_, _*_, _<_, _≤_};
+ghost use lib.Dec.{eqb};
 ghost use lib.ListN.{length, getD};
 ghost use Rattle.bits.specs.Bits.{AllBits, longest};
 ghost use Rattle.message.specs.Layout.{legal};
@@ -20,15 +21,14 @@ pub struct Cut {
     pub chunks: weigh::Chunks,
 }
 
-// Whether cell z is open and stands in block i.
-fn is_in(cells: Cells, i: usize, z: usize) -> bool
-    requires { ⌜ z < 12 ⌝ }
-    ensures { λ r. ⌜ r ≡ isIn cells i z ⌝ }
+// Whether a cell that lost so many bits in a block is open and stands in block i.
+fn is_in(lost: u8, block: u8, i: usize) -> bool
+    ensures { λ r. ⌜ r ≡ cond (eqb lost 0) false (eqb block i) ⌝ }
 {
-    if cells.lost[z] == 0 {
+    if lost == 0 {
         return false;
     }
-    cells.block[z] as usize == i
+    block as usize == i
 }
 
 // Chunks that are not weighed: too many, or not in ascending columns.
@@ -75,18 +75,15 @@ fn with_chunk(cut: Cut, j: u8, place: usize, lost: u8) -> Cut
     }
 }
 
-// Cell z cut out of a row, in which a zero is left for it, if it is open and stands in block i.
+// Cell z, which is open and stands in block i, cut out of a row, in which a zero is left for it.
 fn cut_cell(l: Layout, y: &[u8], cells: Cells, i: usize, z: usize, cut: Cut, row: &mut [u8]) -> Cut
     requires { ⌜ ((legal l ≡ true) × (i < l .l1))
-        × (Placed l (length (now y)) cells × ((z < 12) × (length (now row) ≡ 255))) ⌝ }
+        × (Placed l (length (now y)) cells × ((z < 12) × ((isIn cells i z ≡ true) × (length (now row) ≡ 255)))) ⌝ }
     ensures { λ r. ⌜ (length (now (row .exit)) ≡ length (now (row .entry)))
         × (r .ok ≡ true → CutOut l (now (y .entry)) cells i z cut
         → CutOut l (now (y .entry)) cells i (z + 1) r
         × ((vs : List ℕ) → now (row .entry) ≡ bare l cells i z vs → now (row .exit) ≡ bare l cells i (z + 1) vs)) ⌝ }
 {
-    if !is_in(cells, i, z) {
-        return cut;
-    }
     let j = cells.column[z];
     let longer = with_chunk(cut, j, cells.place[z], cells.lost[z]);
     row[i * l.l2 + bits::wide(j)] = 0;
@@ -110,11 +107,15 @@ fn cut_out(l: Layout, y: &[u8], cells: Cells, i: usize, row: &mut [u8]) -> Cut
         next: 0,
         chunks: none,
     };
+    let lost = cells.lost;
+    let block = cells.block;
     let mut z: usize = 0;
     while z < 12 {
-        cut = cut_cell(l, y, cells, i, z, cut, row);
-        if !cut.ok {
-            return cut;
+        if is_in(lost[z], block[z], i) {
+            cut = cut_cell(l, y, cells, i, z, cut, row);
+            if !cut.ok {
+                return cut;
+            }
         }
         z += 1;
     }

@@ -10,9 +10,9 @@ ghost use Prim.Native.Nat.{ℕ, _+_, _-_, _*_, _%_, _<_, _≤_};
 ghost use lib.ListN.{length, getD};
 ghost use Rattle.bits.specs.Bits.{longest};
 ghost use Rattle.windows.specs.Windows.{Tables};
-ghost use Rattle.states.specs.States.{each, stateOf};
+ghost use Rattle.states.specs.States.{lefts, each, stateOf};
 ghost use Rattle.column.specs.Column.{Fit, Light, Crosses};
-ghost use Rattle.whole.specs.Whole.{modulus, readSum};
+ghost use Rattle.whole.specs.Whole.{modulus, entryAt, Readings, readSum};
 ghost use Rattle.marks.specs.Marks.{Path, Through, Kept, Remade};
 ghost use Rattle.marks.specs.Digits.{Within, entryOf, Digits};
 ghost use Rattle.near.specs.Near.{Sized, most};
@@ -99,8 +99,22 @@ fn stays(l: Layout, numbers: &[u16], j: usize, part: usize, mark: u8) -> bool
     part % (l.l1 * l.nc + 1) == numbers[l.l1 + j] as usize
 }
 
-// Whether a row can cross column j from state q with one loss in heavy block s, to a marked state; the marks of the
-// next column stand at base. Part is what all chunks of the column bring where they are read whole.
+// Whether state q, with so many losses left in a block, has a marked state down lower, with one loss less there; the marks stand at base.
+fn leads(own: u8, down: usize, q: usize, marks: &[u8], base: usize) -> bool
+    requires { ⌜ base + q < length (now marks) ⌝ }
+    ensures { λ r. ⌜ (r ≡ true → 0 < own)
+        × (0 < own → down ≤ q → 0 < getD (now (marks .entry)) (base + (q - down)) 0 → r ≡ true) ⌝ }
+{
+    if own == 0 {
+        return false;
+    }
+    if q < down {
+        return false;
+    }
+    0 < marks[base + (q - down)]
+}
+
+// Whether a row can cross column j with one loss, in heavy block s. Part is what all chunks of the column bring where they are read whole.
 fn loses_one(
     l: Layout,
     y: &[u8],
@@ -108,37 +122,22 @@ fn loses_one(
     counts: &[u16],
     numbers: &[u16],
     heavy: Heavy,
-    shape: Shape,
     readings: &[u16],
     j: usize,
     left: [u8; states::MOST_HEAVY],
     part: usize,
-    q: usize,
     s: usize,
-    marks: &[u8],
-    base: usize,
 ) -> bool
-    requires { ⌜ (Read l (now y) (now totals) (now counts) (now numbers) heavy shape (now readings) j
-        × (((t : ℕ) → t < heavy .n → getD left t 0 ≤ each (shape .size) t)
-        × (readSum (now readings) left (heavy .n) ≤ part)))
-        × ((q < shape .states) × ((s < heavy .n) × (base + shape .states ≤ length (now marks)))) ⌝ }
+    requires { ⌜ (Fit l (now y) (now numbers) heavy × (Tables (now y) 0 (now totals) (now counts) × ((j < l .l2)
+        × (Readings l (now y) heavy left j (now readings) × (entryAt (heavy .n) 0 ≤ length (now readings))))))
+        × ((((t : ℕ) → t < heavy .n → getD left t 0 < lefts) × (readSum (now readings) left (heavy .n) ≤ part))
+        × ((s < heavy .n) × (0 < getD left s 0))) ⌝ }
     ensures { λ r. ⌜ ((row vs known : List ℕ) (next : ℕ → ℕ) → Light l heavy row known
         → part ≡ getD known j 0 + readSum (now (readings .entry)) left (heavy .n)
         → Crosses l (now (y .entry)) (now (numbers .entry)) heavy row j (each left) next vs
-        → OneLess (heavy .n) (each left) next s → getD (shape .stride) s 0 ≤ q
-        → 0 < getD (now (marks .entry)) (base + (q - getD (shape .stride) s 0)) 0 → r ≡ true) ⌝ }
+        → OneLess (heavy .n) (each left) next s → r ≡ true) ⌝ }
 {
-    let down = shape.stride[s];
     let own = left[s];
-    if own == 0 {
-        return false;
-    }
-    if q < down {
-        return false;
-    }
-    if marks[base + (q - down)] == 0 {
-        return false;
-    }
     let reading = readings[s * states::LEFTS + bits::wide(own)] as usize;
     whole::can_lose_one(
         l,
@@ -182,26 +181,25 @@ fn loses(
         → 0 < getD (now (marks .entry)) (base + (q - getD (shape .stride) s 0)) 0 → r ≡ true) ⌝ }
 {
     let n = heavy.n;
+    let strides = shape.stride;
     let mut s: usize = 0;
     while s < n {
-        if loses_one(
-            l,
-            y,
-            totals,
-            counts,
-            numbers,
-            heavy,
-            shape,
-            readings,
-            j,
-            left,
-            part,
-            q,
-            s,
-            marks,
-            base,
-        ) {
-            return true;
+        if leads(left[s], strides[s], q, marks, base) {
+            if loses_one(
+                l,
+                y,
+                totals,
+                counts,
+                numbers,
+                heavy,
+                readings,
+                j,
+                left,
+                part,
+                s,
+            ) {
+                return true;
+            }
         }
         s += 1;
     }

@@ -31,11 +31,13 @@ pub fn fill_digits(shape: Shape, digits: &mut [u8])
         × (shape .states * 6 ≤ length (now digits))) ⌝ }
     ensures { λ _. ⌜ Digits shape (now (digits .exit)) ⌝ }
 {
-    let states = shape.states;
+    let size = shape.size;
+    let mut left: [u8; states::MOST_HEAVY] = [0; states::MOST_HEAVY];
     let mut q: usize = 0;
-    while q < states {
-        let left = states::losses_left(shape, q);
+    while q < shape.states {
         put_digits(digits, q, left);
+        let next = states::next_left(shape.n, size, left);
+        left = next;
         q += 1;
     }
 }

@@ -140,6 +140,18 @@ module _ (size : ℕ → ℕ) where
   state-same a b (suc n) h =
       ap₂ (λ (u v : ℕ). u + v * stride size n) (state-same a b n (λ t l. h t (omega arith))) (h n (omega arith))
 
+  -- where only block s has another number of losses left, the numbers of two states differ by what these count
+  pub state-but : (a b : ℕ → ℕ) (n s : ℕ) → s < n → ((t : ℕ) → t < n → (t ≡ s → ⊥) → a t ≡ b t)
+      → state size a n + b s * stride size s ≡ state size b n + a s * stride size s
+  unfolding state
+  state-but a b zero s h same = absurd (omega arith)
+  state-but a b (suc n) s h same = go (ℕ-discrete s n) (λ l. state-but a b n s l (λ t k d. same t (omega arith) d))
+    where
+      go : Dec (s ≡ n) → (s < n → state size a n + b s * stride size s ≡ state size b n + a s * stride size s)
+          → state size a n + a n * stride size n + b s * stride size s ≡ state size b n + b n * stride size n + a s * stride size s
+      go (yes e) r = rw (state-same a b n (λ t l. same t (omega arith) (λ q. omega arith)), e) (omega arith)
+      go (no e) r = rw (same n (omega arith) (λ q. e (sym q))) (omega (arith, r (omega arith)))
+
   -- one loss less lowers the number by the block's stride
   pub state-lowered : (left : ℕ → ℕ) (n s : ℕ) → s < n → 0 < left s
       → state size (lowered left s) n + stride size s ≡ state size left n

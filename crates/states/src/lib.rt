@@ -1,8 +1,8 @@
 // Loss states: how many losses each of a few blocks has left, as one number of mixed radix. Contracts cite specs/States.antt.
 ghost use mathlib.Core.Path.{_≡_};
-ghost use Prim.Native.Nat.{ℕ, _<_, _≤_};
+ghost use Prim.Native.Nat.{ℕ, _+_, _<_, _≤_};
 ghost use lib.ListN.{getD};
-ghost use Rattle.states.specs.States.{state, each, Shaped};
+ghost use Rattle.states.specs.States.{stride, state, each, Shaped};
 
 // The most blocks with two losses or more.
 pub const MOST_HEAVY: usize = 6;
@@ -56,6 +56,26 @@ pub fn losses_left(shape: Shape, q: usize) -> [u8; MOST_HEAVY]
         s += 1;
     }
     left
+}
+
+// The losses left in the state after one: a block that has all of its losses left has none then, and the next block one more.
+pub fn next_left(n: usize, size: [u8; MOST_HEAVY], left: [u8; MOST_HEAVY]) -> [u8; MOST_HEAVY]
+    requires { ⌜ (n ≤ 6) × ((s : ℕ) → s < n → getD left s 0 ≤ each size s) ⌝ }
+    ensures { λ r. ⌜ ((s : ℕ) → s < n → getD r s 0 ≤ each size s)
+        × (state (each size) (each left) n + 1 < stride (each size) n
+        → state (each size) (each r) n ≡ state (each size) (each left) n + 1) ⌝ }
+{
+    let mut next = left;
+    let mut s: usize = 0;
+    while s < n {
+        if next[s] < size[s] {
+            next[s] += 1;
+            return next;
+        }
+        next[s] = 0;
+        s += 1;
+    }
+    next
 }
 
 // The number of a state.

@@ -261,28 +261,32 @@ fn share(
     let mut g = v.first;
     while g <= last {
         let wider = weigh::widen(l.nc, i * l.nc, bits::wide(a), seen, g, span);
-        sweep(
-            l,
-            y,
-            totals,
-            counts,
-            heavy,
-            z,
-            shape,
-            j,
-            left,
-            modulus,
-            need,
-            there,
-            marks,
-            at,
-            some,
-            b,
-            q,
-            wider,
-            more,
-            fresh,
-        );
+        if b == 0 {
+            raise_one(modulus, need, there, marks[at + q], q, wider, more, fresh);
+        } else {
+            sweep(
+                l,
+                y,
+                totals,
+                counts,
+                heavy,
+                z,
+                shape,
+                j,
+                left,
+                modulus,
+                need,
+                there,
+                marks,
+                at,
+                some,
+                b,
+                q,
+                wider,
+                more,
+                fresh,
+            );
+        }
         g += 1;
     }
 }

@@ -3,8 +3,8 @@ ghost use mathlib.Core.Path.{_≡_};
 ghost use mathlib.Core.Bool.{true, false};
 ghost use mathlib.Core.List.{List};
 ghost use Prim.Native.Nat.{ℕ, _+_, _-_, _*_, _<_, _≤_};
-ghost use lib.ListN.{length, getD, drop};
-ghost use Rattle.bits.specs.Bits.{AllBits, longest, number};
+ghost use lib.ListN.{length, getD};
+ghost use Rattle.bits.specs.Bits.{AllBits, longest};
 ghost use Rattle.rows.specs.Slice.{rowsIn};
 ghost use Rattle.message.specs.Layout.{legal, rowBits};
 ghost use Rattle.windows.specs.Windows.{Tables};
@@ -16,10 +16,6 @@ ghost use Rattle.states.specs.States.{each, stateOf};
 ghost use Rattle.marks.specs.Marks.{Covers, apartFrom};
 ghost use Rattle.tables.specs.Tables.{
   pushed,
-  withChunk,
-  withCell,
-  Sharable,
-  Shared,
   Stepped,
   NoneLeft,
   Whole,
@@ -47,7 +43,7 @@ pub struct Table {
     pub row: [u8; 255],
 }
 
-// What sharing out answers: whether a chunk with that many losses can be read, and the table with them.
+// What sharing out answers: whether chunks with that many losses can be read, and the table with them.
 pub struct Share {
     pub ok: bool,
     pub table: Table,
@@ -71,16 +67,6 @@ fn place_of(at: usize, end: u8, left: u8, m: usize) -> usize
     place
 }
 
-// The table with chunk c read from a place of the received row.
-fn read_chunk(nc: usize, y: &[u8], c: usize, place: usize, t: Table) -> Table
-    requires { ⌜ AllBits (now y) × ((nc ≤ 8) × ((place + nc ≤ length (now y)) × (c < 255))) ⌝ }
-    ensures { λ r. ⌜ r ≡ withChunk t c (number nc (drop place (now (y .entry)))) ⌝ }
-{
-    let mut r = t;
-    r.row[c] = message::chunks::number_at(y, place, nc);
-    r
-}
-
 // The cells with one more.
 fn push_cell(cells: Cells, i: u8, j: u8, a: u8, place: usize) -> Cells
     requires { ⌜ cells .n < 12 ⌝ }
@@ -94,54 +80,6 @@ fn push_cell(cells: Cells, i: u8, j: u8, a: u8, place: usize) -> Cells
     r.place[n] = place;
     r.n = n + 1;
     r
-}
-
-// The table in which heavy block h, which is block i, loses a bits in a cell of column j.
-fn take_cell(t: Table, h: usize, i: u8, j: usize, a: u8, place: usize) -> Table
-    requires { ⌜ (h < 6) × ((j < 256) × ((a ≤ getD (t .left) h 0) × (t .cells .n < 12))) ⌝ }
-    ensures { λ r. ⌜ r ≡ withCell t h i j a place ⌝ }
-{
-    let mut r = t;
-    r.left[h] -= a;
-    r.cells = push_cell(t.cells, i, j as u8, a, place);
-    r
-}
-
-// In column j the chunk of heavy block h loses a bits: it is read from the received row where it loses none, and becomes a cell
-// otherwise.
-fn share_out(l: Layout, y: &[u8], heavy: Heavy, j: usize, h: usize, a: u8, t: Table) -> Share
-    requires { ⌜ Sharable l (now y) heavy j h a t ⌝ }
-    ensures { λ r. ⌜ Shared l (now (y .entry)) heavy j h a t (r .ok) (r .table) ⌝ }
-{
-    let i = heavy.block[h];
-    let end = heavy.end[h];
-    let left = t.left[h];
-    let c = i as usize * l.l2 + j;
-    let place = place_of(c * l.nc, end, left, y.len());
-    if a == 0 {
-        if y.len() < place + l.nc {
-            return Share {
-                ok: false,
-                table: t,
-            };
-        }
-        let read = read_chunk(l.nc, y, c, place, t);
-        return Share {
-            ok: true,
-            table: read,
-        };
-    }
-    if y.len() < place {
-        return Share {
-            ok: false,
-            table: t,
-        };
-    }
-    let short = take_cell(t, h, i, j, a, place);
-    Share {
-        ok: true,
-        table: short,
-    }
 }
 
 // Whether all losses of the heavy blocks are shared out.
@@ -181,31 +119,52 @@ fn mend_table(
     kept
 }
 
-// The table after column j, if each heavy block has so much left then.
+// No share: a chunk with that many losses cannot be read.
+fn not_shared(t: Table) -> Share
+    ensures { λ r. ⌜ (r .ok ≡ false) × (r .table ≡ t) ⌝ }
+{
+    Share {
+        ok: false,
+        table: t,
+    }
+}
+
+// The table after column j, if each heavy block has so much left then: a chunk that loses no bit is read from the received row, and one that
+// does becomes a cell.
 fn step(l: Layout, y: &[u8], heavy: Heavy, j: usize, next: [u8; 6], t: Table) -> Share
     requires { ⌜ (legal l ≡ true) × (AllBits (now y) × ((length (now y) ≤ rowBits l)
         × (Sound l (length (now y)) heavy t × (j < l .l2)))) ⌝ }
     ensures { λ r. ⌜ Stepped l (now (y .entry)) heavy j (each next) t (r .ok) (r .table) ⌝ }
 {
     let n = heavy.n;
-    let mut r = Share { ok: true, table: t };
+    let nc = l.nc;
+    let mut table = t;
     let mut h: usize = 0;
     while h < n {
-        let table = r.table;
         let left = table.left[h];
         if left < next[h] {
-            return Share {
-                ok: false,
-                table: t,
-            };
+            return not_shared(t);
         }
-        r = share_out(l, y, heavy, j, h, left - next[h], table);
-        if !r.ok {
-            return r;
+        let a = left - next[h];
+        let i = heavy.block[h];
+        let c = i as usize * l.l2 + j;
+        let place = place_of(c * nc, heavy.end[h], left, y.len());
+        if a == 0 {
+            if y.len() < place + nc {
+                return not_shared(t);
+            }
+            table.row[c] = message::chunks::number_at(y, place, nc);
+        } else {
+            if y.len() < place {
+                return not_shared(t);
+            }
+            table.left[h] = left - a;
+            let cells = push_cell(table.cells, i, j as u8, a, place);
+            table.cells = cells;
         }
         h += 1;
     }
-    r
+    Share { ok: true, table }
 }
 
 // Whether heavy block h can have its sum after column j, where its losses ended there: it had some left before. Otherwise nothing is asked.

@@ -2,32 +2,13 @@
 use borrow.Author.Needs.{needs}
 use Prim.Native.Nat.{ℕ, _+_, _-_, _*_, _<_, _≤_}
 use mathlib.Core.Path.{_≡_, refl, sym, ap, _∙_}
-use mathlib.Core.Bool.{true}
 use mathlib.Core.List.{List}
 use native.Mathlib.Omega.{arith}
-use borrow.Author.Tests.{not-true, not-false}
 use lib.ListN.{length, getD, set, length-set}
 use Rattle.column.proofs.Rows.{chunk-stands}
-use Rattle.blocks.specs.Blocks.{isIn}
-use Rattle.blocks.proofs.Cutting.{bare-in, bare-out, in-open, cut-skip, cut-next}
-use borrow.Author.Needs.{needs}
+use Rattle.blocks.proofs.Cutting.{bare-in, in-open, cut-next}
 use Rattle.blocks.proofs.cut_cell.Statement.{statement}
 use Rattle.blocks.proofs.cut_cell.Tie as tie
-
--- a cell that is passed over, and the start of the function seen from there
-returns : tie.Need-returns
-returns c =
-    let a = c .before .before .before .before .args in
-    let out = sym (c .before .is-in .ensures) ∙ not-true (c .before .is-in .result) (c .if1 .taken) in (
-      refl,
-      λ e cut. (
-        cut-skip (a .l) (a .t3) (a .i) (a .y .now) (a .z) (a .cut) out cut,
-        λ vs was. was ∙ sym (bare-out (a .l) (a .t3) (a .i) (a .z) vs out),
-      ),
-    )
-
-is-in-requires : tie.Need-is-in-requires
-is-in-requires c κs = search needs
 
 element-copy-out-j : tie.Need-element-copy-out-j
 element-copy-out-j c = search needs
@@ -44,27 +25,18 @@ element-copy-out-with-chunk-2 c = search needs
 with-chunk-requires : tie.Need-with-chunk-requires
 with-chunk-requires c κs = search needs
 
--- where the cell is found to be in the block, and where the function starts, seen from where its chunk is cut out
-abbrev inside : tie.After-with-chunk → tie.Else1
-inside c = c .before .before .before .before
-
+-- where the function starts, seen from where its chunk is cut out
 abbrev begin : tie.After-with-chunk → tie.Start
-begin c = inside c .before .before .before .before
+begin c = c .before .before .before .before .before .before
 
--- a cell that is cut out is open in the block, and its chunk stands in the row
-is-in : (c : tie.After-with-chunk) → let a = begin c .args in isIn (a .t3) (a .i) (a .z) ≡ true
-is-in c =
-    let o = inside c in
-    let e = o .before in
-    sym (e .is-in .ensures) ∙ not-false (e .is-in .result) (o .if1 .left)
-
+-- the cell's chunk stands in the row
 stands : (c : tie.After-with-chunk) → let a = begin c .args in
     (getD (a .t3 .column) (a .z) 0 < a .l .l2) × ((getD (a .t3 .place) (a .z) 0 ≤ length (a .y .now))
     × (a .i * a .l .l2 + getD (a .t3 .column) (a .z) 0 < 255))
 stands c =
     let s = begin c in
     let a = s .args in
-    let o = in-open (a .l) (a .t3) (a .i) (a .z) (s .pre .1 .1 .0) (is-in c) in
+    let o = in-open (a .l) (a .t3) (a .i) (a .z) (s .pre .1 .1 .0) (s .pre .1 .1 .1 .0) in
     let p = s .pre .1 .0 (a .z) (o .0) in
     (p .1 .0, (p .1 .1, chunk-stands (a .l) (s .pre .0 .0) (a .i) (getD (a .t3 .column) (a .z) 0) (s .pre .0 .1) (p .1 .0) .1 .0))
 
@@ -79,16 +51,16 @@ add-row c = record { fits = omega (arith, stands (c .before .before) .1 .1, c .w
 
 slice-write-row : tie.Need-slice-write-row
 slice-write-row c =
-    omega (arith, stands (c .before .before) .1 .1, c .wide .ensures, begin (c .before .before) .pre .1 .1 .1)
+    omega (arith, stands (c .before .before) .1 .1, c .wide .ensures, begin (c .before .before) .pre .1 .1 .1 .1)
 
 same-length : tie.Need-same-length
 same-length c = search needs
 
-returns-2 : tie.Need-returns-2
-returns-2 c =
+returns : tie.Need-returns
+returns c =
     let w = c .before .before in
     let a = begin w .args in
-    let here = is-in w in
+    let here = begin w .pre .1 .1 .1 .0 in
     let j = getD (a .t3 .column) (a .z) 0 in
     let at = ap (λ (k : ℕ). a .i * a .l .l2 + k) (c .wide .ensures) in (
       length-set (a .row .now) (a .i * a .l .l2 + c .wide .result) 0,
@@ -105,8 +77,6 @@ pub cut-cell-spec : {M : Type 1} → statement M
 cut-cell-spec =
     tie.close
     (tie.spec
-    is-in-requires
-    returns
     element-copy-out-j
     mul-with-chunk
     element-copy-out-with-chunk
@@ -117,4 +87,4 @@ cut-cell-spec =
     add-row
     slice-write-row
     same-length
-    returns-2)
+    returns)

@@ -1,4 +1,4 @@
--- `first::loses_one` meets its contract: each test that fails is one that the promise assumes. Assumes nothing.
+-- `first::loses_one` meets its contract: with the reading of the chunk taken away, what it brings is weighed. Assumes nothing.
 use Prim.Native.Nat.{ℕ, _+_, _-_, _*_, _%_, _<_, _≤_}
 use mathlib.Core.Path.{_≡_, sym, ap, _∙_}
 use native.Mathlib.Nat.{mul-le-mul-right}
@@ -12,45 +12,15 @@ use Rattle.whole.proofs.Whole.{firsts-but, firsts-one, weightOf, weights-sum, k
 use Rattle.first.proofs.loses_one.Statement.{statement}
 use Rattle.first.proofs.loses_one.Tie as tie
 
--- where the function starts, seen from where the slices are known, from the marks, and from where the reading is taken
-abbrev begin : tie.After-shared-slice-known6 → tie.Start
-begin c = c .before .before .before .before .before .before
+-- where the function starts, seen from where the slices are known, and from where the reading is taken
+abbrev begin : tie.After-shared-slice-known5 → tie.Start
+begin c = c .before .before .before .before .before
 
-abbrev start : tie.Else2 → tie.Start
-start c = begin (c .before .before .before)
-
-abbrev taken : tie.After-shared-slice-known8 → tie.Start
-taken c = start (c .before .before .before .before)
-
-mul-down : tie.Need-mul-down
-mul-down c = search needs
-
-element-copy-out-down : tie.Need-element-copy-out-down
-element-copy-out-down c = omega (arith, begin c .pre .1 .1 .0, begin c .pre .0 .0 .fit .few)
+abbrev taken : tie.After-shared-slice-known6 → tie.Start
+taken c = begin (c .before .before)
 
 array-read-own : tie.Need-array-read-own
-array-read-own c =
-    let s = begin (c .before) in
-    omega (arith, s .pre .1 .1 .0, s .pre .0 .0 .fit .few)
-
-returns : tie.Need-returns
-returns c row vs known next light sum crosses one low mark = absurd (omega (arith, c .if1 .taken, one .0))
-
-returns-2 : tie.Need-returns-2
-returns-2 c row vs known next light sum crosses one low mark = absurd (omega (arith, c .if2 .taken, low))
-
-add-if3 : tie.Need-add-if3
-add-if3 c =
-    let s = start c in
-    record { fits = omega (arith, s .pre .1 .0, s .pre .1 .1 .1, s .good .1 .1 .1 .1 .1 .1 .1 .1 .1 .1 .1 .1 .1 .0) }
-
-shared-slice-read-if3 : tie.Need-shared-slice-read-if3
-shared-slice-read-if3 c =
-    let p = start (c .before) .pre .1 in
-    omega (arith, p .0, p .1 .1)
-
-returns-3 : tie.Need-returns-3
-returns-3 c row vs known next light sum crosses one low mark = absurd (omega (arith, c .if3 .taken, mark))
+array-read-own c = omega (arith, begin c .pre .1 .1 .0, begin c .pre .0 .0 .few)
 
 mul-reading : tie.Need-mul-reading
 mul-reading c = search needs
@@ -59,16 +29,17 @@ wide-requires : tie.Need-wide-requires
 wide-requires c κs = search needs
 
 -- the entry of the block stands in the table
-stands : (c : tie.After-wide) → let s = start (c .before .before .before) in let a = s .args in
+stands : (c : tie.After-wide) → let a = begin (c .before) .args in
     (a .s * 13 + c .wide .result < length (a .readings .now)) × (a .s * 13 + c .wide .result ≤ 100)
 stands c =
-    let s = start (c .before .before .before) in
+    let s = begin (c .before) in
     let a = s .args in
     let h = s .pre .1 .1 .0 in
     let room = mul-le-mul-right {m = a .s + 1} {n = a .t6 .n} 13 (omega (arith, h)) in
-    let read = s .pre .0 .0 in
-    let low : getD (a .t10) (a .s) 0 < 13 = omega (arith, s .pre .0 .1 .0 (a .s) h, read .few (a .s) h) in
-    (omega (arith, room, low, c .wide .ensures, read .long), omega (arith, low, c .wide .ensures, h, s .pre .0 .0 .fit .few))
+    let low : getD (a .t9) (a .s) 0 < 13 = s .pre .1 .0 .0 (a .s) h in (
+      omega (arith, room, low, c .wide .ensures, s .pre .0 .1 .1 .1 .1),
+      omega (arith, low, c .wide .ensures, h, s .pre .0 .0 .few),
+    )
 
 add-reading : tie.Need-add-reading
 add-reading c = record { fits = omega (arith, stands c .1) }
@@ -80,17 +51,17 @@ shared-slice-read-reading : tie.Need-shared-slice-read-reading
 shared-slice-read-reading c = stands (c .before) .0
 
 cast-reading : tie.Need-cast-reading
-cast-reading c = omega (arith, c .shared-slice-known8 .given (taken c .args .s * 13 + c .before .wide .result))
+cast-reading c = omega (arith, c .shared-slice-known6 .given (taken c .args .s * 13 + c .before .wide .result))
 
 -- what is read is the entry for the losses left, and no more than all entries together
-entry : (c : tie.After-shared-slice-known8) → let a = taken c .args in
-    (getD (a .readings .now) (a .s * 13 + c .before .wide .result) 0 ≡ getD (a .readings .now) (entryAt (a .s) (getD (a .t10) (a .s) 0)) 0)
-    × (getD (a .readings .now) (entryAt (a .s) (getD (a .t10) (a .s) 0)) 0 ≤ readSum (a .readings .now) (a .t10) (a .t6 .n))
+entry : (c : tie.After-shared-slice-known6) → let a = taken c .args in
+    (getD (a .readings .now) (a .s * 13 + c .before .wide .result) 0 ≡ getD (a .readings .now) (entryAt (a .s) (getD (a .t9) (a .s) 0)) 0)
+    × (getD (a .readings .now) (entryAt (a .s) (getD (a .t9) (a .s) 0)) 0 ≤ readSum (a .readings .now) (a .t9) (a .t6 .n))
 entry c =
     let s = taken c in
     let a = s .args in (
       ap (λ (v : ℕ). getD (a .readings .now) (a .s * 13 + v) 0) (c .before .wide .ensures),
-      firsts-one (λ t. getD (a .readings .now) (entryAt t (getD (a .t10) t 0)) 0) (a .t6 .n) (a .s) (s .pre .1 .1 .0),
+      firsts-one (λ t. getD (a .readings .now) (entryAt t (getD (a .t9) t 0)) 0) (a .t6 .n) (a .s) (s .pre .1 .1 .0),
     )
 
 element-copy-out-can-lose-one : tie.Need-element-copy-out-can-lose-one
@@ -102,7 +73,7 @@ element-copy-out-can-lose-one-2 c = search needs
 sub-can-lose-one : tie.Need-sub-can-lose-one
 sub-can-lose-one c =
     let r = c .before .before in
-    omega (arith, entry r .0, entry r .1, taken r .pre .0 .1 .1)
+    omega (arith, entry r .0, entry r .1, taken r .pre .1 .0 .1)
 
 add-can-lose-one : tie.Need-add-can-lose-one
 add-can-lose-one c = search needs
@@ -116,60 +87,53 @@ shared-slice-read-can-lose-one c = search needs
 cast-can-lose-one : tie.Need-cast-can-lose-one
 cast-can-lose-one c =
     let a = taken (c .before .before .before .before) .args in
-    omega (arith, c .shared-slice-known9 .given (a .l .l1 + a .j))
+    omega (arith, c .shared-slice-known7 .given (a .l .l1 + a .j))
 
 can-lose-one-requires : tie.Need-can-lose-one-requires
 can-lose-one-requires c κs =
     let r = c .before .before .before .before in
     let s = taken r in
-    let p = s .pre .0 .0 in
-    let f = p .fit in
-    let some = r .before .before .before .before .before .if1 .left in (
+    let f = s .pre .0 .0 in
+    let column = s .pre .0 .1 .1 .0 in (
       record {
         allowed = f .allowed;
         bits = f .bits;
         short = f .short;
-        tables = p .tables;
+        tables = s .pre .0 .1 .0;
         inside = f .inside (s .args .s) (s .pre .1 .1 .0);
-        column = p .column;
+        column = column;
       },
-      (omega (arith, some), omega (arith, f .low (s .args .j) (p .column))),
+      (omega (arith, s .pre .1 .1 .1), omega (arith, f .low (s .args .j) column)),
     )
 
-returns-4 : tie.Need-returns-4
-returns-4 c row vs known next light sum crosses one low mark =
+returns : tie.Need-returns
+returns c row vs known next light sum crosses one =
     let r = c .before .before .before .before .before in
     let s = taken r in
     let a = s .args in
-    let p = s .pre .0 .0 in
+    let f = s .pre .0 .0 in
+    let column = s .pre .0 .1 .1 .0 in
     let h = s .pre .1 .1 .0 in
-    let tab : ℕ → ℕ = λ t. getD (a .readings .now) (entryAt t (getD (a .t10) t 0)) 0 in
+    let tab : ℕ → ℕ = λ t. getD (a .readings .now) (entryAt t (getD (a .t9) t 0)) 0 in
     let own = weightOf crosses in
     let but = firsts-but tab own (a .t6 .n) (a .s) h
     (λ t k d.
     let kept = one .1 t k d in
-    p .read t (getD (a .t10) t 0) k (s .pre .0 .1 .0 t k) (kept-legible crosses t k kept) ∙ sym (kept-read crosses t k kept)) in
+    s .pre .0 .1 .1 .1 .0 t (getD (a .t9) t 0) k (omega arith) (kept-legible crosses t k kept) ∙ sym (kept-read crosses t k kept)) in
     let e : a .part - getD (a .readings .now) (a .s * 13 + r .before .wide .result) 0 + own (a .s)
     ≡ getD known (a .j) 0 + firsts own (a .t6 .n) =
     omega (arith, sum, but, entry r .0, entry r .1)
     in
-    let last : next (a .s) ≡ getD (a .t10) (a .s) 0 - 1 = omega (arith, one .0) in
+    let last : next (a .s) ≡ getD (a .t9) (a .s) 0 - 1 = omega (arith, one .0) in
     c .can-lose-one .ensures (valueAt (a .l) (a .t6) vs (a .j) (a .s)) (crosses .small (a .s) h)
     (rw last at (crosses-readable crosses (a .s) h)) (crosses .loses (a .s) h ∙ omega (arith, one .0))
-    (ap (λ (v : ℕ). v % modulus (a .l)) e ∙ weights-sum crosses (p .fit) (p .column) known light)
+    (ap (λ (v : ℕ). v % modulus (a .l)) e ∙ weights-sum crosses f column known light)
 
 pub loses-one-spec : {M : Type 1} → statement M
 loses-one-spec =
     tie.close
     (tie.spec
-    mul-down
-    element-copy-out-down
     array-read-own
-    returns
-    returns-2
-    add-if3
-    shared-slice-read-if3
-    returns-3
     mul-reading
     wide-requires
     add-reading
@@ -184,4 +148,4 @@ loses-one-spec =
     shared-slice-read-can-lose-one
     cast-can-lose-one
     can-lose-one-requires
-    returns-4)
+    returns)

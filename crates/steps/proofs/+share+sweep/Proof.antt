@@ -95,6 +95,8 @@ share-claims t = (
   other-reads.Learnt,
   widen-reads.Asked,
   widen-reads.Learnt,
+  raise-one-reads.Asked,
+  raise-one-reads.Learnt,
   sweep-below t,
   sweep.Post,
 )
@@ -152,8 +154,10 @@ seen t c = block t c .before .before
 abbrev other : (t : ℕ) → Turn-at t → Other-at t
 other t c = c .before .before .before
 
-abbrev turn : (t : ℕ) → share-lts.After-widen (share-claims t) (share-at t) share.Post share-Inv-loop share-μ-loop
-    → Turn-at t
+abbrev Widen-at : ℕ → Type 0
+Widen-at t = share-lts.After-widen (share-claims t) (share-at t) share.Post share-Inv-loop share-μ-loop
+
+abbrev turn : (t : ℕ) → Widen-at t → Turn-at t
 turn t c = c .before .before .before
 
 -- what one loss of block b counts in the number of a state
@@ -315,39 +319,84 @@ share-widen-requires t c κs =
       ),
     )
 
+-- where a sweep goes on with the wider span
+widened : (t : ℕ) (c : Widen-at t) → let o = other t (turn t c) in let a = share-begin t (seen t o) .args in
+    Stands (a .t7) (a .t5 .n) (a .b) (a .q) (c .widen .result) (a .apart + o .other .result)
+widened t c =
+    let o = other t (turn t c) in
+    let s = share-begin t (seen t o) in
+    let n = c .widen .ensures in
+    shares-stands (c .widen .result) (s .args .apart + o .other .result) (s .pre .1 .1 .0) (n .low-small)
+    (n .high-small) (omega (arith, o .other .ensures .1))
+
+-- the number of the state stands among the states
+number-low : (t : ℕ) (c : Widen-at t) → let a = share-begin t (seen t (other t (turn t c))) .args in a .q < a .t7 .states
+number-low t c =
+    let a = share-begin t (seen t (other t (turn t c))) .args in
+    omega (arith, widened t c .room, stride-pos (each (a .t7 .size)) (a .b))
+
+share-add-raise-one : (t : ℕ)
+    → share-lts.Need-add-raise-one (share-claims t) (share-at t) share.Post share-Inv-loop share-μ-loop
+share-add-raise-one t c =
+    let w = c .before in
+    let s = share-begin t (seen t (other t (turn t w))) in
+    record { fits = omega (arith, number-low t w, s .pre .1 .0 .counted .marked, s .good .1 .1 .1 .1 .1 .1 .1 .1 .1 .1 .1 .1 .0) }
+
+share-shared-slice-read-raise-one : (t : ℕ)
+    → share-lts.Need-shared-slice-read-raise-one (share-claims t) (share-at t) share.Post share-Inv-loop share-μ-loop
+share-shared-slice-read-raise-one t c =
+    let w = c .before .before in
+    omega (arith, number-low t w, share-begin t (seen t (other t (turn t w))) .pre .1 .0 .counted .marked)
+
+share-raise-one-requires : (t : ℕ)
+    → share-lts.Need-raise-one-requires (share-claims t) (share-at t) share.Post share-Inv-loop share-μ-loop
+share-raise-one-requires t c κs =
+    let w = c .before .before .before in
+    let p = turn t w .before in
+    let g = share-begin t (seen t (other t (turn t w))) .pre .1 .0 in (
+      (g .below, g .high),
+      (
+        omega (arith, widened t w .low, g .seeable .few),
+        omega (arith, number-low t w, g .long-fresh, p .loop .inv .raises .long),
+      ),
+    )
+
 share-sweep-requires : (t : ℕ)
     → share-lts.Need-sweep-requires (share-claims t) (share-at t) share.Post share-Inv-loop share-μ-loop
 share-sweep-requires t c κs =
-    let w = c .before in
-    let i = turn t w in
-    let p = i .before in
-    let o = other t i in
-    let s = share-begin t (seen t o) in
-    let n = w .widen .ensures in (
-      omega (arith, s .pre .0),
-      (
-        ground-stays (p .loop .fresh) (p .loop .inv .raises .long) (s .pre .1 .0),
-        shares-stands (w .widen .result) (s .args .apart + o .other .result) (s .pre .1 .1 .0) (n .low-small)
-            (n .high-small) (omega (arith, o .other .ensures .1)),
-      ),
-    )
+    let w = c .before .before in
+    let p = turn t w .before in
+    let s = share-begin t (seen t (other t (turn t w))) in
+    (omega (arith, s .pre .0), (ground-stays (p .loop .fresh) (p .loop .inv .raises .long) (s .pre .1 .0), widened t w))
+
+-- the marks after a turn of the loop: with no block left the state's own mark is raised, otherwise the sweep goes on
+swept : (t : ℕ) (c : share-lts.Joined3 (share-claims t) (share-at t) share.Post share-Inv-loop share-μ-loop)
+    → let w = c .before in let o = other t (turn t w) in let a = share-begin t (seen t o) .args in
+    Raised (a .l) (a .y .now) (a .t5) (a .z .now) (a .t7) (a .j) (each (a .t9)) (a .modulus) (a .need) (a .there) (a .marks .now) (a .at)
+    (Chosen (a .l) (a .t5) (a .z .now) (a .t7) (a .j) (a .b) (a .q) (w .widen .result) (a .apart + o .other .result))
+    (turn t w .before .loop .fresh) (c .if3 .fresh)
+swept t c =
+    ⊎-elim
+    (λ w. rw (w .6) (raised-end (w .0 .taken) (w .3 .ensures .0) (w .3 .ensures .1)))
+    (λ w. rw (w .5) (w .2 .ensures))
+    (c .if3 .came)
 
 share-add-g : (t : ℕ)
     → share-lts.Need-add-g (share-claims t) (share-at t) share.Post share-Inv-loop share-μ-loop
 share-add-g t c =
-    let i = turn t (c .before .before .before .before) in
+    let i = turn t (c .before) in
     let e = seen t (other t i) in
     record { fits = omega (arith, i .loop-test .taken, viewed t e .more .few, share-begin t e .fits .a) }
 
 share-loop-less : (t : ℕ)
     → share-lts.Need-loop-less (share-claims t) (share-at t) share.Post share-Inv-loop share-μ-loop
 share-loop-less t c =
-    omega (arith, turn t (c .before .before .before .before) .loop-test .taken)
+    omega (arith, turn t (c .before) .loop-test .taken)
 
 share-loop-again : (t : ℕ)
     → share-lts.Need-loop-again (share-claims t) (share-at t) share.Post share-Inv-loop share-μ-loop
 share-loop-again t c =
-    let n = c .before .before .before .before in
+    let n = c .before in
     let p = turn t n .before in
     let o = other t (turn t n) in
     let k = block t o in
@@ -366,7 +415,7 @@ share-loop-again t c =
     (subst (λ (v : ℕ). Wider (a .l .nc) (k .wide .result * a .l .nc) v had g (a .span) wide) lost (n .widen .ensures))
     in
     let own : List ℕ → ℕ = λ vs. getD vs (chunkAt (a .l) (a .t5) (a .j) (a .b)) 0 in
-    raised-then (p .loop .inv) (c .before .before .sweep .ensures)
+    raised-then (p .loop .inv) (swept t c)
     (λ numbers row vs next x r.
     ⊎-elim
     (λ u. inl (r .0, u))
@@ -649,6 +698,9 @@ pub +share+sweep-spec : {M : Type 1} → statement M
     (share-mul-widen t)
     (share-wide-requires-2 t)
     (share-widen-requires t)
+    (share-add-raise-one t)
+    (share-shared-slice-read-raise-one t)
+    (share-raise-one-requires t)
     (share-sweep-requires t)
     (share-add-g t)
     (share-loop-less t)
