@@ -1,6 +1,6 @@
--- What the anchor is good for: a bound on the chunks in which a consistent row can differ from it, by the row's own losses; that a
--- consistent row which differs in at most r chunks is the anchor; and that an anchor stays one while the rows held grow. Rests on
--- the laws of greedy matching (consistent), of lines and of steps (found). Assumes nothing.
+-- What the anchor is good for: a bound on the chunks in which a consistent row can differ from it, by the row's own
+-- losses; that a consistent row which differs in at most r chunks is the anchor; and that an anchor stays one while the
+-- rows held grow. Rests on the laws of greedy matching (consistent), of lines and of steps (found). Assumes nothing.
 use Prim.Native.Nat.{ℕ, zero, suc, _+_, _-_, _*_, _<_, _≤_}
 use mathlib.Core.Path.{_≡_, refl, sym, ap, ap₂, _∙_, subst}
 use mathlib.Core.Bool.{Bool, true, cond}
@@ -41,7 +41,8 @@ use Rattle.anchor.proofs.Desk.{blocks-split}
 use Rattle.anchor.proofs.Over.{most-one, over-none, over-front, over-same, over-lost, weight-unlike}
 use Rattle.anchor.proofs.Totals.{total-next}
 
--- a consistent row under the first i counts of a pattern differs from the anchor in at most m chunks of the first b blocks
+-- a consistent row under the first i counts of a pattern differs from the anchor in at most m chunks of the first b
+-- blocks
 abbrev pub Counted : Layout → (numbers y desk counts row : List ℕ) (i b m : ℕ) → Type 0
 Counted l numbers y desk counts row i b m =
     (vs x : List ℕ) → Prepared l y vs desk → Sent l numbers y x → OwnCounts l y counts i x → LightInHand l counts i row x
@@ -112,12 +113,14 @@ module _ {l : Layout} {numbers y : List ℕ} (given : Given l numbers y) where
         in
         let long : length p ≡ l .nc = length-take-le (l .nc) (drop s x) (omega (arith, length-drop s x)) in
         let there = piece (l .nc) 0 p (drop (s - d) y) long none .within in
-        let same : p ≡ take (l .nc) (drop (s - d) y) = whole p (drop (s - d) y) none ∙ ap (λ (n : ℕ). take n (drop (s - d) y)) long in
+        let same : p ≡ take (l .nc) (drop (s - d) y) =
+        whole p (drop (s - d) y) none ∙ ap (λ (n : ℕ). take n (drop (s - d) y)) long in
         value-at l x c h
         ∙ sym (number-take (l .nc) (drop s x))
         ∙ ap (number (l .nc)) same
         ∙ number-take (l .nc) (drop (s - d) y)
-        ∙ r (lost-most x y s (omega arith)) (omega (arith, length-drop (s - d) y, bounds .nc-low, lost-most x y s (omega arith)))
+        ∙ r (lost-most x y s (omega arith))
+        (omega (arith, length-drop (s - d) y, bounds .nc-low, lost-most x y s (omega arith)))
 
     module _ (vs desk : List ℕ) (ready : Prepared l y vs desk) where
       -- one chunk: it differs where it can although it lost no bit, or it lost one
@@ -151,11 +154,15 @@ module _ {l : Layout} {numbers y : List ℕ} (given : Given l numbers y) where
       pub heavy-bound : (b d a : ℕ) → b < l .l1 → d ≤ mostLosses → lost (b * l .l2) ≡ d → lost (b * l .l2 + l .l2) ≡ d + a
           → over (unlike (values l x) vs) (b * l .l2) (l .l2) ≤ over (wide desk d a) (b * l .l2) (l .l2) + a
       heavy-bound b d a h m lo hi =
-          omega (arith, range-bound (b * l .l2) (l .l2) d a (field-room (l .l1) (l .l2) b h) m (omega arith) (omega arith))
+          omega (
+            arith,
+            range-bound (b * l .l2) (l .l2) d a (field-room (l .l1) (l .l2) b h) m (omega arith) (omega arith),
+          )
 
       -- all blocks from block i on
       pub later-bound : (i d : ℕ) → i ≤ l .l1 → lost (i * l .l2) ≡ d
-          → over (unlike (values l x) vs) (i * l .l2) ((l .l1 - i) * l .l2) ≤ getD desk (laterAt i d) 0 + (rowBits l - length y - d)
+          → over (unlike (values l x) vs) (i * l .l2) ((l .l1 - i) * l .l2)
+          ≤ getD desk (laterAt i d) 0 + (rowBits l - length y - d)
       later-bound i d h e =
           let split : i * l .l2 + (l .l1 - i) * l .l2 ≡ l .l1 * l .l2 = blocks-split (l .l1) (l .l2) i h in
           let end : lost (i * l .l2 + (l .l1 - i) * l .l2) ≡ rowBits l - length y = ap lost split ∙ lost-all in
@@ -170,7 +177,8 @@ module _ {l : Layout} {numbers y : List ℕ} (given : Given l numbers y) where
     counted-none vs x p s o h = rw (zero-mul (l .l2), over-none (unlike (values l x) vs) 0) (omega arith)
 
     -- its losses before block b
-    own-at : (x : List ℕ) → OwnCounts l y counts i x → (b : ℕ) → b ≤ i → lostBefore l y x (b * l .l2) ≡ inAll (take b counts)
+    own-at : (x : List ℕ) → OwnCounts l y counts i x → (b : ℕ) → b ≤ i
+        → lostBefore l y x (b * l .l2) ≡ inAll (take b counts)
     own-at x o b h = ap (λ (n : ℕ). losses (take n x) y) (mul-assoc b (l .l2) (l .nc)) ∙ o b h
 
     -- one block more
@@ -196,7 +204,8 @@ module _ {l : Layout} {numbers y : List ℕ} (given : Given l numbers y) where
         let z = a .row in
         let f = unlike (values l x) (values l z) in
         let front = c (values l z) x (a .prepared) s o r in
-        let back = later-bound x s (values l z) desk (a .prepared) i (inAll (take i counts)) h (own-at x o i (omega arith)) in
+        let back =
+        later-bound x s (values l z) desk (a .prepared) i (inAll (take i counts)) h (own-at x o i (omega arith)) in
         let split = over-front f (i * l .l2) ((l .l1 - i) * l .l2) in
         let all : over f 0 (l .l1 * l .l2) ≤ l .r = rw (← blocks-split (l .l1) (l .l2) i h) (omega arith) in
         subst (Known held) (sym (only-one x z s (a .sent) all)) (a .known)
@@ -238,7 +247,8 @@ module _ {l : Layout} {numbers y : List ℕ} {cap : ℕ} {list : List ℕ} {m : 
       omega (arith, k .room, mul-le-mul-right w some, one-mul w)
 
 -- ---- a desk on which nothing is written has none
-pub anchored-none : {l : Layout} {numbers y : List ℕ} {held : Held} (desk : List ℕ) → getD desk 0 0 ≡ 0 → Anchored l numbers y held desk
+pub anchored-none : {l : Layout} {numbers y : List ℕ} {held : Held} (desk : List ℕ) → getD desk 0 0 ≡ 0
+    → Anchored l numbers y held desk
 anchored-none desk e s =
     absurd (omega (arith, eqb-true (getD desk 0 0) 1 (both-right (leb deskSize (length desk)) (eqb (getD desk 0 0) 1) s)))
 
@@ -247,7 +257,8 @@ pub set-long : (desk : List ℕ) → isSet desk ≡ true → deskSize ≤ length
 set-long desk e = leb-true deskSize (length desk) (both-left (leb deskSize (length desk)) (eqb (getD desk 0 0) 1) e)
 
 -- ---- a consistent row that differs from the anchor's chunks z in at most r of them is known
-pub near-known : {l : Layout} {numbers y : List ℕ} {held : Held} {desk : List ℕ} → Given l numbers y → Anchor l numbers y held desk
+pub near-known : {l : Layout} {numbers y : List ℕ} {held : Held} {desk : List ℕ} → Given l numbers y
+    → Anchor l numbers y held desk
     → (z : List ℕ) → ((c : ℕ) → c < l .l1 * l .l2 → getD z c 0 ≡ getD desk (1 + c) 0)
     → (x : List ℕ) → Sent l numbers y x → over (unlike (values l x) z) 0 (l .l1 * l .l2) ≤ l .r → Known held x
 near-known {l} {held = held} given a z e x sent few =
@@ -268,6 +279,8 @@ anchored-stays {l} h g a e =
     record {
       row = k .row;
       sent = k .sent;
-      known = subst (λ (s : Held). Known s (k .row)) (sym (grown-rows h g)) (known-stays (h .well) (g .found) (k .row) (k .known));
+      known =
+          subst (λ (s : Held). Known s (k .row)) (sym (grown-rows h g))
+          (known-stays (h .well) (g .found) (k .row) (k .known));
       prepared = k .prepared;
     }

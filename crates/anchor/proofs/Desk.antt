@@ -44,7 +44,8 @@ module _ (nc : ℕ) (y : List ℕ) (c v : ℕ) where
     where
       go : Dec (e ≡ d) → Reads nc y c v t
       go (yes k) =
-          let s : getD (set out d run) e 0 ≡ run = ap (λ (j : ℕ). getD (set out d run) j 0) k ∙ getD-set-same out d run 0 h in
+          let s : getD (set out d run) e 0 ≡ run =
+          ap (λ (j : ℕ). getD (set out d run) j 0) k ∙ getD-set-same out d run 0 h in
           f t (omega arith) (omega arith)
       go (no n) = r e t m lo (omega (arith, getD-set-other out d e run 0 n))
 
@@ -79,7 +80,8 @@ module _ (f : ℕ → ℕ) (l1 l2 : ℕ) where
   sum-next i lo hi =
       let m : i ≡ i - 1 + 1 = omega arith in
       let a = blocks-next l1 l2 i lo hi in
-      let b : (i - 1) * l2 + l2 ≡ i * l2 = sym (ap (λ (k : ℕ). k * l2) m ∙ omega (arith, add-mul (i - 1) 1 l2, one-mul l2)) in
+      let b : (i - 1) * l2 + l2 ≡ i * l2 =
+      sym (ap (λ (k : ℕ). k * l2) m ∙ omega (arith, add-mul (i - 1) 1 l2, one-mul l2)) in
       let e : over f ((i - 1) * l2 + l2) ((l1 - i) * l2) ≡ over f (i * l2) ((l1 - i) * l2) =
       ap (λ (k : ℕ). over f k ((l1 - i) * l2)) b
       in
@@ -103,7 +105,8 @@ module _ (s p : List ℕ) (at : ℕ) (room : at + length p ≤ length s) where
   front = length-append (take at s) p ∙ omega (arith, length-take-le at s (omega arith))
 
   pub put-length : length put ≡ length s
-  put-length = length-append (take at s ++ p) (drop (at + length p) s) ∙ omega (arith, front, length-drop (at + length p) s)
+  put-length =
+      length-append (take at s ++ p) (drop (at + length p) s) ∙ omega (arith, front, length-drop (at + length p) s)
 
   -- before it
   pub put-before : (q : ℕ) → q < at → getD put q 0 ≡ getD s q 0
@@ -133,7 +136,8 @@ pub near-none : (nc : ℕ) (y s : List ℕ) → NearFor nc y 0 s s
 near-none nc y s = record { size = refl; before = λ q h. refl; near = λ c d t h m lo hi. absurd (omega arith) }
 
 -- one chunk more
-pub near-next : (nc : ℕ) (y : List ℕ) (n : ℕ) (entry s p exit : List ℕ) → n < 255 → deskSize ≤ length entry → length p ≡ 13
+pub near-next : (nc : ℕ) (y : List ℕ) (n : ℕ) (entry s p exit : List ℕ) → n < 255 → deskSize ≤ length entry
+    → length p ≡ 13
     → Runs nc y n (getD s (1 + n) 0) p → exit ≡ take (256 + n * 13) s ++ p ++ drop (256 + n * 13 + length p) s
     → NearFor nc y n entry s → NearFor nc y (n + 1) entry exit
 near-next nc y n entry s p exit h k w r e f =
@@ -190,7 +194,8 @@ later-next l k n entry s p exit few h z w r chunks e f =
 
 -- ---- the whole desk: the chunks of a row are copied to it, and the other parts are written after them
 module _ (l : Layout) (y vs old chunks s₀ s₁ s₂ s₃ : List ℕ) (few : l .l1 * l .l2 ≤ 255) (short : length y ≤ rowBits l)
-    (most : rowBits l ≤ length y + mostLosses) (long : deskSize ≤ length s₀) (e : chunks ≡ vs ++ old) (n : length vs ≡ l .l1 * l .l2)
+    (most : rowBits l ≤ length y + mostLosses) (long : deskSize ≤ length s₀) (e : chunks ≡ vs ++ old)
+    (n : length vs ≡ l .l1 * l .l2)
     (w : length chunks ≡ 255) (put₁ : s₁ ≡ take 1 s₀ ++ chunks ++ drop (1 + length chunks) s₀)
     (near₂ : NearFor (l .nc) y (l .l1 * l .l2) s₁ s₂)
     (later₃ : LaterFor l (rowBits l - length y) (rowBits l - length y + 1) s₂ s₃) where

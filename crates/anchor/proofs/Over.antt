@@ -1,5 +1,5 @@
--- Sums over places, and how many places of two lists differ. Rests on the erasures' law of two rows with the same checks. Assumes
--- nothing.
+-- Sums over places, and how many places of two lists differ. Rests on the erasures' law of two rows with the same
+-- checks. Assumes nothing.
 use Prim.Native.Nat.{ℕ, zero, suc, _+_, _<_, _≤_}
 use mathlib.Core.Path.{_≡_, refl, sym, ap, ap₂, _∙_}
 use mathlib.Core.Bool.{Bool, true, false, cond}

@@ -8,13 +8,15 @@ use lib.ListN.{length, getD, take}
 use Rattle.consistent.specs.Greedy.{inAll}
 
 -- one count more
-total-suc : (counts : List ℕ) (i : ℕ) → i < length counts → inAll (take (suc i) counts) ≡ inAll (take i counts) + getD counts i 0
+total-suc : (counts : List ℕ) (i : ℕ) → i < length counts
+    → inAll (take (suc i) counts) ≡ inAll (take i counts) + getD counts i 0
 unfolding inAll
 total-suc [] i h = absurd (omega arith)
 total-suc (a ∷ counts) zero h = omega arith
 total-suc (a ∷ counts) (suc i) h = omega (arith, total-suc counts i (omega arith))
 
-pub total-next : (counts : List ℕ) (i : ℕ) → i < length counts → inAll (take (i + 1) counts) ≡ inAll (take i counts) + getD counts i 0
+pub total-next : (counts : List ℕ) (i : ℕ) → i < length counts
+    → inAll (take (i + 1) counts) ≡ inAll (take i counts) + getD counts i 0
 total-next counts i h = rw (add-one i) (total-suc counts i h)
 
 -- the total grows with the counts

@@ -1,7 +1,7 @@
--- The anchor: one consistent row that is held already, and what is worked out once from it, so that parts of a search that hold no
--- other row are left out. Two consistent rows have the same checks, so they differ in more than r chunks or not at all. How many
--- chunks of a row can differ from the anchor's is bounded by its losses: a chunk that lost no bit stands in the received row, as many
--- places before its own as bits were lost before it.
+-- The anchor: one consistent row that is held already, and what is worked out once from it, so that parts of a search
+-- that hold no other row are left out. Two consistent rows have the same checks, so they differ in more than r chunks
+-- or not at all. How many chunks of a row can differ from the anchor's is bounded by its losses: a chunk that lost no
+-- bit stands in the received row, as many places before its own as bits were lost before it.
 use Prim.Native.Nat.{ℕ, zero, suc, _+_, _-_, _*_, _<_, _≤_}
 use mathlib.Core.Path.{_≡_}
 use mathlib.Core.Bool.{Bool, true, cond, _&&_}
@@ -30,9 +30,9 @@ lostBefore l y x c = losses (take (c * l .nc) x) y
 abbrev pub Reads : (nc : ℕ) (y : List ℕ) (c v t : ℕ) → Type 0
 Reads nc y c v t = t ≤ c * nc → c * nc + nc ≤ length y + t → number nc (drop (c * nc - t) y) ≡ v
 
--- ---- the desk, a slice of bytes: whether an anchor is set; its chunks; for each chunk and each number of losses before it, how many
--- more losses leave it the anchor's, at least; and for each number of losses and each block, how many chunks from there on can be
--- another than the anchor's although they lost no bit
+-- ---- the desk, a slice of bytes: whether an anchor is set; its chunks; for each chunk and each number of losses
+-- before it, how many more losses leave it the anchor's, at least; and for each number of losses and each block, how
+-- many chunks from there on can be another than the anchor's although they lost no bit
 abbrev pub deskSize : ℕ
 deskSize = 6899
 
@@ -46,8 +46,8 @@ laterAt i d = 3571 + d * 256 + i
 abbrev pub wide : (desk : List ℕ) (d a : ℕ) → ℕ → ℕ
 wide desk d a c = cond (ltb a (getD desk (nearAt c d) 0)) 0 1
 
--- the desk with the second part written for the first n chunks, whose numbers stand in the first part: an entry r at d losses says
--- that the chunk stays the anchor's after d to d + r - 1 losses
+-- the desk with the second part written for the first n chunks, whose numbers stand in the first part: an entry r at d
+-- losses says that the chunk stays the anchor's after d to d + r - 1 losses
 pub record NearFor (nc : ℕ) (y : List ℕ) (n : ℕ) (entry exit : List ℕ) : Type 0 where
   pub size : length exit ≡ length entry
   pub before : (q : ℕ) → q < 256 → getD exit q 0 ≡ getD entry q 0
@@ -94,8 +94,8 @@ abbrev pub LightInHand : Layout → (counts : List ℕ) (i : ℕ) (row x : List 
 LightInHand l counts i row x =
     (b j : ℕ) → b < i → j < l .l2 → getD counts b 0 ≤ 1 → getD (values l x) (b * l .l2 + j) 0 ≡ getD row (b * l .l2 + j) 0
 
--- a consistent row that loses d bits before block b and a in it, and has the block in hand if a is at most 1, differs from the anchor
--- in at most m chunks of the block
+-- a consistent row that loses d bits before block b and a in it, and has the block in hand if a is at most 1, differs
+-- from the anchor in at most m chunks of the block
 abbrev pub BlockMost : Layout → (numbers y desk row : List ℕ) (b d a m : ℕ) → Type 0
 BlockMost l numbers y desk row b d a m =
     (vs x : List ℕ) → Prepared l y vs desk → Sent l numbers y x → lostBefore l y x (b * l .l2) ≡ d

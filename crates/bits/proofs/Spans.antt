@@ -277,7 +277,8 @@ bit-then x i j k h e = rw (drop-cons x i 0 h, sym e, add-one i) refl
 
 -- four bits from a place on, read as bytes, give the number that they spell
 pub number-bits : (x : List ℕ) → AllBits x → (i : ℕ) → i + 4 ≤ length x
-    → (getD x i 0 + getD x (i + 1) 0 * 256 + (getD x (i + 2) 0 + getD x (i + 3) 0 * 256) * 65536) * 134480385 / 16777216 % 16
+    → (getD x i 0 + getD x (i + 1) 0 * 256 + (getD x (i + 2) 0 + getD x (i + 3) 0 * 256) * 65536) * 134480385 / 16777216
+    % 16
     ≡ number 4 (drop i x)
 number-bits x b i h =
     let low : (j : ℕ) → getD x j 0 < 2 = bit-at x b in

@@ -1,5 +1,5 @@
--- The open cells of a block, cut out one by one: what they bring and the rest of the block are the block's total, since a line's total
--- changes just by what a changed chunk brings. Assumes nothing.
+-- The open cells of a block, cut out one by one: what they bring and the rest of the block are the block's total, since
+-- a line's total changes just by what a changed chunk brings. Assumes nothing.
 use Prim.Native.Nat.{ℕ, zero, suc, _+_, _-_, _*_, _^_, _<_, _≤_}
 use mathlib.Core.Path.{_≡_, refl, sym, ap, ap₂, _∙_}
 use mathlib.Core.Bool.{Bool, true, false, cond, false≢true}
@@ -63,7 +63,8 @@ module _ (l : Layout) (cells : Cells) (i : ℕ) where
   length-bare (suc k) vs = by (isIn cells i k) (length-bare k vs)
     where
       by : (b : Bool) → length (bare l cells i k vs) ≡ length vs
-          → length (cond b (set (bare l cells i k vs) (at (getD (cells .column) k 0)) 0) (bare l cells i k vs)) ≡ length vs
+          → length (cond b (set (bare l cells i k vs) (at (getD (cells .column) k 0)) 0) (bare l cells i k vs))
+          ≡ length vs
       by true r = length-set (bare l cells i k vs) (at (getD (cells .column) k 0)) 0 ∙ r
       by false r = r
 
@@ -135,7 +136,8 @@ module _ (l : Layout) (cells : Cells) (i : ℕ) where
         }
 
     -- a cell that is not open, or stands in another block, is passed over
-    pub cut-skip : (k : ℕ) (cut : Cut) → isIn cells i k ≡ false → CutOut l y cells i k cut → CutOut l y cells i (k + 1) cut
+    pub cut-skip : (k : ℕ) (cut : Cut) → isIn cells i k ≡ false → CutOut l y cells i k cut
+        → CutOut l y cells i (k + 1) cut
     cut-skip k cut e c =
         record {
           few = c .few;
@@ -147,9 +149,11 @@ module _ (l : Layout) (cells : Cells) (i : ℕ) where
         }
 
     -- an open cell of the block, behind those before it, is cut out
-    module _ (k : ℕ) (old new : Cut) (low : k < 12) (e : isIn cells i k ≡ true) (column : getD (cells .column) k 0 < l .l2)
+    module _ (k : ℕ) (old new : Cut) (low : k < 12) (e : isIn cells i k ≡ true)
+        (column : getD (cells .column) k 0 < l .l2)
         (room : getD (cells .place) k 0 ≤ length y)
-        (g : Longer old (getD (cells .column) k 0) (getD (cells .place) k 0) (getD (cells .lost) k 0) new) (c : CutOut l y cells i k old)
+        (g : Longer old (getD (cells .column) k 0) (getD (cells .place) k 0) (getD (cells .lost) k 0) new)
+        (c : CutOut l y cells i k old)
       where
         abbrev n : ℕ
         n = old .chunks .n
@@ -206,12 +210,19 @@ module _ (l : Layout) (cells : Cells) (i : ℕ) where
           few-here : getD (cells .lost) k 0 ≤ l .nc
           few-here =
               let d = digits (l .nc) (getD vs (at j) 0) in
-              omega (arith, losses-most d (drop (getD (cells .place) k 0) y), length-digits (l .nc) (getD vs (at j) 0), loses-here .1)
+              omega (
+                arith,
+                losses-most d (drop (getD (cells .place) k 0) y),
+                length-digits (l .nc) (getD vs (at j) 0),
+                loses-here .1,
+              )
 
           there-here : getD (cells .place) k 0 + l .nc ≤ length y + getD (cells .lost) k 0
           there-here =
               let d = digits (l .nc) (getD vs (at j) 0) in
-              let p = piece (l .nc) _ d (drop (getD (cells .place) k 0) y) (length-digits (l .nc) (getD vs (at j) 0)) (loses-here .1) in
+              let p =
+              piece (l .nc) _ d (drop (getD (cells .place) k 0) y) (length-digits (l .nc) (getD vs (at j) 0))
+              (loses-here .1) in
               omega (arith, p .within, length-drop (getD (cells .place) k 0) y, room, few-here)
 
           can-next : Can (l .nc) y (new .chunks) (ownOf l i new vs)
@@ -222,10 +233,14 @@ module _ (l : Layout) (cells : Cells) (i : ℕ) where
                     (λ s h. rw (own-was vs s h) (a .small s h)) (rw (own-is vs) (loses-here .0)) s (rw (g .count) at h);
                 few = λ s h. below-more (λ s. getD (new .chunks .lost) s 0 ≤ l .nc) n
                     (λ s h. rw (lost-was s h) (a .few s h)) (rw lost-is few-here) s (rw (g .count) at h);
-                there = λ s h. below-more (λ s. getD (new .chunks .place) s 0 + l .nc ≤ length y + getD (new .chunks .lost) s 0) n
-                    (λ s h. rw (place-was s h, lost-was s h) (a .there s h)) (rw (place-is, lost-is) there-here) s (rw (g .count) at h);
+                there =
+                    λ s h. below-more
+                    (λ s. getD (new .chunks .place) s 0 + l .nc ≤ length y + getD (new .chunks .lost) s 0) n
+                    (λ s h. rw (place-was s h, lost-was s h) (a .there s h)) (rw (place-is, lost-is) there-here) s
+                    (rw (g .count) at h);
                 loses = λ s h. below-more
-                    (λ s. losses (digits (l .nc) (ownOf l i new vs s)) (drop (getD (new .chunks .place) s 0) y) ≡ getD (new .chunks .lost) s 0)
+                    (λ s. losses (digits (l .nc) (ownOf l i new vs s)) (drop (getD (new .chunks .place) s 0) y)
+                    ≡ getD (new .chunks .lost) s 0)
                     n
                     (λ s h. rw (own-was vs s h, place-was s h, lost-was s h) (a .loses s h))
                     (rw (own-is vs, place-is, lost-is) (loses-here .1)) s (rw (g .count) at h);
@@ -254,7 +269,8 @@ module _ (l : Layout) (cells : Cells) (i : ℕ) where
             let step = total-but (l .nc) (i * l .l2) 1 (l .l2) j column (set w (at j) 0) w (away w) in
             let was : getD w (at j) 0 ≡ getD vs (at j) 0 = c .behind vs j (g .behind) column in
             let s = rw (one, set-zero w (at j), was, total-zero (l .nc) (j * l .nc + 1)) at step in
-            ap₂ (λ (u : List ℕ) (b : ℕ). blockTotal l i u + b) (bare-in k vs e) (brought-next vs) ∙ omega (arith, s, c .whole vs)
+            ap₂ (λ (u : List ℕ) (b : ℕ). blockTotal l i u + b) (bare-in k vs e) (brought-next vs)
+            ∙ omega (arith, s, c .whole vs)
           where
             away : (w : List ℕ) (t : ℕ) → t < l .l2 → (t ≡ j → ⊥)
                 → getD (set w (at j) 0) (i * l .l2 + t * 1) 0 ≡ getD w (i * l .l2 + t * 1) 0
@@ -266,7 +282,8 @@ module _ (l : Layout) (cells : Cells) (i : ℕ) where
               few = omega (arith, g .count, g .room);
               sizes = sizes;
               before = λ s h. below-more (λ s. getD (new .chunks .block) s 0 < new .next) n
-                  (λ s h. rw (block-was s h) (omega (arith, c .before s h, g .next, g .behind))) (rw block-is (omega (arith, g .next))) s
+                  (λ s h. rw (block-was s h) (omega (arith, c .before s h, g .next, g .behind)))
+                  (rw block-is (omega (arith, g .next))) s
                   (rw (g .count) at h);
               behind = λ vs t h q.
                   rw (bare-in k vs e)

@@ -1,5 +1,5 @@
--- A row whose block has lost all its bits: what its open cells bring to the block's sum is what the rest of the block leaves. Rests on
--- Cutting. Assumes nothing.
+-- A row whose block has lost all its bits: what its open cells bring to the block's sum is what the rest of the block
+-- leaves. Rests on Cutting. Assumes nothing.
 use Prim.Native.Nat.{ℕ, _+_, _*_, _%_, _<_, _≤_}
 use mathlib.Core.Path.{_≡_, refl, sym, ap, _∙_}
 use mathlib.Core.List.{List}
@@ -24,7 +24,8 @@ module _ {l : Layout} {y numbers : List ℕ} {cells : Cells} {row : List ℕ} {i
     (others : (c : ℕ) → c < j → getD out (i * l .l2 + c) 0 ≡ getD row (i * l .l2 + c) 0)
     (later : (c : ℕ) → j ≤ c → c < l .l2 → getD vs (i * l .l2 + c) 0 ≡ getD out (i * l .l2 + c) 0) where
   -- with zeros for the open cells the row in hand and the row are alike in the block
-  bare-line : line (l .nc) (i * l .l2) 1 (l .l2) (bare l cells i 12 out) ≡ line (l .nc) (i * l .l2) 1 (l .l2) (bare l cells i 12 vs)
+  bare-line : line (l .nc) (i * l .l2) 1 (l .l2) (bare l cells i 12 out)
+      ≡ line (l .nc) (i * l .l2) 1 (l .l2) (bare l cells i 12 vs)
   bare-line =
       line-same (l .nc) (i * l .l2) 1 (l .l2) _ _
       (λ t h.
@@ -49,7 +50,8 @@ module _ {l : Layout} {y numbers : List ℕ} {cells : Cells} {row : List ℕ} {i
   ended-brings cut c =
       let m : ℕ = l .l2 * l .nc + 1 in
       let b : ℕ = brought (l .nc) (cut .chunks .block) (ownOf l i cut vs) (cut .chunks .n) in
-      ap (λ (n : ℕ). (n + b) % m) (ap sum bare-line ∙ sym (sum-of-total (l .nc) (i * l .l2) 1 (l .l2) (bare l cells i 12 vs)))
+      ap (λ (n : ℕ). (n + b) % m)
+      (ap sum bare-line ∙ sym (sum-of-total (l .nc) (i * l .l2) 1 (l .l2) (bare l cells i 12 vs)))
       ∙ mod-add-mod (blockTotal l i (bare l cells i 12 vs)) m b
       ∙ ap (λ (n : ℕ). n % m) (c .whole vs)
       ∙ sum-of-total (l .nc) (i * l .l2) 1 (l .l2) vs

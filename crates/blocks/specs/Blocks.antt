@@ -1,5 +1,6 @@
--- A block whose losses are all shared out: its chunks are those in hand but for its open cells, and those behind its last loss are read
--- from the received row. What the open cells bring to its sum is weighed as in a chunk-string, of which the columns are the blocks.
+-- A block whose losses are all shared out: its chunks are those in hand but for its open cells, and those behind its
+-- last loss are read from the received row. What the open cells bring to its sum is weighed as in a chunk-string, of
+-- which the columns are the blocks.
 use Prim.Native.Nat.{ℕ, zero, suc, _+_, _-_, _*_, _^_, _<_, _≤_}
 use mathlib.Core.Path.{_≡_}
 use mathlib.Core.Bool.{Bool, true, false, cond, _&&_, not}
@@ -41,7 +42,8 @@ pub record Longer (old : Cut) (j place lost : ℕ) (new : Cut) : Type 0 where
 abbrev pub Lose : Layout → (y : List ℕ) → Cells → (i : ℕ) (vs : List ℕ) → Type 0
 Lose l y cells i vs =
     (z : ℕ) → Open cells z → getD (cells .block) z 0 ≡ i → (getD vs (chunkOf l cells z) 0 < 2 ^ l .nc)
-    × (losses (digits (l .nc) (getD vs (chunkOf l cells z) 0)) (drop (getD (cells .place) z 0) y) ≡ getD (cells .lost) z 0)
+    × (losses (digits (l .nc) (getD vs (chunkOf l cells z) 0)) (drop (getD (cells .place) z 0) y)
+    ≡ getD (cells .lost) z 0)
 
 -- the numbers of the chunks that are weighed: those of block i in their columns
 abbrev pub ownOf : Layout → (i : ℕ) → Cut → (vs : List ℕ) → ℕ → ℕ
@@ -51,8 +53,8 @@ ownOf l i cut vs s = getD vs (i * l .l2 + getD (cut .chunks .block) s 0) 0
 abbrev pub blockTotal : Layout → (i : ℕ) (vs : List ℕ) → ℕ
 blockTotal l i vs = total 1 (line (l .nc) (i * l .l2) 1 (l .l2) vs)
 
--- the open cells of block i among the first k are cut out: their columns lie before the next one, and what they bring and the rest of the
--- block are the block's total
+-- the open cells of block i among the first k are cut out: their columns lie before the next one, and what they bring
+-- and the rest of the block are the block's total
 pub record CutOut (l : Layout) (y : List ℕ) (cells : Cells) (i k : ℕ) (cut : Cut) : Type 0 where
   pub few : cut .chunks .n ≤ 6
   pub sizes : (length (cut .chunks .block) ≡ 6) × ((length (cut .chunks .place) ≡ 6) × (length (cut .chunks .lost) ≡ 6))
@@ -70,16 +72,18 @@ pub record Later (l : Layout) (y : List ℕ) (i end c : ℕ) (vs : List ℕ) : T
   pub there : (i * l .l2 + c) * l .nc + l .nc ≤ length y + end
   pub as-read : getD vs (i * l .l2 + c) 0 ≡ number (l .nc) (drop ((i * l .l2 + c) * l .nc - end) y)
 
--- the chunks of block i from column j on are put in a row as they are read: each row of numbers that has them so has them there
+-- the chunks of block i from column j on are put in a row as they are read: each row of numbers that has them so has
+-- them there
 pub record ReadOn (l : Layout) (y : List ℕ) (i end j : ℕ) (entry exit : List ℕ) (ok : Bool) : Type 0 where
   pub long : length exit ≡ length entry
   pub others : (c : ℕ) → c < j → getD exit (i * l .l2 + c) 0 ≡ getD entry (i * l .l2 + c) 0
   pub later : (vs : List ℕ) → ((c : ℕ) → j ≤ c → c < l .l2 → Later l y i end c vs)
       → (ok ≡ true) × ((c : ℕ) → j ≤ c → c < l .l2 → getD vs (i * l .l2 + c) 0 ≡ getD exit (i * l .l2 + c) 0)
 
--- the numbers vs are those of a row whose block i loses no bit from column j on: before it the chunks are those in hand but for the open
--- cells, which lose just their counts, and the block has its sum
-pub record Ended (l : Layout) (y numbers : List ℕ) (cells : Cells) (row : List ℕ) (i end j : ℕ) (vs : List ℕ) : Type 0 where
+-- the numbers vs are those of a row whose block i loses no bit from column j on: before it the chunks are those in hand
+-- but for the open cells, which lose just their counts, and the block has its sum
+pub record Ended (l : Layout) (y numbers : List ℕ) (cells : Cells) (row : List ℕ) (i end j : ℕ) (vs : List ℕ) : Type
+    0 where
   pub decided : (c : ℕ) → c < j → c < l .l2 → OpenAt cells i c ⊎ (getD vs (i * l .l2 + c) 0 ≡ getD row (i * l .l2 + c) 0)
   pub lose : Lose l y cells i vs
   pub later : (c : ℕ) → j ≤ c → c < l .l2 → Later l y i end c vs

@@ -1,4 +1,5 @@
--- One chunk against the received row: the bits that it takes and those that it loses. Rests on the laws of lines. Assumes nothing.
+-- One chunk against the received row: the bits that it takes and those that it loses. Rests on the laws of lines.
+-- Assumes nothing.
 use Prim.Native.Nat.{ℕ, _+_, _-_}
 use mathlib.Core.Path.{_≡_, _∙_}
 use mathlib.Core.List.{List, [], _∷_, _++_, append-assoc}
@@ -12,7 +13,8 @@ use Rattle.consistent.specs.Greedy.{losses}
 use Rattle.lines.specs.Lines.{line}
 use Rattle.lines.proofs.Lines.{line-cons}
 
--- a chunk is spread to the start of a slice: the bits that it takes of y from a place on and those that it loses are all it has
+-- a chunk is spread to the start of a slice: the bits that it takes of y from a place on and those that it loses are
+-- all it has
 pub taken-lost : (nc v place n : ℕ) (out old y : List ℕ) → out ≡ [] ++ line nc 0 1 1 (v ∷ []) ++ old
     → losses (take (nc - 0) out) (take (length y - place) (drop place y)) + n ≡ length (take (nc - 0) out)
     → losses (digits nc v) (drop place y) + n ≡ nc

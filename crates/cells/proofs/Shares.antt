@@ -25,7 +25,8 @@ share-end keys lost key z h = rw (drop-of-length-le keys h) refl
 
 -- ---- a key and its cells
 -- a cell has no more losses than its key
-pub share-most : (keys lost : List ℕ) (key z : ℕ) → z < length keys → getD keys z 0 ≡ key → getD lost z 0 ≤ share keys lost key
+pub share-most : (keys lost : List ℕ) (key z : ℕ) → z < length keys → getD keys z 0 ≡ key
+    → getD lost z 0 ≤ share keys lost key
 unfolding share
 share-most [] lost key z h e = absurd (omega arith)
 share-most (k ∷ keys) [] key z h e = omega arith
@@ -100,7 +101,8 @@ module _ (keys lost : List ℕ) (key : ℕ) where
       (omega (arith, share-most keys lost key z h e), λ w g n f. omega (arith, share-two keys lost key w z g h n f e))
 
   -- and there is that cell
-  pub share-single : share keys lost key ≡ 1 → (z : ℕ) × ((z < length keys) × ((getD keys z 0 ≡ key) × (getD lost z 0 ≡ 1)))
+  pub share-single : share keys lost key ≡ 1
+      → (z : ℕ) × ((z < length keys) × ((getD keys z 0 ≡ key) × (getD lost z 0 ≡ 1)))
   share-single s =
       let q = share-some keys lost key (omega arith) in
       (q .0, (q .1 .0, (q .1 .1 .0, share-one s (q .0) (q .1 .0) (q .1 .1 .0) (q .1 .1 .1) .0)))

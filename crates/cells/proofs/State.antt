@@ -1,5 +1,5 @@
--- The rows under a state: what is known of a block or a chunk-string by the losses that are still open in it, and what a cell
--- that is found changes. Assumes nothing.
+-- The rows under a state: what is known of a block or a chunk-string by the losses that are still open in it, and what
+-- a cell that is found changes. Assumes nothing.
 use Prim.Native.Nat.{ℕ, _+_, _*_, _<_}
 use mathlib.Core.Path.{_≡_, refl, sym, ap, _∙_}
 use mathlib.Core.Bool.{Bool, true, false}
@@ -142,7 +142,8 @@ module _ (l : Layout) (y : List ℕ) (cells : Cells) (row x : List ℕ) (u : Und
   pub single-block : (z : ℕ) → length (cells .block) ≡ 12 → z < 12 → getD (cells .block) z 0 < l .l1
       → SingleAt (cells .block) (cells .lost) z
       → (t : ℕ) → t < l .l2 → (t ≡ getD (cells .column) z 0 → ⊥)
-      → getD (values l x) (getD (cells .block) z 0 * l .l2 + t * 1) 0 ≡ getD row (getD (cells .block) z 0 * l .l2 + t * 1) 0
+      → getD (values l x) (getD (cells .block) z 0 * l .l2 + t * 1) 0
+      ≡ getD row (getD (cells .block) z 0 * l .l2 + t * 1) 0
   single-block z n b h s t g d =
       rw (mul-one t)
       (in-hand (getD (cells .block) z 0) t h g

@@ -38,7 +38,13 @@ Open cells z = (z < 12) × (0 < getD (cells .lost) z 0)
 -- the cells when cell z is found: it has no losses left
 abbrev pub found : Cells → ℕ → Cells
 found cells z =
-    record { n = cells .n; block = cells .block; column = cells .column; lost = set (cells .lost) z 0; place = cells .place }
+    record {
+      n = cells .n;
+      block = cells .block;
+      column = cells .column;
+      lost = set (cells .lost) z 0;
+      place = cells .place;
+    }
 
 -- chunk j of block i is a cell that is still to be found
 abbrev pub OpenAt : Cells → (i j : ℕ) → Type 0
@@ -50,10 +56,11 @@ Placed l m cells =
     (z : ℕ) → Open cells z
     → (getD (cells .block) z 0 < l .l1) × ((getD (cells .column) z 0 < l .l2) × (getD (cells .place) z 0 ≤ m))
 
--- the row x is under the state: its chunks are those of the row in hand but for the open cells, and each open cell loses just its
--- count against the received row from its place on
+-- the row x is under the state: its chunks are those of the row in hand but for the open cells, and each open cell
+-- loses just its count against the received row from its place on
 pub record Under (l : Layout) (y : List ℕ) (cells : Cells) (row x : List ℕ) : Type 0 where
   pub decided : (i j : ℕ) → i < l .l1 → j < l .l2
       → OpenAt cells i j ⊎ (getD (values l x) (i * l .l2 + j) 0 ≡ getD row (i * l .l2 + j) 0)
   pub loses : (z : ℕ) → Open cells z
-      → losses (digits (l .nc) (getD (values l x) (chunkOf l cells z) 0)) (drop (getD (cells .place) z 0) y) ≡ getD (cells .lost) z 0
+      → losses (digits (l .nc) (getD (values l x) (chunkOf l cells z) 0)) (drop (getD (cells .place) z 0) y)
+      ≡ getD (cells .lost) z 0

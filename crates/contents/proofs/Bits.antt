@@ -71,7 +71,8 @@ after-taken b left v a y p w i e h =
     (h .0, rw (add-one p) (rw (drop-cons y p 0 i, eq-eqb b (getD y p 0) (sym e)) at (h .1)))
 
 -- it is lost
-is-lost : (b p : ℕ) (x y : List ℕ) → (p < length y → getD y p 0 ≡ b → ⊥) → losses (b ∷ x) (drop p y) ≡ suc (losses x (drop p y))
+is-lost : (b p : ℕ) (x y : List ℕ) → (p < length y → getD y p 0 ≡ b → ⊥)
+    → losses (b ∷ x) (drop p y) ≡ suc (losses x (drop p y))
 unfolding losses
 is-lost b p x y n =
     ⊎-elim

@@ -9,12 +9,14 @@ use lib.Seq.{getD-set-same, getD-set-other}
 use Rattle.contents.specs.Contents.{Among, Gathered}
 
 -- nothing is of the kind
-pub gathered-none : {P : ℕ → Type 0} (most n : ℕ) (entries : List ℕ) → ((w : ℕ) → P w → ⊥) → Gathered P most n entries n entries
+pub gathered-none : {P : ℕ → Type 0} (most n : ℕ) (entries : List ℕ) → ((w : ℕ) → P w → ⊥)
+    → Gathered P most n entries n entries
 gathered-none most n entries none =
     record { from = omega arith; few = omega arith; kept = λ k h. refl; all = λ w p. absurd (none w p) }
 
 -- v is the only number of the kind
-pub gathered-one : {P : ℕ → Type 0} (most n v : ℕ) (entries : List ℕ) → 0 < most → n < length entries → ((w : ℕ) → P w → w ≡ v)
+pub gathered-one : {P : ℕ → Type 0} (most n v : ℕ) (entries : List ℕ) → 0 < most → n < length entries
+    → ((w : ℕ) → P w → w ≡ v)
     → Gathered P most n entries (n + 1) (set entries n v)
 gathered-one most n v entries h g only =
     record {

@@ -20,7 +20,8 @@ pub record Sifted (nc : ℕ) (a : Ask) (entry : List ℕ) (i : ℕ) (exit : List
 
 module _ (nc : ℕ) (a : Ask) (entry : List ℕ) where
   pub sifted-none : Sifted nc a entry 0 entry 0
-  sifted-none = record { few = omega arith; long = refl; later = λ j h. refl; all = λ w m h. absurd (omega (arith, m .1 .1 .0)) }
+  sifted-none =
+      record { few = omega arith; long = refl; later = λ j h. refl; all = λ w m h. absurd (omega (arith, m .1 .1 .0)) }
 
   module _ (i : ℕ) (exit : List ℕ) (k : ℕ) (s : Sifted nc a entry i exit k) where
     -- an entry that is kept
@@ -29,7 +30,8 @@ module _ (nc : ℕ) (a : Ask) (entry : List ℕ) where
         record {
           few = omega (arith, s .few);
           long = length-set exit k (getD exit i 0) ∙ s .long;
-          later = λ j g. getD-set-other exit k j (getD exit i 0) 0 (λ e. omega (arith, s .few)) ∙ s .later j (omega arith);
+          later =
+              λ j g. getD-set-other exit k j (getD exit i 0) 0 (λ e. omega (arith, s .few)) ∙ s .later j (omega arith);
           all = λ w m allows. ⊎-elim (earlier w m allows) (this w m) (lt-or-ge (m .0) i);
         }
       where

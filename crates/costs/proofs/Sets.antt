@@ -10,6 +10,14 @@ use lib.ListN.{length, getD, set}
 use lib.Seq.{getD-set-same, getD-set-other}
 use Rattle.costs.specs.Costs.{In, Grows, Moved}
 
+-- what holds of each number below n, and of n
+pub up-to : (P : ℕ → Type 0) (n : ℕ) → ((s : ℕ) → s < n → P s) → P n → (s : ℕ) → s < n + 1 → P s
+up-to P n before last s k = go (ℕ-discrete s n)
+  where
+    go : Dec (s ≡ n) → P s
+    go (yes q) = rw q last
+    go (no q) = before s (omega arith)
+
 -- an entry that is set takes nothing out of a set, where it is not zero or was zero
 pub set-grows : (xs : List ℕ) (i v : ℕ) → i < length xs → (In xs i → 0 < v) → Grows xs (set xs i v)
 set-grows xs i v h k r x = go (ℕ-discrete r i)
@@ -50,12 +58,11 @@ moved-rest m by b from to e t r h x =
 pub moved-grows : (m by : ℕ) (from mid to : List ℕ) → Grows mid to → Moved m by from mid → Moved m by from to
 moved-grows m by from mid to grows t r h x = grows ((r + by) % m) (t r h x)
 
--- one chunk more: the residue of a sum with what it brings is in the set that takes over the one moved into
-pub next-in : (m known part b : ℕ) (from mid to : List ℕ) → 0 < m → Moved m b from mid
-    → ((r : ℕ) → r < m → getD to r 0 ≡ getD mid r 0) → In from ((known + part) % m) → In to ((known + (part + b)) % m)
-next-in m known part b from mid to h moved taken x =
+-- one chunk more: the residue of a sum with what it brings is in the set moved into
+pub next-in : (m known part b : ℕ) (from to : List ℕ) → 0 < m → Moved m b from to → In from ((known + part) % m)
+    → In to ((known + (part + b)) % m)
+next-in m known part b from to h moved x =
     let r : ℕ = (known + part) % m in
     let w : known + part + b ≡ known + (part + b) = omega arith in
     let e : (r + b) % m ≡ (known + (part + b)) % m = mod-add-mod (known + part) m b ∙ ap (λ (v : ℕ). v % m) w in
-    rw (taken ((known + (part + b)) % m) (mod-lt (known + (part + b)) h))
-    (rw e at (moved r (mod-lt (known + part) h) x))
+    rw e at (moved r (mod-lt (known + part) h) x)

@@ -1,5 +1,5 @@
-// What a pattern costs: how many columns lose a bit in every row under it, against the losses that its heavy blocks
-// have. Contracts cite specs/Costs.antt.
+// What a pattern costs: how many bits each column loses at least in every row under it, against the losses that its heavy
+// blocks have. Contracts cite specs/Costs.antt.
 use column::Heavy;
 use message::Layout;
 ghost use mathlib.Core.Path.{_≡_};
@@ -7,12 +7,13 @@ ghost use mathlib.Core.Bool.{true};
 ghost use mathlib.Core.List.{List};
 ghost use Prim.Native.Nat.{ℕ, _+_, _*_, _%_, _<_, _≤_};
 ghost use lib.ListN.{length, getD};
+ghost use Rattle.message.specs.Layout.{legal as isLegal};
 ghost use Rattle.windows.specs.Windows.{Tables};
 ghost use Rattle.states.specs.States.{each};
-ghost use Rattle.column.specs.Column.{Fit, Light};
+ghost use Rattle.column.specs.Column.{Fit, Light, Crosses};
 ghost use Rattle.marks.specs.Marks.{Path};
-ghost use Rattle.whole.specs.Whole.{modulus, firsts, Source, Legible, brings, legibleIn, bringsIn};
-ghost use Rattle.costs.specs.Costs.{In, Grows, Moved};
+ghost use Rattle.whole.specs.Whole.{modulus, firsts, Source, OneLess, Legible, brings};
+ghost use Rattle.costs.specs.Costs.{In, Grows, Moved, ReadBut, bringsBut, Asked, Tells, Repairs};
 
 // The most residues that the sum of a chunk-string can have. A set has an entry for each, zero for those not in it. What
 // is proved of sets is what they hold at least: a residue too many lets a column pass, and no row is lost by that.
@@ -116,8 +117,76 @@ fn take_over(m: usize, set: &mut [u8], other: &mut [u8])
     }
 }
 
-// Whether column j can have its sum where no chunk of a heavy block loses a bit there, whatever losses are left in
-// each. The other set is empty before and after.
+// Puts what the chunk of a block in column j brings into the residues of a set: each of them with each reading of the chunk.
+// The other set is empty before and after.
+fn take_block(
+    l: Layout,
+    y: &[u8],
+    totals: &[u32],
+    counts: &[u16],
+    block: u8,
+    end: u8,
+    size: u8,
+    j: usize,
+    set: &mut [u8],
+    other: &mut [u8],
+)
+    requires { ⌜ Source l (now y) (now totals) (now counts) block j
+        × ((modulus l ≤ length (now set)) × (modulus l ≤ length (now other))) ⌝ }
+    ensures { λ _. ⌜ ((e : ℕ) → e ≤ size → Legible l (length (now (y .entry))) block end j e
+        → Moved (modulus l) (brings l (now (y .entry)) block end j e) (now (set .entry)) (now (set .exit))) ⌝ }
+{
+    add_block(l, y, totals, counts, block, end, size, j, set, other);
+    take_over(l.l1 * l.nc + 1, set, other);
+}
+
+// Makes a set of the residues that the sum of column j can have where the chunks of its heavy blocks are read whole, whatever
+// losses are left in each; heavy block but is left out. The other set is empty before and after.
+fn fill_sums(
+    l: Layout,
+    y: &[u8],
+    totals: &[u32],
+    counts: &[u16],
+    heavy: Heavy,
+    size: [u8; states::MOST_HEAVY],
+    known: &[u16],
+    j: usize,
+    but: usize,
+    set: &mut [u8],
+    other: &mut [u8],
+)
+    requires { ⌜ ((isLegal l ≡ true) × ((heavy .n ≤ 6) × (j < length (now known))))
+        × (((s : ℕ) → s < heavy .n → Source l (now y) (now totals) (now counts) (getD (heavy .block) s 0) j)
+        × ((modulus l ≤ length (now set)) × (modulus l ≤ length (now other)))) ⌝ }
+    ensures { λ _. ⌜ ((left : ℕ → ℕ) → ReadBut l (length (now (y .entry))) heavy size j left but (heavy .n)
+        → In (now (set .exit)) ((getD (now (known .entry)) j 0
+        + firsts (bringsBut l (now (y .entry)) heavy j left but) (heavy .n)) % modulus l)) ⌝ }
+{
+    let n = heavy.n;
+    let m = l.l1 * l.nc + 1;
+    take_over(m, set, other);
+    set[known[j] as usize % m] = 1;
+    let mut s: usize = 0;
+    while s < n {
+        if s != but {
+            take_block(
+                l,
+                y,
+                totals,
+                counts,
+                heavy.block[s],
+                heavy.end[s],
+                size[s],
+                j,
+                set,
+                other,
+            );
+        }
+        s += 1;
+    }
+}
+
+// Whether column j can have its sum where no chunk of a heavy block loses a bit there, whatever losses are left in each.
 fn can_be_whole(
     l: Layout,
     y: &[u8],
@@ -131,36 +200,224 @@ fn can_be_whole(
     set: &mut [u8],
     other: &mut [u8],
 ) -> bool
-    requires { ⌜ Fit l (now y) (now numbers) heavy × (Tables (now y) 0 (now totals) (now counts)
-        × (((l .l2 ≤ length (now known)) × (j < l .l2))
-        × ((modulus l ≤ length (now set)) × (modulus l ≤ length (now other))))) ⌝ }
-    ensures { λ r. ⌜ ((left : ℕ → ℕ) → ((s : ℕ) → s < heavy .n → left s ≤ each size s)
-        → ((s : ℕ) → s < heavy .n → legibleIn l (length (now (y .entry))) heavy j left s)
-        → (getD (now (known .entry)) j 0 + firsts (bringsIn l (now (y .entry)) heavy j left) (heavy .n)) % modulus l
-        ≡ getD (now (numbers .entry)) (l .l1 + j) 0 → r ≡ true) ⌝ }
+    requires { ⌜ Asked l (now y) (now totals) (now counts) (now numbers) heavy (now known) j
+        × ((modulus l ≤ length (now set)) × (modulus l ≤ length (now other))) ⌝ }
+    ensures { λ r. ⌜ Tells l (now (y .entry)) (now (numbers .entry)) heavy size (now (known .entry)) j
+        (λ left next. (s : ℕ) → s < heavy .n → next s ≡ left s) r ⌝ }
+{
+    fill_sums(
+        l,
+        y,
+        totals,
+        counts,
+        heavy,
+        size,
+        known,
+        j,
+        heavy.n,
+        set,
+        other,
+    );
+    set[numbers[l.l1 + j] as usize] != 0
+}
+
+// Whether the chunk of a block in column j, with so many losses left before, can have lost one bit and bring the column to
+// its sum from one of the residues of a set.
+fn repairs(
+    l: Layout,
+    y: &[u8],
+    totals: &[u32],
+    counts: &[u16],
+    block: u8,
+    end: u8,
+    j: usize,
+    left: u8,
+    sum: usize,
+    set: &[u8],
+) -> bool
+    requires { ⌜ Source l (now y) (now totals) (now counts) block j × ((1 ≤ left) × ((sum < modulus l)
+        × (modulus l ≤ length (now set)))) ⌝ }
+    ensures { λ r. ⌜ ((v part : ℕ) → Repairs l (now (y .entry)) block end j left sum (now (set .entry)) v part → r ≡ true) ⌝ }
+{
+    let m = l.l1 * l.nc + 1;
+    let mut part: usize = 0;
+    while part < m {
+        if set[part] != 0 {
+            if whole::can_lose_one(l, y, totals, counts, block, end, j, left, part, sum) {
+                return true;
+            }
+        }
+        part += 1;
+    }
+    false
+}
+
+// The same with any losses left, up to so many.
+fn repairs_some(
+    l: Layout,
+    y: &[u8],
+    totals: &[u32],
+    counts: &[u16],
+    block: u8,
+    end: u8,
+    size: u8,
+    j: usize,
+    sum: usize,
+    set: &[u8],
+) -> bool
+    requires { ⌜ Source l (now y) (now totals) (now counts) block j × ((sum < modulus l)
+        × (modulus l ≤ length (now set))) ⌝ }
+    ensures { λ r. ⌜ ((left v part : ℕ) → 1 ≤ left → left ≤ size
+        → Repairs l (now (y .entry)) block end j left sum (now (set .entry)) v part → r ≡ true) ⌝ }
+{
+    let most = bits::wide(size);
+    let mut left: usize = 1;
+    while left <= most {
+        if repairs(l, y, totals, counts, block, end, j, left as u8, sum, set) {
+            return true;
+        }
+        left += 1;
+    }
+    false
+}
+
+// Whether column j can have its sum where the chunk of heavy block at loses one bit there and no other does, whatever losses are
+// left in each.
+fn can_lose_in(
+    l: Layout,
+    y: &[u8],
+    totals: &[u32],
+    counts: &[u16],
+    numbers: &[u16],
+    heavy: Heavy,
+    size: [u8; states::MOST_HEAVY],
+    known: &[u16],
+    j: usize,
+    at: usize,
+    set: &mut [u8],
+    other: &mut [u8],
+) -> bool
+    requires { ⌜ Asked l (now y) (now totals) (now counts) (now numbers) heavy (now known) j
+        × ((at < heavy .n) × ((modulus l ≤ length (now set)) × (modulus l ≤ length (now other)))) ⌝ }
+    ensures { λ r. ⌜ Tells l (now (y .entry)) (now (numbers .entry)) heavy size (now (known .entry)) j
+        (λ left next. OneLess (heavy .n) left next at) r ⌝ }
+{
+    fill_sums(l, y, totals, counts, heavy, size, known, j, at, set, other);
+    let sum = numbers[l.l1 + j] as usize;
+    repairs_some(
+        l,
+        y,
+        totals,
+        counts,
+        heavy.block[at],
+        heavy.end[at],
+        size[at],
+        j,
+        sum,
+        set,
+    )
+}
+
+// The same with any heavy block.
+fn can_lose_one(
+    l: Layout,
+    y: &[u8],
+    totals: &[u32],
+    counts: &[u16],
+    numbers: &[u16],
+    heavy: Heavy,
+    size: [u8; states::MOST_HEAVY],
+    known: &[u16],
+    j: usize,
+    set: &mut [u8],
+    other: &mut [u8],
+) -> bool
+    requires { ⌜ Asked l (now y) (now totals) (now counts) (now numbers) heavy (now known) j
+        × ((modulus l ≤ length (now set)) × (modulus l ≤ length (now other))) ⌝ }
+    ensures { λ r. ⌜ Tells l (now (y .entry)) (now (numbers .entry)) heavy size (now (known .entry)) j
+        (λ left next. (s : ℕ) × ((s < heavy .n) × OneLess (heavy .n) left next s)) r ⌝ }
 {
     let n = heavy.n;
-    let m = l.l1 * l.nc + 1;
-    take_over(m, set, other);
-    set[known[j] as usize % m] = 1;
     let mut s: usize = 0;
     while s < n {
-        add_block(
+        if can_lose_in(
             l,
             y,
             totals,
             counts,
-            heavy.block[s],
-            heavy.end[s],
-            size[s],
+            numbers,
+            heavy,
+            size,
+            known,
             j,
+            s,
             set,
             other,
-        );
-        take_over(m, set, other);
+        ) {
+            return true;
+        }
         s += 1;
     }
-    set[numbers[l.l1 + j] as usize] != 0
+    false
+}
+
+// The fewest losses that every row under the pattern has in column j: none where the column can be whole, two where it cannot
+// lose just one, if that is asked, and else one.
+fn cost(
+    l: Layout,
+    y: &[u8],
+    totals: &[u32],
+    counts: &[u16],
+    numbers: &[u16],
+    heavy: Heavy,
+    size: [u8; states::MOST_HEAVY],
+    known: &[u16],
+    j: usize,
+    deep: bool,
+    set: &mut [u8],
+    other: &mut [u8],
+) -> usize
+    requires { ⌜ Asked l (now y) (now totals) (now counts) (now numbers) heavy (now known) j
+        × ((modulus l ≤ length (now set)) × (modulus l ≤ length (now other))) ⌝ }
+    ensures { λ r. ⌜ (r ≤ 2) × ((row vs : List ℕ) (left next : ℕ → ℕ) → Light l heavy row (now (known .entry))
+        → ((s : ℕ) → s < heavy .n → left s ≤ each size s)
+        → Crosses l (now (y .entry)) (now (numbers .entry)) heavy row j left next vs
+        → firsts next (heavy .n) + r ≤ firsts left (heavy .n)) ⌝ }
+{
+    if can_be_whole(
+        l,
+        y,
+        totals,
+        counts,
+        numbers,
+        heavy,
+        size,
+        known,
+        j,
+        set,
+        other,
+    ) {
+        return 0;
+    }
+    if !deep {
+        return 1;
+    }
+    if can_lose_one(
+        l,
+        y,
+        totals,
+        counts,
+        numbers,
+        heavy,
+        size,
+        known,
+        j,
+        set,
+        other,
+    ) {
+        return 1;
+    }
+    2
 }
 
 // The losses of n blocks together.
@@ -177,9 +434,54 @@ fn all_losses(n: usize, size: [u8; states::MOST_HEAVY]) -> usize
     all
 }
 
-// Whether the losses of the heavy blocks are enough for the columns in which every row under the pattern loses a bit:
-// those that cannot have their sum without a loss. It looks no further once the columns left are no more than the
-// losses to spare.
+// What the columns cost together; it looks no further once that is above a limit.
+fn columns_cost(
+    l: Layout,
+    y: &[u8],
+    totals: &[u32],
+    counts: &[u16],
+    numbers: &[u16],
+    heavy: Heavy,
+    size: [u8; states::MOST_HEAVY],
+    known: &[u16],
+    limit: usize,
+    deep: bool,
+    set: &mut [u8],
+    other: &mut [u8],
+) -> usize
+    requires { ⌜ Fit l (now y) (now numbers) heavy × (Tables (now y) 0 (now totals) (now counts)
+        × ((l .l2 ≤ length (now known)) × ((modulus l ≤ length (now set)) × (modulus l ≤ length (now other))))) ⌝ }
+    ensures { λ r. ⌜ (r ≤ 510) × ((row vs : List ℕ) (own : ℕ → ℕ → ℕ) → Light l heavy row (now (known .entry))
+        → Path l (now (y .entry)) (now (numbers .entry)) heavy row (each size) vs own → r ≤ firsts (each size) (heavy .n)) ⌝ }
+{
+    let l2 = l.l2;
+    let mut sum: usize = 0;
+    let mut j: usize = 0;
+    while j < l2 {
+        sum += cost(
+            l,
+            y,
+            totals,
+            counts,
+            numbers,
+            heavy,
+            size,
+            known,
+            j,
+            deep,
+            set,
+            other,
+        );
+        if limit < sum {
+            return sum;
+        }
+        j += 1;
+    }
+    sum
+}
+
+// Whether the losses of the heavy blocks are enough for what the columns cost. Most patterns fail already where columns cost no
+// more than one; where these are at most half of the losses, columns of two cannot be too many.
 pub fn enough(
     l: Layout,
     y: &[u8],
@@ -195,31 +497,42 @@ pub fn enough(
     ensures { λ r. ⌜ ((row vs : List ℕ) (own : ℕ → ℕ → ℕ) → Light l heavy row (now (known .entry))
         → Path l (now (y .entry)) (now (numbers .entry)) heavy row (each size) vs own → r ≡ true) ⌝ }
 {
-    let l2 = l.l2;
-    let mut spare = all_losses(heavy.n, size);
+    let all = all_losses(heavy.n, size);
     let mut set: [u8; MOST] = [0; MOST];
     let mut other: [u8; MOST] = [0; MOST];
-    let mut j: usize = 0;
-    while j + spare < l2 {
-        if !can_be_whole(
-            l,
-            y,
-            totals,
-            counts,
-            numbers,
-            heavy,
-            size,
-            known,
-            j,
-            &mut set,
-            &mut other,
-        ) {
-            if spare == 0 {
-                return false;
-            }
-            spare -= 1;
-        }
-        j += 1;
+    let ones = columns_cost(
+        l,
+        y,
+        totals,
+        counts,
+        numbers,
+        heavy,
+        size,
+        known,
+        all,
+        false,
+        &mut set,
+        &mut other,
+    );
+    if all < ones {
+        return false;
     }
-    true
+    if ones * 2 <= all {
+        return true;
+    }
+    columns_cost(
+        l,
+        y,
+        totals,
+        counts,
+        numbers,
+        heavy,
+        size,
+        known,
+        all,
+        true,
+        &mut set,
+        &mut other,
+    )
+        <= all
 }

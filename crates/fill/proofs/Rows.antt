@@ -1,5 +1,5 @@
--- What is known of a consistent row under a state: a line of chunks at most one of which is open has its sum, and its chunk at a
--- cell is one of the contents tried. Rests on the laws of lines, found and cells. Assumes nothing.
+-- What is known of a consistent row under a state: a line of chunks at most one of which is open has its sum, and its
+-- chunk at a cell is one of the contents tried. Rests on the laws of lines, found and cells. Assumes nothing.
 use Prim.Native.Nat.{ℕ, _+_, _*_, _<_}
 use mathlib.Core.Path.{_≡_, refl, sym, ap, _∙_}
 use mathlib.Core.Logic.{_⊎_, inl, inr, ⊎-elim}
@@ -69,7 +69,8 @@ module _ {l : Layout} {numbers y x : List ℕ} (given : Given l numbers y) (s : 
       (block-has given s (decide l y cells row x u z own h refl) (getD (cells .block) z 0) n g e)
 
 -- where a row under the state is the one in hand, each open cell loses just its count there
-pub in-hand-loses : (l : Layout) (y : List ℕ) (cells : Cells) → Placed l (length y) cells → (hand : List ℕ) {row x : List ℕ}
+pub in-hand-loses : (l : Layout) (y : List ℕ) (cells : Cells) → Placed l (length y) cells
+    → (hand : List ℕ) {row x : List ℕ}
     → Under l y cells row x → InHand l hand x → AllLose l y cells hand
 in-hand-loses l y cells p hand u h z o =
     let q = p z o in
@@ -86,7 +87,8 @@ module _ (l : Layout) (y : List ℕ) (cells : Cells) (row : List ℕ) (z v : ℕ
 
 -- among the first contents are those before the last of them, and that one
 pub tried-next : (l : Layout) (y : List ℕ) (cells : Cells) (row : List ℕ) (z : ℕ) (contents : List ℕ) (u : ℕ) {x : List ℕ}
-    → Tried l y cells row z contents (u + 1) x → Tried l y cells row z contents u x ⊎ With l y cells row z (getD contents u 0) x
+    → Tried l y cells row z contents (u + 1) x
+    → Tried l y cells row z contents u x ⊎ With l y cells row z (getD contents u 0) x
 tried-next l y cells row z contents u t =
     let k = t .1 in
     ⊎-elim

@@ -31,6 +31,7 @@ abbrev pub With : (l : Layout) (y : List ℕ) (cells : Cells) (row : List ℕ) (
 With l y cells row z v x = Under l y cells row x × (getD (values l x) (chunkOf l cells z) 0 ≡ v)
 
 -- the row x is under the state, and the number of its chunk at cell z is among the first u contents
-abbrev pub Tried : (l : Layout) (y : List ℕ) (cells : Cells) (row : List ℕ) (z : ℕ) (contents : List ℕ) (u : ℕ) (x : List ℕ)
+abbrev pub Tried : (l : Layout) (y : List ℕ) (cells : Cells) (row : List ℕ) (z : ℕ) (contents : List ℕ) (u : ℕ)
+    (x : List ℕ)
     → Type 0
 Tried l y cells row z contents u x = Under l y cells row x × Among contents 0 u (getD (values l x) (chunkOf l cells z) 0)

@@ -136,7 +136,8 @@ module _ (l : Layout) (y numbers : List ℕ) (heavy : Heavy) (known : List ℕ) 
             rw (getD-set-other marks (at + q) (at + p) m 0 (λ d. e (omega arith)))
             (omega (arith, c .most-of p (omega arith), told .most-more))
 
-        goes-at : (left : ℕ → ℕ) → Within shape left → wide left → stateOf shape left < q + 1 → Dec (stateOf shape left ≡ q)
+        goes-at : (left : ℕ → ℕ) → Within shape left → wide left → stateOf shape left < q + 1
+            → Dec (stateOf shape left ≡ q)
             → Goes l y numbers heavy known shape j entry base left (getD (set marks (at + q) m) (at + stateOf shape
             left) 0)
         goes-at left w u i (yes e) =
@@ -155,9 +156,11 @@ module _ (l : Layout) (y numbers : List ℕ) (heavy : Heavy) (row : List ℕ) (s
   low-number = own-low l y numbers heavy row shape vs own kept path
 
   -- the first marks of one column more
-  pub first-next : (known : List ℕ) → Light l heavy row known → (j : ℕ) (entry marks : List ℕ) (wide : (ℕ → ℕ) → Type 0) → j < l .l2
+  pub first-next : (known : List ℕ) → Light l heavy row known → (j : ℕ) (entry marks : List ℕ) (wide : (ℕ → ℕ) → Type 0)
+      → j < l .l2
       → wide (own j) → Remade (shape .states) (j * shape .states) entry marks
-      → ((left : ℕ → ℕ) → Within shape left → wide left → Goes l y numbers heavy known shape j entry ((j + 1) * shape .states) left
+      → ((left : ℕ → ℕ) → Within shape left → wide left
+      → Goes l y numbers heavy known shape j entry ((j + 1) * shape .states) left
       (getD marks (j * shape .states + stateOf shape left) 0))
       → ((i : ℕ) → j + 1 ≤ i → i ≤ l .l2 → 0 < getD entry (markAt shape i (own i)) 0)
       → (i : ℕ) → j ≤ i → i ≤ l .l2 → 0 < getD marks (markAt shape i (own i)) 0

@@ -7,7 +7,7 @@ use native.Mathlib.Decide.{ℕ-discrete, decLt}
 use native.Mathlib.Omega.{arith}
 use Rattle.states.specs.States.{stride, state}
 use Rattle.states.proofs.States.{lowered, lowered-there, lowered-other, stride-pos, state-same, state-lowered}
-use Rattle.first.specs.First.{OneLess}
+use Rattle.whole.specs.Whole.{OneLess}
 
 -- each of n blocks has at most its size left
 abbrev pub Low : (n : ℕ) (size left : ℕ → ℕ) → Type 0

@@ -9,11 +9,12 @@ use Rattle.states.specs.States.{lefts, each, stateOf}
 use Rattle.states.specs.declared.Shape.{Shape}
 use Rattle.column.specs.Column.{Fit, Light, Crosses}
 use Rattle.column.specs.declared.Heavy.{Heavy}
-use Rattle.whole.specs.Whole.{entryAt, Readings}
+use Rattle.whole.specs.Whole.{OneLess, entryAt, Readings}
 use Rattle.marks.specs.Marks.{Kept}
 
 -- a column as it is read: the heavy blocks of a received row, and what their chunks there bring where they are read whole
-pub record Read (l : Layout) (y totals counts numbers : List ℕ) (heavy : Heavy) (shape : Shape) (readings : List ℕ) (j : ℕ) : Type 0
+pub record Read (l : Layout) (y totals counts numbers : List ℕ) (heavy : Heavy) (shape : Shape) (readings : List ℕ)
+    (j : ℕ) : Type 0
   where
     pub fit : Fit l y numbers heavy
     pub tables : Tables y 0 totals counts
@@ -29,10 +30,6 @@ abbrev pub Goes : Layout → (y numbers : List ℕ) → Heavy → (known : List 
 Goes l y numbers heavy known shape j marks base left mark =
     (row vs : List ℕ) (next : ℕ → ℕ) → Light l heavy row known → Crosses l y numbers heavy row j left next vs
     → 0 < getD marks (base + stateOf shape next) 0 → 0 < mark
-
--- a state with one loss less in block s, of n blocks
-abbrev pub OneLess : (n : ℕ) (left next : ℕ → ℕ) (s : ℕ) → Type 0
-OneLess n left next s = (next s + 1 ≡ left s) × ((t : ℕ) → t < n → (t ≡ s → ⊥) → next t ≡ left t)
 
 -- the mark of the state left, number q: it is marked if its level is high, and, unless that is zero, if a row crosses
 -- column j from it with no loss or with one to a marked state

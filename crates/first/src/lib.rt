@@ -12,11 +12,11 @@ ghost use Rattle.bits.specs.Bits.{longest};
 ghost use Rattle.windows.specs.Windows.{Tables};
 ghost use Rattle.states.specs.States.{lefts, each, stateOf};
 ghost use Rattle.column.specs.Column.{Fit, Light, Crosses};
-ghost use Rattle.whole.specs.Whole.{modulus, entryAt, Readings, readSum};
+ghost use Rattle.whole.specs.Whole.{modulus, OneLess, entryAt, Readings, readSum};
 ghost use Rattle.marks.specs.Marks.{Path, Through, Kept, Remade};
 ghost use Rattle.marks.specs.Digits.{Within, entryOf, Digits};
 ghost use Rattle.near.specs.Near.{Sized, most};
-ghost use Rattle.first.specs.First.{Read, Goes, OneLess, FirstMark};
+ghost use Rattle.first.specs.First.{Read, Goes, FirstMark};
 
 // The entries of a table of readings: thirteen for each of six blocks.
 const READINGS: usize = 78;

@@ -1,5 +1,5 @@
--- How the steps of a search join: what the list slice holds after a step, two steps one after another, a step that adds nothing
--- or one row, and the whole search; and what is known of a consistent row. Assumes nothing.
+-- How the steps of a search join: what the list slice holds after a step, two steps one after another, a step that adds
+-- nothing or one row, and the whole search; and what is known of a consistent row. Assumes nothing.
 use Prim.Native.Nat.{ℕ, _+_, _-_, _*_, _<_, _≤_}
 use mathlib.Core.Path.{_≡_, sym, ap, _∙_, subst}
 use mathlib.Core.Bool.{Bool, true, false}
@@ -154,7 +154,9 @@ pub grown-all : {l : Layout} {numbers y : List ℕ} {cap : ℕ} {entry exit : Li
     → cap * bytesFor (rowBits l) ≤ length entry → Grown l numbers y cap (λ x. Unit) entry 0 false exit d o
     → Listed l numbers y cap entry exit d o
 grown-all {l} {numbers} {y} {cap} {entry} {exit} {d} {o} room g =
-    let v = written-listed cap n f entry exit d o (subst (λ (s : Held). Written (bytesFor n) (packed s) entry exit d o) same (g .written)) in
+    let v =
+    written-listed cap n f entry exit d o
+    (subst (λ (s : Held). Written (bytesFor n) (packed s) entry exit d o) same (g .written)) in
     record { slice = v .slice; count = v .count; more = v .more }
   where
     n : ℕ
@@ -200,7 +202,8 @@ pub record Parts (l : Layout) (numbers y x : List ℕ) : Type 0 where
 module _ (l : Layout) (numbers y x : List ℕ) where
   candidate-comes : candidate l numbers y x ≡ true → comesFrom x (length x - length y) y ≡ true
   unfolding candidate
-  candidate-comes e = both-left (comesFrom x (length x - length y) y) (same (blockSums l x ++ stringSums l x ++ checks l x) numbers) e
+  candidate-comes e =
+      both-left (comesFrom x (length x - length y) y) (same (blockSums l x ++ stringSums l x ++ checks l x) numbers) e
 
   candidate-numbers : candidate l numbers y x ≡ true → blockSums l x ++ stringSums l x ++ checks l x ≡ numbers
   unfolding candidate

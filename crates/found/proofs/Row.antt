@@ -1,4 +1,5 @@
--- The row in hand on its way to the list slice: its chunks spread to bits, the bits packed, the bytes inserted. Assumes nothing.
+-- The row in hand on its way to the list slice: its chunks spread to bits, the bits packed, the bytes inserted. Assumes
+-- nothing.
 use Prim.Native.Nat.{ℕ, _+_, _-_, _*_, _≤_}
 use mathlib.Core.Path.{_≡_, sym, ap, _∙_, subst}
 use mathlib.Core.Bool.{Bool, false, false≢true}

@@ -29,16 +29,18 @@ pub record Given (l : Layout) (numbers y : List ℕ) : Type 0 where
 abbrev pub Sent : (l : Layout) (numbers y x : List ℕ) → Type 0
 Sent l numbers y x = Row (rowBits l) x × (candidate l numbers y x ≡ true)
 
--- the list slice holds c rows, packed from its start: consistent ones in order, at most cap, and exactly cap where more were found
+-- the list slice holds c rows, packed from its start: consistent ones in order, at most cap, and exactly cap where more
+-- were found
 pub record Holding (l : Layout) (numbers y : List ℕ) (cap : ℕ) (list : List ℕ) (c : ℕ) (m : Bool) : Type 0 where
   pub well : WellHeld cap (rowBits l) (candidate l numbers y) (rowsIn (rowBits l) list c m)
   pub is-packed : heldIn (bytesFor (rowBits l)) list c m ≡ packed (rowsIn (rowBits l) list c m)
   pub room : cap * bytesFor (rowBits l) ≤ length list
 
--- the one shape of what a step of the search does to the list slice: it adds consistent rows, the bytes beyond the rows held stay
--- as at entry, and afterwards every consistent row under its state is known: it is held, or more were found than fit and it
--- comes after all that are held
-pub record Grown (l : Layout) (numbers y : List ℕ) (cap : ℕ) (under : List ℕ → Type 0) (entry : List ℕ) (c : ℕ) (m : Bool) (exit : List ℕ) (d : ℕ) (o : Bool) : Type 0 where
+-- the one shape of what a step of the search does to the list slice: it adds consistent rows, the bytes beyond the rows
+-- held stay as at entry, and afterwards every consistent row under its state is known: it is held, or more were found
+-- than fit and it comes after all that are held
+pub record Grown (l : Layout) (numbers y : List ℕ) (cap : ℕ) (under : List ℕ → Type 0) (entry : List ℕ) (c : ℕ)
+    (m : Bool) (exit : List ℕ) (d : ℕ) (o : Bool) : Type 0 where
   pub found : List (List ℕ)
   pub each : (x : List ℕ) → Mem x found → Sent l numbers y x
   pub written : Written (bytesFor (rowBits l)) (packed (add cap (rowsIn (rowBits l) entry c m) found)) entry exit d o
@@ -52,8 +54,8 @@ InHand l row x = (c : ℕ) → c < l .l1 * l .l2 → getD (values l x) c 0 ≡ g
 abbrev pub allSent : (l : Layout) (numbers y : List ℕ) → List (List ℕ)
 allSent l numbers y = keep (candidate l numbers y) (allRows (rowBits l))
 
--- what a whole search leaves: the first cap of all consistent rows, packed from the start of the slice, their number, and whether
--- there are more
+-- what a whole search leaves: the first cap of all consistent rows, packed from the start of the slice, their number,
+-- and whether there are more
 pub record Listed (l : Layout) (numbers y : List ℕ) (cap : ℕ) (entry exit : List ℕ) (d : ℕ) (o : Bool) : Type 0 where
   pub slice : exit ≡ flat (map pack (take cap (allSent l numbers y))) ++ drop (d * bytesFor (rowBits l)) entry
   pub count : d ≡ length (take cap (allSent l numbers y))

@@ -60,5 +60,6 @@ module _ (l : Layout) (y numbers : List ℕ) (heavy : Heavy) (known z : List ℕ
   remaking-next kept digits d fresh more p s r =
       record {
         gained = λ own w m.
-            gained-next l y numbers heavy known z j ahead kept d marks base p at fresh more marks s own w m (r .gained own w m);
+            gained-next l y numbers heavy known z j ahead kept d marks base p at fresh more marks s own w m
+            (r .gained own w m);
       }

@@ -24,7 +24,8 @@ module _ (columns : ℕ) (shape : Shape) (digits after : List ℕ) (room j : ℕ
   pub record Flooring (floors : List ℕ) (q : ℕ) : Type 0 where
     pub long : length floors ≡ mostStates
     pub low : (p : ℕ) → p < mostStates → getD floors p 0 < many
-    pub under : (p : ℕ) → p < q → (n : ℕ) → room ≤ n + mostAfter columns after (entryOf digits p) j (shape .n) → getD floors p 0 ≤ n
+    pub under : (p : ℕ) → p < q → (n : ℕ) → room ≤ n + mostAfter columns after (entryOf digits p) j (shape .n)
+        → getD floors p 0 ≤ n
 
   pub flooring-starts : Flooring (replicate mostStates 0) 0
   flooring-starts =
@@ -48,13 +49,15 @@ module _ (columns : ℕ) (shape : Shape) (digits after : List ℕ) (room j : ℕ
       low-at p k (yes e) = rw (e, same) low
       low-at p k (no e) = rw (getD-set-other floors q p v 0 e) (f .low p k)
 
-      under-at : (p : ℕ) → p < q + 1 → (n : ℕ) → room ≤ n + mostAfter columns after (entryOf digits p) j (shape .n) → Dec (p ≡ q)
+      under-at : (p : ℕ) → p < q + 1 → (n : ℕ) → room ≤ n + mostAfter columns after (entryOf digits p) j (shape .n)
+          → Dec (p ≡ q)
           → getD (set floors q v) p 0 ≤ n
       under-at p k n far (yes e) = rw (e, same) (here n (rw e at far))
       under-at p k n far (no e) = rw (getD-set-other floors q p v 0 e) (f .under p (omega arith) n far)
 
   -- all states
-  pub flooring-all : Digits shape digits → shape .states ≡ stride (each (shape .size)) (shape .n) → (floors : List ℕ) (q : ℕ)
+  pub flooring-all : Digits shape digits → shape .states ≡ stride (each (shape .size)) (shape .n)
+      → (floors : List ℕ) (q : ℕ)
       → shape .states ≤ q → Flooring floors q → Floors columns shape after room j floors
   flooring-all d all floors q h f =
       record {

@@ -33,11 +33,13 @@ module _ (l : Layout) (y numbers : List ℕ) (heavy : Heavy) (row : List ℕ) (s
   low-number = own-low l y numbers heavy row shape vs own kept path
 
   -- one column more is passed: column c, by column b, where the row counts no less than the floor of its state
-  pub passing-next : (known z : List ℕ) (j : ℕ) (ahead : Bool) (c b : ℕ) (entry marks floors : List ℕ) (f : ℕ → ℕ) (done done'
+  pub passing-next : (known z : List ℕ) (j : ℕ) (ahead : Bool) (c b : ℕ) (entry marks floors : List ℕ) (f : ℕ → ℕ)
+      (done done'
       : ℕ → Type 0)
       → c ≤ l .l2 → b ≤ l .l2 → Remade (shape .states) (c * shape .states) entry marks
       → ((left : ℕ → ℕ) → Within shape left → 0 < getD entry (c * shape .states + stateOf shape left) 0
-      → Regained l y numbers heavy known z shape j ahead entry (b * shape .states) (getD floors (stateOf shape left) 0) left
+      → Regained l y numbers heavy known z shape j ahead entry (b * shape .states) (getD floors (stateOf shape left) 0)
+      left
       (getD marks (c * shape .states + stateOf shape left) 0))
       → Joined l y numbers heavy known j ahead (own c) (own b) vs
       → f c ≤ f b + apartIn l heavy z vs j (heavy .n)
@@ -96,7 +98,8 @@ split-down j i h = go (ℕ-discrete i j)
     go (no e) = inr (omega arith)
 
 -- ---- passes
-module _ (l : Layout) (y numbers : List ℕ) (heavy : Heavy) (known z : List ℕ) (shape : Shape) (room : ℕ) (f : List ℕ → ℕ → ℕ) (entry
+module _ (l : Layout) (y numbers : List ℕ) (heavy : Heavy) (known z : List ℕ) (shape : Shape) (room : ℕ)
+    (f : List ℕ → ℕ → ℕ) (entry
     marks : List ℕ) (pass : Pass l y numbers heavy known z shape room f entry marks) where
   -- one pass after another
   pub pass-then : (g : List ℕ → ℕ → ℕ) (exit : List ℕ) → Pass l y numbers heavy known z shape 0 g marks exit

@@ -70,7 +70,8 @@ module _ (l : Layout) (y numbers : List ℕ) (heavy : Heavy) (known z : List ℕ
             (stateOf shape own) 0)
         go (yes e) =
             λ vs n k c.
-            gains-same own own (entryOf table p) other (getD marks (base + p) 0) (getD exit (stateOf shape own) 0) (λ t a. refl)
+            gains-same own own (entryOf table p) other (getD marks (base + p) 0) (getD exit (stateOf shape own) 0)
+            (λ t a. refl)
             (entry-is kept digits other w' p e)
             (spread .gains own w (λ a. omega (arith, number-up kept other own (k .back a .falls))) m)
             vs n k (rw e at c)

@@ -39,8 +39,10 @@ Gains l y numbers heavy known z j ahead own other there mark =
     (vs : List ℕ) (m : ℕ) → Joined l y numbers heavy known j ahead own other vs → Covers there m
     → Covers mark (m + apartIn l heavy z vs j (heavy .n))
 
--- fresh marks are raised by the mark of the state other after the column: those of the marked states low to high - 1 of a column
-pub record Spread (l : Layout) (y numbers : List ℕ) (heavy : Heavy) (known z digits : List ℕ) (j : ℕ) (other : ℕ → ℕ) (there : ℕ)
+-- fresh marks are raised by the mark of the state other after the column: those of the marked states low to high - 1 of
+-- a column
+pub record Spread (l : Layout) (y numbers : List ℕ) (heavy : Heavy) (known z digits : List ℕ) (j : ℕ) (other : ℕ → ℕ)
+    (there : ℕ)
     (marks : List ℕ) (at low high : ℕ) (entry exit : List ℕ) : Type 0 where
   pub long : length exit ≡ length entry
   pub grows : (q : ℕ) → getD entry q 0 ≤ getD exit q 0
@@ -49,11 +51,13 @@ pub record Spread (l : Layout) (y numbers : List ℕ) (heavy : Heavy) (known z d
 
 -- fresh marks are raised by the mark of the state with number p: those of all marked states of a column that a row can
 -- join with it
-pub record SpreadBy (l : Layout) (y numbers : List ℕ) (heavy : Heavy) (known z digits : List ℕ) (shape : Shape) (j : ℕ) (ahead : Bool)
+pub record SpreadBy (l : Layout) (y numbers : List ℕ) (heavy : Heavy) (known z digits : List ℕ) (shape : Shape) (j : ℕ)
+    (ahead : Bool)
     (p there : ℕ) (marks : List ℕ) (at : ℕ) (entry exit : List ℕ) : Type 0 where
   pub long : length exit ≡ length entry
   pub grows : (q : ℕ) → getD entry q 0 ≤ getD exit q 0
-  pub gains : (own : ℕ → ℕ) → Within shape own → (ahead ≡ false → p ≤ stateOf shape own) → 0 < getD marks (at + stateOf shape own) 0
+  pub gains : (own : ℕ → ℕ) → Within shape own → (ahead ≡ false → p ≤ stateOf shape own)
+      → 0 < getD marks (at + stateOf shape own) 0
       → Gains l y numbers heavy known z j ahead own (entryOf digits p) there (getD exit (stateOf shape own) 0)
 
 -- the mark of the state own gains by the marks of the other states below number p, which stand at base
@@ -64,18 +68,20 @@ Gained l y numbers heavy known z shape j ahead marks base p own mark =
     (other : ℕ → ℕ) → Within shape other → stateOf shape other < p
     → Gains l y numbers heavy known z j ahead own other (getD marks (base + stateOf shape other) 0) mark
 
--- the mark of the state own covers what each mark of the other states, which stand at base, covers and the chunks of column j that are
--- others than in z, where these are floor together at least
-abbrev pub Regained : Layout → (y numbers : List ℕ) → Heavy → (known z : List ℕ) → Shape → (j : ℕ) (ahead : Bool) (marks : List ℕ)
+-- the mark of the state own covers what each mark of the other states, which stand at base, covers and the chunks of
+-- column j that are others than in z, where these are floor together at least
+abbrev pub Regained : Layout → (y numbers : List ℕ) → Heavy → (known z : List ℕ) → Shape
+    → (j : ℕ) (ahead : Bool) (marks : List ℕ)
     (base floor : ℕ) (own : ℕ → ℕ) (mark : ℕ) → Type 0
 Regained l y numbers heavy known z shape j ahead marks base floor own mark =
     (other : ℕ → ℕ) → Within shape other → (vs : List ℕ) (m : ℕ) → Joined l y numbers heavy known j ahead own other vs
     → Covers (getD marks (base + stateOf shape other) 0) m → floor ≤ m + apartIn l heavy z vs j (heavy .n)
     → Covers mark (m + apartIn l heavy z vs j (heavy .n))
 
--- a pass over the marks: every row that they let through at entry and that differs from z in room chunks of the heavy blocks they let
--- through at exit, and cover the number f of it
-pub record Pass (l : Layout) (y numbers : List ℕ) (heavy : Heavy) (known z : List ℕ) (shape : Shape) (room : ℕ) (f : List ℕ → ℕ → ℕ)
+-- a pass over the marks: every row that they let through at entry and that differs from z in room chunks of the heavy
+-- blocks they let through at exit, and cover the number f of it
+pub record Pass (l : Layout) (y numbers : List ℕ) (heavy : Heavy) (known z : List ℕ) (shape : Shape) (room : ℕ)
+    (f : List ℕ → ℕ → ℕ)
     (entry exit : List ℕ) : Type 0 where
   pub long : length exit ≡ length entry
   pub through : (row vs : List ℕ) (own : ℕ → ℕ → ℕ) → Light l heavy row known

@@ -33,7 +33,8 @@ module _ {heavy : Heavy} {shape : Shape} (kept : Kept heavy shape) where
   entry-is {table} d own w q e s h = rw (← e) (sym (d .entry own w s (omega (arith, kept .blocks))))
 
 -- no block has more left in a state than it has at most
-pub entry-low : {shape : Shape} {table : List ℕ} → shape .states ≡ stride (each (shape .size)) (shape .n) → Digits shape table
+pub entry-low : {shape : Shape} {table : List ℕ} → shape .states ≡ stride (each (shape .size)) (shape .n)
+    → Digits shape table
     → (q : ℕ) → q < shape .states → (s : ℕ) → s < shape .n → entryOf table q s ≤ each (shape .size) s
 entry-low {shape} all d q low s h =
     let size = each (shape .size) in

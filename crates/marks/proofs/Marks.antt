@@ -19,7 +19,8 @@ pub covers-less : (a m n : ℕ) → n ≤ m → Covers a m → Covers a n
 covers-less a m n h c = (c .0, ⊎-elim (λ u. inl (omega arith)) (λ u. inr u) (c .1))
 
 -- and as much from its floor on if it is kept where it is above the floor
-pub covers-kept : (fresh floor mark n : ℕ) → floor < many → (floor < fresh → mark ≡ fresh) → floor ≤ n → Covers fresh n → Covers mark n
+pub covers-kept : (fresh floor mark n : ℕ) → floor < many → (floor < fresh → mark ≡ fresh) → floor ≤ n → Covers fresh n
+    → Covers mark n
 covers-kept fresh floor mark n low kept h c =
     let is = kept (⊎-elim (λ u. omega arith) (λ u. omega arith) (c .1)) in
     rw is c

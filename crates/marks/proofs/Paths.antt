@@ -81,7 +81,8 @@ apart-next l heavy z vs j h =
     omega (arith, before-next l heavy z vs j, rw e at (before-up l heavy z vs (j + 1) (l .l2 - (j + 1))))
 
 -- a row never has more left than at first
-pub path-most : {l : Layout} {y numbers : List ℕ} {heavy : Heavy} {row : List ℕ} {size : ℕ → ℕ} {vs : List ℕ} {own : ℕ → ℕ → ℕ}
+pub path-most : {l : Layout} {y numbers : List ℕ} {heavy : Heavy} {row : List ℕ} {size : ℕ → ℕ} {vs : List ℕ}
+    {own : ℕ → ℕ → ℕ}
     → Path l y numbers heavy row size vs own → (j s : ℕ) → j ≤ l .l2 → s < heavy .n → own j s ≤ size s
 path-most path zero s h k = omega (arith, path .starts s k)
 path-most path (suc j) s h k =

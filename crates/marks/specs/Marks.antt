@@ -1,5 +1,5 @@
--- Marks of loss states: for each column and each loss state of the heavy blocks whether a row can come through it, and in how many chunks
--- such a row can differ from another one.
+-- Marks of loss states: for each column and each loss state of the heavy blocks whether a row can come through it, and
+-- in how many chunks such a row can differ from another one.
 use Prim.Native.Nat.{ℕ, zero, suc, _+_, _-_, _*_, _<_, _≤_}
 use mathlib.Core.Path.{_≡_}
 use mathlib.Core.Logic.{_⊎_}
@@ -19,12 +19,13 @@ many = 40
 abbrev pub Covers : (mark n : ℕ) → Type 0
 Covers mark n = (0 < mark) × ((n < mark) ⊎ (many ≤ mark))
 
--- where the mark of a loss state in column j stands; the marks of all columns stand one after another, and those after the last
+-- where the mark of a loss state in column j stands; the marks of all columns stand one after another, and those after
+-- the last
 abbrev pub markAt : Shape → (j : ℕ) (left : ℕ → ℕ) → ℕ
 markAt shape j left = j * shape .states + stateOf shape left
 
--- the loss states own that a row with the chunks vs comes through: at the start of column j heavy block s has own j s losses left, at
--- first all, in the end none
+-- the loss states own that a row with the chunks vs comes through: at the start of column j heavy block s has own j s
+-- losses left, at first all, in the end none
 pub record Path (l : Layout) (y numbers : List ℕ) (heavy : Heavy) (row : List ℕ) (size : ℕ → ℕ) (vs : List ℕ)
     (own : ℕ → ℕ → ℕ) : Type 0 where
   pub starts : (s : ℕ) → s < heavy .n → own 0 s ≡ size s

@@ -172,7 +172,12 @@ module _ (l : Layout) (y numbers : List ℕ) (heavy : Heavy) (row : List ℕ) (s
     pub after-covers : apartFrom l heavy z vs j ≤ mostAfter (l .l2) after (own j) j (shape .n)
     after-covers =
         let e : shape .n ≡ heavy .n = kept .blocks in
-        rw e (omega (arith, after-blocks (heavy .n) (omega arith), by-blocks l heavy z vs (l .l2), by-blocks l heavy z vs j))
+        rw e (omega (
+          arith,
+          after-blocks (heavy .n) (omega arith),
+          by-blocks l heavy z vs (l .l2),
+          by-blocks l heavy z vs j,
+        ))
 
 -- the table of a block ends before that of the last
 pub next-block : (columns s n : ℕ) → s < n → blockAt columns (s + 1) ≤ blockAt columns n

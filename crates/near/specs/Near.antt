@@ -10,8 +10,8 @@ use Rattle.states.specs.declared.Shape.{Shape}
 use Rattle.column.specs.declared.Heavy.{Heavy}
 use Rattle.far.specs.Far.{Covered, stepAt, blockAt}
 
--- a table of what rows count in each heavy block: ahead, in the columns before each, by the losses used; otherwise from each on, by the
--- losses left
+-- a table of what rows count in each heavy block: ahead, in the columns before each, by the losses used; otherwise from
+-- each on, by the losses left
 abbrev pub CountedIn : Layout → (y : List ℕ) → Heavy → (z size : List ℕ) (ahead : Bool) (table : List ℕ) → Type 0
 CountedIn l y heavy z size ahead table =
     (s : ℕ) → s < heavy .n → Covered l y heavy z s (each size s) ahead (blockAt (l .l2) s) (l .l2) table

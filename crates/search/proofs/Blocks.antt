@@ -1,5 +1,5 @@
--- One block tried with a count: which block it is where it loses none or one of its bits, and when none can lose so many. Assumes
--- nothing.
+-- One block tried with a count: which block it is where it loses none or one of its bits, and when none can lose so
+-- many. Assumes nothing.
 use Prim.Native.Nat.{ℕ, _+_, _-_, _*_, _<_, _≤_}
 use mathlib.Core.Path.{_≡_, refl, sym, ap, _∙_}
 use mathlib.Core.Bool.{true, false, false≢true}
@@ -72,7 +72,12 @@ module _ (l : Layout) (s i a : ℕ) (rest entry : List ℕ) where
   -- no block loses so many bits
   tried-not : ((b : List ℕ) → Loses l s a rest b → ⊥) → Tried l s i a rest entry entry false
   tried-not n =
-      record { stays = refl; within = λ e. absurd (false≢true e); can = λ b q. absurd (n b q); light = λ b q. absurd (n b q) }
+      record {
+        stays = refl;
+        within = λ e. absurd (false≢true e);
+        can = λ b q. absurd (n b q);
+        light = λ b q. absurd (n b q);
+      }
 
   -- whatever block it is, it is p, which is put in its place
   tried-put : (p exit : List ℕ) → a ≤ blockBits l → blockBits l - a ≤ length rest → i * l .l2 + l .l2 ≤ length entry
@@ -109,7 +114,8 @@ module _ (l : Layout) (s i : ℕ) (rest entry : List ℕ) where
           sum-has (blockBits l) s rest n (rw (← q .size, ← whole b rest (q .own)) (q .has-sum))
 
   pub whole-put : (exit : List ℕ) → hasSum (blockBits l) s rest ≡ true → i * l .l2 + l .l2 ≤ length entry
-      → exit ≡ take (i * l .l2) entry ++ fields (l .l2) (l .nc) (take (blockBits l) rest) ++ drop (i * l .l2 + l .l2) entry
+      → exit ≡ take (i * l .l2) entry ++ fields (l .l2) (l .nc) (take (blockBits l) rest)
+      ++ drop (i * l .l2 + l .l2) entry
       → Tried l s i 0 rest entry exit true
   whole-put exit e h f =
       let n = sum-within (blockBits l) s rest e in
@@ -138,7 +144,8 @@ pub record MendedNext (nb s : ℕ) (rest : List ℕ) : Type 0 where
   pub bits : AllBits (mended nb s (take (nb - 1) rest))
   pub size : length (mended nb s (take (nb - 1) rest)) ≡ nb
 
-pub mended-next : (nb s : ℕ) (rest : List ℕ) → 1 ≤ nb → nb - 1 ≤ length rest → AllBits rest → s ≤ nb → MendedNext nb s rest
+pub mended-next : (nb s : ℕ) (rest : List ℕ) → 1 ≤ nb → nb - 1 ≤ length rest → AllBits rest → s ≤ nb
+    → MendedNext nb s rest
 mended-next nb s rest low enough a small =
     let n : length (take (nb - 1) rest) + 1 ≡ nb = omega (arith, length-take-le (nb - 1) rest enough) in
     let m = mended-mends nb s (take (nb - 1) rest) (bits-take (nb - 1) rest a) n small in
@@ -146,6 +153,8 @@ mended-next nb s rest low enough a small =
 
 -- at the start of a slice
 pub starts-mended : (nb s : ℕ) (rest : List ℕ) → MendedNext nb s rest → (q t : List ℕ)
-    → q ≡ mended (length (take (nb - 1) rest) + 1) s (take (nb - 1) rest) ++ t → take nb q ≡ mended nb s (take (nb - 1) rest)
+    → q ≡ mended (length (take (nb - 1) rest) + 1) s (take (nb - 1) rest) ++ t
+    → take nb q ≡ mended nb s (take (nb - 1) rest)
 starts-mended nb s rest m q t e =
-    ap (take nb) (e ∙ ap (λ (w : ℕ). mended w s (take (nb - 1) rest) ++ t) (m .short)) ∙ take-at (mended nb s (take (nb - 1) rest)) t nb (m .size)
+    ap (take nb) (e ∙ ap (λ (w : ℕ). mended w s (take (nb - 1) rest) ++ t) (m .short))
+    ∙ take-at (mended nb s (take (nb - 1) rest)) t nb (m .size)

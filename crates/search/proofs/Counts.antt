@@ -1,5 +1,6 @@
--- The rows under the first counts of a loss pattern, and the loop that tries the counts of the next block. Rests on the laws of steps
--- (found), on those of a row's own losses, and on those of the tables of a string (windows). Assumes nothing.
+-- The rows under the first counts of a loss pattern, and the loop that tries the counts of the next block. Rests on the
+-- laws of steps (found), on those of a row's own losses, and on those of the tables of a string (windows). Assumes
+-- nothing.
 use Prim.Native.Nat.{ℕ, _+_, _-_, _*_, _<_, _≤_}
 use mathlib.Core.Path.{_≡_, refl, sym, ap, _∙_}
 use mathlib.Core.Bool.{Bool, false, false≢true}
@@ -30,17 +31,20 @@ first-at : (n i b j : ℕ) (row after : List ℕ) → take (i * n) after ≡ tak
     → getD after (b * n + j) 0 ≡ getD row (b * n + j) 0
 first-at n i b j row after e h k =
     let r : b * n + j < i * n = omega (arith, field-room i n b h) in
-    sym (getD-take (i * n) after (b * n + j) 0 r) ∙ ap (λ (t : List ℕ). getD t (b * n + j) 0) e ∙ getD-take (i * n) row (b * n + j) 0 r
+    sym (getD-take (i * n) after (b * n + j) 0 r) ∙ ap (λ (t : List ℕ). getD t (b * n + j) 0) e
+    ∙ getD-take (i * n) row (b * n + j) 0 r
 
 -- and those before the last of them do
-stay-less : (n i j : ℕ) (row after : List ℕ) → j ≡ i + 1 → take (j * n) after ≡ take (j * n) row → take (i * n) after ≡ take (i * n) row
+stay-less : (n i j : ℕ) (row after : List ℕ) → j ≡ i + 1 → take (j * n) after ≡ take (j * n) row
+    → take (i * n) after ≡ take (i * n) row
 stay-less n i j row after h e =
     let k : i * n ≤ j * n = mul-le-mul-right n (omega arith) in
     sym (take-take (i * n) (j * n) after k) ∙ ap (take (i * n)) e ∙ take-take (i * n) (j * n) row k
 
 -- ---- rows under the first counts
 -- only the first blocks of the row in hand matter
-under-row : {l : Layout} {y counts : List ℕ} {i : ℕ} {row x : List ℕ} (after : List ℕ) → take (i * l .l2) after ≡ take (i * l .l2) row
+under-row : {l : Layout} {y counts : List ℕ} {i : ℕ} {row x : List ℕ} (after : List ℕ)
+    → take (i * l .l2) after ≡ take (i * l .l2) row
     → Under l y counts i row x → Under l y counts i after x
 under-row {l} {y} {counts} {i} {row} {x} after e u =
     record { own = u .own; light = λ b j h k c. u .light b j h k c ∙ sym (first-at (l .l2) i b j row after e h k) }
@@ -51,7 +55,8 @@ unfolding losses inAll
 under-start l y counts row x i e =
     record { own = λ b h. let z : b ≡ 0 = omega arith in rw (z, zero-mul) refl; light = λ b j h. absurd (omega arith) }
 
-pub begun-start : {l : Layout} {numbers y : List ℕ} → Given l numbers y → (counts row : List ℕ) → length row ≡ 255 → (i : ℕ) → i ≡ 0
+pub begun-start : {l : Layout} {numbers y : List ℕ} → Given l numbers y → (counts row : List ℕ) → length row ≡ 255
+    → (i : ℕ) → i ≡ 0
     → Begun l y y counts row i 0
 unfolding inAll
 begun-start {l} {numbers} {y} given counts row n i e =
@@ -78,8 +83,8 @@ pub record Next (l : Layout) (numbers y counts : List ℕ) (i total : ℕ) : Typ
 abbrev Fewer : Layout → (y counts : List ℕ) (i total : ℕ) (row : List ℕ) (a : ℕ) → List ℕ → Type 0
 Fewer l y counts i total row a x = Under l y counts i row x × (lostIn l y i total x < a)
 
--- what holds when the counts below a are tried: the first blocks stay in the row in hand, and the rows whose block i loses fewer
--- than a bits are known
+-- what holds when the counts below a are tried: the first blocks stay in the row in hand, and the rows whose block i
+-- loses fewer than a bits are known
 pub record Tries (l : Layout) (numbers y : List ℕ) (cap : ℕ) (counts : List ℕ) (i total : ℕ)
     (row₀ list₀ : List ℕ) (c : ℕ) (m : Bool) (row list : List ℕ) (d : ℕ) (o : Bool) (a : ℕ) : Type 0 where
   pub places : length row ≡ length row₀
@@ -103,7 +108,8 @@ module _ {l : Layout} {numbers y counts : List ℕ} {i total : ℕ} (n : Next l 
   place-next a h low = let f = end-next in omega arith
 
   -- where the search stands then
-  pub begun-next : {rest row : List ℕ} → Begun l y rest counts row i total → (a : ℕ) → total + a + length y ≤ rowBits l → a ≤ blockBits l
+  pub begun-next : {rest row : List ℕ} → Begun l y rest counts row i total → (a : ℕ) → total + a + length y ≤ rowBits l
+      → a ≤ blockBits l
       → (after : List ℕ) → length after ≡ length row → (j : ℕ) → j ≡ i + 1
       → Begun l y (drop (blockBits l - a) rest) (set counts i a) after j (total + a)
   begun-next b a most low after k j e =
@@ -122,7 +128,8 @@ module _ {l : Layout} {numbers y counts : List ℕ} {i total : ℕ} (n : Next l 
   -- and the tables of the rest
   pub tabled-next : {rest row ts cs : List ℕ} → Begun l y rest counts row i total → (a : ℕ) → a ≤ blockBits l
       → blockBits l - a ≤ length rest → Tabled rest (i * blockBits l - total) ts cs → (j : ℕ) → j ≡ i + 1
-      → Tabled (drop (blockBits l - a) rest) (j * blockBits l - (total + a)) (drop (blockBits l - a) ts) (drop (blockBits l - a) cs)
+      → Tabled (drop (blockBits l - a) rest) (j * blockBits l - (total + a)) (drop (blockBits l - a) ts)
+      (drop (blockBits l - a) cs)
   tabled-next {rest} {row} {ts} {cs} b a low h t j e =
       let d : ℕ = blockBits l - a in
       rw (e, ← place-next a (b .before) low)
@@ -177,10 +184,12 @@ module _ {l : Layout} {numbers y counts : List ℕ} {i total : ℕ} (n : Next l 
         → Tries l numbers y cap counts i total row₀ list₀ c m row list d o a
         → Grown l numbers y cap (Under l y counts i row₀) list₀ c m list d o
     tries-all a k g =
-        grown-weaken (λ x s u. (u, omega (arith, lost-most (n .given) x s i total (n .inside) (lost-before x s u)))) (g .known)
+        grown-weaken (λ x s u. (u, omega (arith, lost-most (n .given) x s i total (n .inside) (lost-before x s u))))
+        (g .known)
 
     -- a turn of the loop over a
-    module _ {row list : List ℕ} {d : ℕ} {o : Bool} (a : ℕ) (g : Tries l numbers y cap counts i total row₀ list₀ c m row list d o a)
+    module _ {row list : List ℕ} {d : ℕ} {o : Bool} (a : ℕ)
+        (g : Tries l numbers y cap counts i total row₀ list₀ c m row list d o a)
         {rest exit : List ℕ} {ok : Bool} (t : Tried l (getD numbers i 0) i a rest row exit ok)
         (reads : rest ≡ drop (i * blockBits l - total) y) (same : length exit ≡ length row) where
       -- block i cannot lose a bits
@@ -195,7 +204,9 @@ module _ {l : Layout} {numbers y counts : List ℕ} {i total : ℕ} (n : Next l 
                   ⊎-elim
                       (λ k. k)
                       (λ (k : a ≤ lostIn l y i total x).
-                      absurd (false≢true (sym f ∙ tried-can (n .given) x s i total (n .inside) (lost-before x s (q .0)) t reads (omega arith))))
+                      absurd (false≢true
+                      (sym f ∙ tried-can (n .given) x s i total (n .inside) (lost-before x s (q .0)) t reads
+                      (omega arith))))
                       (lt-or-ge (lostIn l y i total x) a),
                 ))
                 (g .known);
@@ -203,7 +214,8 @@ module _ {l : Layout} {numbers y counts : List ℕ} {i total : ℕ} (n : Next l 
 
       -- it can, and the rows under that count are found
       pub tries-next : Holding l numbers y cap list₀ c m → (j : ℕ) → j ≡ i + 1 → {last after : List ℕ} {e : ℕ} {q : Bool}
-          → Grown l numbers y cap (Under l y (set counts i a) j exit) list d o after e q → take (j * l .l2) last ≡ take (j * l .l2) exit
+          → Grown l numbers y cap (Under l y (set counts i a) j exit) list d o after e q
+          → take (j * l .l2) last ≡ take (j * l .l2) exit
           → length last ≡ length exit → Tries l numbers y cap counts i total row₀ list₀ c m last after e q (a + 1)
       tries-next k j p {last} f b w =
           record {
@@ -212,7 +224,8 @@ module _ {l : Layout} {numbers y counts : List ℕ} {i total : ℕ} (n : Next l 
             known = grown-weaken
                 (λ x s q. ⊎-elim
                 (λ z. inl (q .0, z))
-                (λ (z : a ≤ lostIn l y i total x). inr (rw p (under-next x s (under-row row (g .stays) (q .0)) t reads (omega arith))))
+                (λ (z : a ≤ lostIn l y i total x). inr
+                (rw p (under-next x s (under-row row (g .stays) (q .0)) t reads (omega arith))))
                 (lt-or-ge (lostIn l y i total x) a))
                 (grown-then k (g .known) f);
           }

@@ -18,7 +18,8 @@ below-next : (b i : ℕ) → b < i + 1 → (b < i) ⊎ (b ≡ i)
 below-next b i h = ⊎-elim (λ k. inl k) (λ k. inr (omega arith)) (lt-or-ge b i)
 
 -- no block yet
-pub heavy-none : (counts : List ℕ) (heavy : Heavy) (left : List ℕ) → heavy .n ≡ 0 → inAll left ≡ 0 → ((s : ℕ) → getD left s 0 ≡ 0)
+pub heavy-none : (counts : List ℕ) (heavy : Heavy) (left : List ℕ) → heavy .n ≡ 0 → inAll left ≡ 0
+    → ((s : ℕ) → getD left s 0 ≡ 0)
     → HeavyIn counts 0 heavy left
 unfolding inAll
 heavy-none counts heavy left e z f =
@@ -34,7 +35,8 @@ heavy-none counts heavy left e z f =
       total = omega arith;
     }
 
-module _ (counts : List ℕ) (i : ℕ) (heavy : Heavy) (left : List ℕ) (q : HeavyIn counts i heavy left) (h : i < length counts) where
+module _ (counts : List ℕ) (i : ℕ) (heavy : Heavy) (left : List ℕ) (q : HeavyIn counts i heavy left)
+    (h : i < length counts) where
   -- block i has none or one loss
   pub heavy-light : getD counts i 0 < 2 → HeavyIn counts (i + 1) heavy left
   heavy-light a =
@@ -61,7 +63,8 @@ module _ (counts : List ℕ) (i : ℕ) (heavy : Heavy) (left : List ℕ) (q : He
     all P f g s k = ⊎-elim (f s) (λ (m : s ≡ heavy .n). rw m g) (below-next s (heavy .n) (omega (arith, j .one-more)))
 
     -- an entry that was there stays, and the new one stands behind
-    kept : (xs : List ℕ) {ys : List ℕ} (v s : ℕ) → ys ≡ set xs (heavy .n) v → (s ≡ heavy .n → ⊥) → getD ys s 0 ≡ getD xs s 0
+    kept : (xs : List ℕ) {ys : List ℕ} (v s : ℕ) → ys ≡ set xs (heavy .n) v → (s ≡ heavy .n → ⊥)
+        → getD ys s 0 ≡ getD xs s 0
     kept xs v s k m = ap (λ (t : List ℕ). getD t s 0) k ∙ getD-set-other xs (heavy .n) s v 0 m
 
     new : (xs : List ℕ) {ys : List ℕ} (v : ℕ) → ys ≡ set xs (heavy .n) v → length xs ≡ 6 → getD ys (heavy .n) 0 ≡ v
@@ -96,22 +99,35 @@ module _ (counts : List ℕ) (i : ℕ) (heavy : Heavy) (left : List ℕ) (q : He
     heavy-more a =
         record {
           few = omega (arith, q .few, total-next counts i h, j .one-more);
-          inside = all (λ s. getD (after .block) s 0 < i + 1) (λ s k. omega (arith, q .inside s k, kept-block s k)) (omega (arith, new-block));
+          inside =
+              all (λ s. getD (after .block) s 0 < i + 1) (λ s k. omega (arith, q .inside s k, kept-block s k))
+              (omega (arith, new-block));
           ascending = λ s t k m. ⊎-elim
               (λ n. omega (arith, q .ascending s t k n, kept-block s (omega arith), kept-block t n))
-              (λ (n : t ≡ heavy .n). rw n (omega (arith, q .inside s (omega arith), kept-block s (omega arith), new-block)))
+              (λ (n : t ≡ heavy .n). rw n
+              (omega (arith, q .inside s (omega arith), kept-block s (omega arith), new-block)))
               (below-next t (heavy .n) (omega (arith, j .one-more)));
           lost = all (λ s. getD lefts s 0 ≡ count (getD (after .block) s 0))
               (λ s k. kept-left s (λ m. omega arith) ∙ q .lost s k ∙ ap count (sym (kept-block s k)))
               (new-left ∙ ap count (sym new-block));
-          many = all (λ s. 2 ≤ getD lefts s 0) (λ s k. omega (arith, q .many s k, kept-left s (λ m. omega arith))) (omega (arith, new-left));
+          many =
+              all (λ s. 2 ≤ getD lefts s 0) (λ s k. omega (arith, q .many s k, kept-left s (λ m. omega arith)))
+              (omega (arith, new-left));
           spare = λ s k. kept-left s (λ m. omega (arith, j .one-more)) ∙ q .spare s (omega (arith, j .one-more));
           end = all (λ s. getD (after .end) s 0 ≡ up-to (getD (after .block) s 0))
               (λ s k. kept-end s k ∙ q .end s k ∙ ap up-to (sym (kept-block s k)))
               (new-end ∙ total ∙ ap up-to (sym new-block));
           every = λ b k g. ⊎-elim
-              (λ m. let w = q .every b m g in (w .0, (omega (arith, w .1 .0, j .one-more), kept-block (w .0) (w .1 .0) ∙ w .1 .1)))
+              (λ m. let w = q .every b m g in
+              (w .0, (omega (arith, w .1 .0, j .one-more), kept-block (w .0) (w .1 .0) ∙ w .1 .1)))
               (λ (m : b ≡ i). (heavy .n, (omega (arith, j .one-more), new-block ∙ sym m)))
               (below-next b i k);
-          total = omega (arith, q .total, total-next counts i h, total-set left (heavy .n) (getD counts i 0), ap inAll (j .lefts));
+          total =
+              omega (
+                arith,
+                q .total,
+                total-next counts i h,
+                total-set left (heavy .n) (getD counts i 0),
+                ap inAll (j .lefts),
+              );
         }

@@ -1,5 +1,5 @@
--- The rows under a whole pattern: without heavy blocks the row in hand is whole, and with them the loss tables start from it; and the
--- one row that can be consistent where no bit is lost. Assumes nothing.
+-- The rows under a whole pattern: without heavy blocks the row in hand is whole, and with them the loss tables start
+-- from it; and the one row that can be consistent where no bit is lost. Assumes nothing.
 use Prim.Native.Nat.{ℕ, _+_, _-_, _*_, _/_, _%_, _<_, _≤_}
 use mathlib.Core.Path.{_≡_, refl, sym, ap, _∙_}
 use mathlib.Core.Logic.{inl, inr, ⊎-elim}
@@ -26,12 +26,14 @@ use Rattle.search.proofs.Losses.{blocks-lose}
 use Rattle.anchor.proofs.Totals.{total-next}
 
 -- the counts of a consistent row are all losses
-pub all-counts : {l : Layout} {numbers y : List ℕ} (given : Given l numbers y) (counts row x : List ℕ) → Sent l numbers y x
+pub all-counts : {l : Layout} {numbers y : List ℕ} (given : Given l numbers y) (counts row x : List ℕ)
+    → Sent l numbers y x
     → Under l y counts (l .l1) row x → inAll (take (l .l1) counts) ≡ rowBits l - length y
 all-counts {l} given counts row x sent u = sym (u .own (l .l1) (omega arith)) ∙ blocks-lose given x sent
 
 -- where no bit is lost, a consistent row is the received one
-pub only-received : {l : Layout} {numbers y : List ℕ} → Given l numbers y → length y ≡ rowBits l → (x : List ℕ) → Sent l numbers y x
+pub only-received : {l : Layout} {numbers y : List ℕ} → Given l numbers y → length y ≡ rowBits l → (x : List ℕ)
+    → Sent l numbers y x
     → x ≡ y
 only-received {l} {numbers} {y} given n x sent =
     let z : rowBits l - length y ≡ 0 = omega arith in
@@ -55,7 +57,8 @@ module _ (l : Layout) (y counts : List ℕ) (heavy : Heavy) (left : List ℕ) (q
       rw e at (u .light b j m k (light z b m))
 
 -- a table of which nothing is shared yet
-module _ (l : Layout) (counts : List ℕ) (heavy : Heavy) (t : Table) (q : HeavyIn counts (l .l1) heavy (t .left)) (none : t .cells .n ≡ 0)
+module _ (l : Layout) (counts : List ℕ) (heavy : Heavy) (t : Table) (q : HeavyIn counts (l .l1) heavy (t .left))
+    (none : t .cells .n ≡ 0)
     (closed : (z : ℕ) → getD (t .cells .lost) z 0 ≡ 0) where
   none-reached : (s : ℕ) → reached 0 0 s ≡ 0
   none-reached s = rw (le-ltb s 0 (omega arith)) refl
@@ -81,7 +84,8 @@ module _ (l : Layout) (counts : List ℕ) (heavy : Heavy) (t : Table) (q : Heavy
         room = omega (arith, q .total);
         fresh = λ z k. closed z;
         spare = q .spare;
-        not-one = λ i e. let w = share-single (heavy .block) (t .left) i (omega (arith, no-share i)) in not-one (w .0) (w .1 .1 .1);
+        not-one = λ i e. let w = share-single (heavy .block) (t .left) i (omega (arith, no-share i)) in
+            not-one (w .0) (w .1 .1 .1);
       }
 
   -- every row under the pattern is under it
@@ -93,7 +97,8 @@ module _ (l : Layout) (counts : List ℕ) (heavy : Heavy) (t : Table) (q : Heavy
         shifts = λ s k.
             let b : ℕ = getD (heavy .block) s 0 in
             let i : b < l .l1 = q .inside s k in
-            let n : (b * l .l2 + reached 0 0 s) * l .nc ≡ b * blockBits l = rw (none-reached s, add-zero) (mul-assoc b (l .l2) (l .nc)) in
+            let n : (b * l .l2 + reached 0 0 s) * l .nc ≡ b * blockBits l =
+            rw (none-reached s, add-zero) (mul-assoc b (l .l2) (l .nc)) in
             let o = ap (λ (p : ℕ). losses (take p x) y) n ∙ u .own b (omega arith) in
             omega (arith, o, q .lost s k, q .end s k, total-next counts b (omega arith));
         decided = λ i c h k. ⊎-elim
@@ -105,5 +110,6 @@ module _ (l : Layout) (counts : List ℕ) (heavy : Heavy) (t : Table) (q : Heavy
       }
 
 -- a row that fills the slice that it is copied to
-pub copied : (row out hand : List ℕ) → length out ≤ length row → hand ≡ take 0 out ++ row ++ drop (0 + length row) out → hand ≡ row
+pub copied : (row out hand : List ℕ) → length out ≤ length row → hand ≡ take 0 out ++ row ++ drop (0 + length row) out
+    → hand ≡ row
 copied row out hand h e = e ∙ rw (drop-of-length-le out {i = 0 + length row} (omega arith)) (append-nil row)

@@ -1,6 +1,6 @@
--- The blocks of a consistent row: their losses, one after another, are all the bits that were deleted, and where a block is tried
--- with its own losses, it is found. Rests on what is known of a consistent row (found) and on greedy matching (consistent).
--- Assumes nothing.
+-- The blocks of a consistent row: their losses, one after another, are all the bits that were deleted, and where a
+-- block is tried with its own losses, it is found. Rests on what is known of a consistent row (found) and on greedy
+-- matching (consistent). Assumes nothing.
 use Prim.Native.Nat.{ℕ, zero, suc, _+_, _-_, _*_, _<_, _≤_}
 use mathlib.Core.Path.{_≡_, refl, sym, ap, _∙_}
 use mathlib.Core.Bool.{Bool, true}
@@ -47,7 +47,8 @@ module _ {l : Layout} {numbers y : List ℕ} (given : Given l numbers y) (x : Li
   all-lost : (s : ℕ) → s ≤ length x → losses (take s x) y ≤ rowBits l - length y
   all-lost s h =
       let w : ℕ = length x - s in
-      let t : losses (take (s + w) x) y ≡ losses x y = ap (λ (z : List ℕ). losses z y) (take-all (s + w) x (omega arith)) in
+      let t : losses (take (s + w) x) y ≡ losses x y =
+      ap (λ (z : List ℕ). losses z y) (take-all (s + w) x (omega arith)) in
       omega (arith, lost-more x y s w h, row-loses)
 
   -- all blocks lose all

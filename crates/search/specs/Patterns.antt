@@ -1,5 +1,6 @@
--- Loss patterns (document 01, "Steps of the source"): "a loss pattern holds one count for each block and their sum"; the rows under
--- the first counts of one; how one block is tried with a count; and which blocks of a pattern are left to the loss tables.
+-- Loss patterns (document 01, "Steps of the source"): "a loss pattern holds one count for each block and their sum";
+-- the rows under the first counts of one; how one block is tried with a count; and which blocks of a pattern are left
+-- to the loss tables.
 use Prim.Native.Nat.{ℕ, _+_, _-_, _*_, _<_, _≤_}
 use mathlib.Core.Path.{_≡_}
 use mathlib.Core.Bool.{Bool, true, _&&_}
@@ -15,11 +16,12 @@ use Rattle.windows.specs.Windows.{Tables}
 use Rattle.lines.specs.Lines.{values}
 use Rattle.column.specs.declared.Heavy.{Heavy}
 
--- the row x is under the first i counts: they are its own losses, block by block, and its blocks with none or one loss are those in
--- hand
+-- the row x is under the first i counts: they are its own losses, block by block, and its blocks with none or one loss
+-- are those in hand
 pub record Under (l : Layout) (y counts : List ℕ) (i : ℕ) (row x : List ℕ) : Type 0 where
   pub own : (b : ℕ) → b ≤ i → losses (take (b * blockBits l) x) y ≡ inAll (take b counts)
-  pub light : (b j : ℕ) → b < i → j < l .l2 → getD counts b 0 ≤ 1 → getD (values l x) (b * l .l2 + j) 0 ≡ getD row (b * l .l2 + j) 0
+  pub light : (b j : ℕ) → b < i → j < l .l2 → getD counts b 0 ≤ 1
+      → getD (values l x) (b * l .l2 + j) 0 ≡ getD row (b * l .l2 + j) 0
 
 -- the losses of block i of the row x itself, where the blocks before it lost so many
 abbrev pub lostIn : Layout → (y : List ℕ) (i total : ℕ) (x : List ℕ) → ℕ
@@ -42,8 +44,9 @@ pub record Loses (l : Layout) (s a : ℕ) (rest b : List ℕ) : Type 0 where
   pub has-sum : sum b ≡ s
   pub own : losses b rest ≡ a
 
--- what it is to try block i, whose sum is s, with a losses: the answer is true where some block loses just so many, and then as many
--- bits remain as such a block keeps; with none or one loss the block stands in the row in hand, whose earlier blocks stay
+-- what it is to try block i, whose sum is s, with a losses: the answer is true where some block loses just so many, and
+-- then as many bits remain as such a block keeps; with none or one loss the block stands in the row in hand, whose
+-- earlier blocks stay
 pub record Tried (l : Layout) (s i a : ℕ) (rest entry exit : List ℕ) (ok : Bool) : Type 0 where
   pub stays : take (i * l .l2) exit ≡ take (i * l .l2) entry
   pub within : ok ≡ true → (a ≤ blockBits l) × (blockBits l - a ≤ length rest)
@@ -51,7 +54,8 @@ pub record Tried (l : Layout) (s i a : ℕ) (rest entry exit : List ℕ) (ok : B
   pub light : (b : List ℕ) → Loses l s a rest b → a ≤ 1
       → (j : ℕ) → j < l .l2 → getD exit (i * l .l2 + j) 0 ≡ number (l .nc) (drop (j * l .nc) b)
 
--- the heavy blocks among the first i, those with two losses or more, in ascending order: each with its losses and those up to its end
+-- the heavy blocks among the first i, those with two losses or more, in ascending order: each with its losses and those
+-- up to its end
 pub record HeavyIn (counts : List ℕ) (i : ℕ) (heavy : Heavy) (left : List ℕ) : Type 0 where
   pub few : heavy .n * 2 ≤ inAll (take i counts)
   pub inside : (s : ℕ) → s < heavy .n → getD (heavy .block) s 0 < i
@@ -71,8 +75,8 @@ pub record Joined (heavy : Heavy) (left : List ℕ) (i a e : ℕ) (after : Heavy
   pub ends : after .end ≡ set (heavy .end) (heavy .n) e
   pub lefts : leftAfter ≡ set left (heavy .n) a
 
--- where a search stands once the first i blocks have their counts: these lost the total, which is no more than all losses, and the
--- rest of the received row starts at block i
+-- where a search stands once the first i blocks have their counts: these lost the total, which is no more than all
+-- losses, and the rest of the received row starts at block i
 pub record Begun (l : Layout) (y rest counts row : List ℕ) (i total : ℕ) : Type 0 where
   pub sums : total ≡ inAll (take i counts)
   pub most : total + length y ≤ rowBits l

@@ -7,7 +7,8 @@ use native.Mathlib.Omega.{arith}
 use lib.ListN.{length, getD, set}
 use lib.Seq.{getD-set-same, getD-set-other}
 
-pub one-more : (P : ℕ → ℕ → Type 0) (xs : List ℕ) (i v : ℕ) → i < length xs → ((k : ℕ) → k < i → P k (getD xs k 0)) → P i v
+pub one-more : (P : ℕ → ℕ → Type 0) (xs : List ℕ) (i v : ℕ) → i < length xs → ((k : ℕ) → k < i → P k (getD xs k 0))
+    → P i v
     → (k : ℕ) → k < i + 1 → P k (getD (set xs i v) k 0)
 one-more P xs i v h before here k l = go (ℕ-discrete k i)
   where

@@ -1,5 +1,5 @@
--- The number of a loss state: it is below the number of states, its digits are the losses left, and one loss less lowers it by
--- the block's stride. Assumes nothing.
+-- The number of a loss state: it is below the number of states, its digits are the losses left, and one loss less
+-- lowers it by the block's stride. Assumes nothing.
 use Prim.Native.Nat.{ℕ, zero, suc, _+_, _-_, _*_, _/_, _%_, _^_, _<_, _≤_}
 use mathlib.Core.Path.{_≡_, refl, sym, ap, ap₂, _∙_}
 use mathlib.Core.Bool.{cond}
@@ -130,7 +130,8 @@ module _ (size : ℕ → ℕ) where
   state-none left zero h = refl
   state-none left (suc n) h =
       let r = state-none left n (λ t l. h t (omega arith)) in
-      let z : left n * stride size n ≡ 0 = ap (λ (v : ℕ). v * stride size n) (h n (omega arith)) ∙ zero-mul (stride size n) in
+      let z : left n * stride size n ≡ 0 =
+      ap (λ (v : ℕ). v * stride size n) (h n (omega arith)) ∙ zero-mul (stride size n) in
       omega arith
 
   -- states with the same losses left have one number
@@ -148,7 +149,8 @@ module _ (size : ℕ → ℕ) where
   state-but a b (suc n) s h same = go (ℕ-discrete s n) (λ l. state-but a b n s l (λ t k d. same t (omega arith) d))
     where
       go : Dec (s ≡ n) → (s < n → state size a n + b s * stride size s ≡ state size b n + a s * stride size s)
-          → state size a n + a n * stride size n + b s * stride size s ≡ state size b n + b n * stride size n + a s * stride size s
+          → state size a n + a n * stride size n + b s * stride size s
+          ≡ state size b n + b n * stride size n + a s * stride size s
       go (yes e) r = rw (state-same a b n (λ t l. same t (omega arith) (λ q. omega arith)), e) (omega arith)
       go (no e) r = rw (same n (omega arith) (λ q. e (sym q))) (omega (arith, r (omega arith)))
 
@@ -195,7 +197,8 @@ module _ (size : ℕ → ℕ) where
       sym (digit a n s h ha) ∙ ap (λ (q : ℕ). q / stride size s % (size s + 1)) e ∙ digit b n s h hb
 
 -- bytes: six of them make at most 256 ^ 6 states
-pub byte-strides : (xs : List ℕ) (s : ℕ) → s ≤ 6 → ((t : ℕ) → t < s → getD xs t 0 ≤ 255) → stride (each xs) s ≤ 281474976710656
+pub byte-strides : (xs : List ℕ) (s : ℕ) → s ≤ 6 → ((t : ℕ) → t < s → getD xs t 0 ≤ 255)
+    → stride (each xs) s ≤ 281474976710656
 byte-strides xs s h bytes =
     omega (arith, stride-high (each xs) s bytes, pow-le-pow-right {n = 256} (omega arith) h)
 

@@ -1,5 +1,5 @@
--- The steps from a loss state, block by block: a row's own share goes on with the choices so far, and what the chunks bring stays in the
--- span. Assumes nothing.
+-- The steps from a loss state, block by block: a row's own share goes on with the choices so far, and what the chunks
+-- bring stays in the span. Assumes nothing.
 use Prim.Native.Nat.{ℕ, zero, suc, _+_, _-_, _*_, _%_, _<_, _≤_}
 use mathlib.Core.Path.{_≡_, refl, sym, ap, ap₂, subst, _∙_}
 use mathlib.Core.List.{List}
@@ -118,12 +118,14 @@ raises-set fresh q v h up = record { long = length-set fresh q v; grows = λ i. 
     go i (no e) = rw (getD-set-other fresh q i v 0 e) (omega arith)
 
 -- ---- one part of a sweep after another
-module _ {l : Layout} {y : List ℕ} {heavy : Heavy} {z : List ℕ} {shape : Shape} {j : ℕ} {left : ℕ → ℕ} {modulus need there : ℕ}
+module _ {l : Layout} {y : List ℕ} {heavy : Heavy} {z : List ℕ} {shape : Shape} {j : ℕ} {left : ℕ → ℕ}
+    {modulus need there : ℕ}
     {marks : List ℕ} {at : ℕ} where
   pub raised-then : {P Q R : (next : ℕ → ℕ) (vs : List ℕ) → Type 0} {entry mid exit : List ℕ}
       → Raised l y heavy z shape j left modulus need there marks at P entry mid
       → Raised l y heavy z shape j left modulus need there marks at Q mid exit
-      → ((numbers row vs : List ℕ) (next : ℕ → ℕ) → Crosses l y numbers heavy row j left next vs → R next vs → P next vs ⊎ Q next vs)
+      → ((numbers row vs : List ℕ) (next : ℕ → ℕ) → Crosses l y numbers heavy row j left next vs → R next vs
+      → P next vs ⊎ Q next vs)
       → Raised l y heavy z shape j left modulus need there marks at R entry exit
   raised-then p q parts =
       record {
@@ -135,7 +137,8 @@ module _ {l : Layout} {y : List ℕ} {heavy : Heavy} {z : List ℕ} {shape : Sha
         gains = λ numbers row vs next x r e m.
             ⊎-elim
             (λ u.
-            above-more there (apartIn l heavy z vs j (heavy .n)) _ _ (q .raises .grows (state (each (shape .size)) next (shape .n)))
+            above-more there (apartIn l heavy z vs j (heavy .n)) _ _
+            (q .raises .grows (state (each (shape .size)) next (shape .n)))
             (p .gains numbers row vs next x u e m))
             (λ u. q .gains numbers row vs next x u e m)
             (parts numbers row vs next x r);
@@ -147,10 +150,14 @@ module _ {l : Layout} {y : List ℕ} {heavy : Heavy} {z : List ℕ} {shape : Sha
       → 0 < getD marks (at + state (each (shape .size)) next (shape .n)) 0 → ⊥)
       → Raised l y heavy z shape j left modulus need there marks at R fresh fresh
   raised-none fresh never =
-      record { raises = raises-same fresh; gains = λ numbers row vs next x r e m. absurd (never numbers row vs next x r m) }
+      record {
+        raises = raises-same fresh;
+        gains = λ numbers row vs next x r e m. absurd (never numbers row vs next x r m);
+      }
 
 -- what a sweep reads stays as it is while marks are raised
-pub ground-stays : {l : Layout} {y totals counts : List ℕ} {heavy : Heavy} {z : List ℕ} {shape : Shape} {j : ℕ} {left : List ℕ}
+pub ground-stays : {l : Layout} {y totals counts : List ℕ} {heavy : Heavy} {z : List ℕ} {shape : Shape} {j : ℕ}
+    {left : List ℕ}
     {modulus need : ℕ} {marks : List ℕ} {at : ℕ} {some fresh : List ℕ} (new : List ℕ) → length new ≡ length fresh
     → Ground l y totals counts heavy z shape j left modulus need marks at some fresh
     → Ground l y totals counts heavy z shape j left modulus need marks at some new
@@ -192,10 +199,12 @@ module _ {shape : Shape} {n b q : ℕ} {span : Span} {apart : ℕ} where
       }
 
 -- ---- a row goes on with its own choices
-module _ {l : Layout} {y numbers : List ℕ} {heavy : Heavy} {row z : List ℕ} {shape : Shape} {j : ℕ} {left next : ℕ → ℕ} {vs : List ℕ}
+module _ {l : Layout} {y numbers : List ℕ} {heavy : Heavy} {row z : List ℕ} {shape : Shape} {j : ℕ} {left next : ℕ → ℕ}
+    {vs : List ℕ}
     (x : Crosses l y numbers heavy row j left next vs) {b q : ℕ} {span : Span} {apart : ℕ} where
   -- the state that it is at after the column is among those with the shares chosen
-  pub sharing-range : (a : ℕ) → Sharing l heavy z shape j left b a q span apart next vs → b < heavy .n → shape .n ≡ heavy .n
+  pub sharing-range : (a : ℕ) → Sharing l heavy z shape j left b a q span apart next vs → b < heavy .n
+      → shape .n ≡ heavy .n
       → ((s : ℕ) → s < shape .n → left s ≤ each (shape .size) s)
       → state (each (shape .size)) next (shape .n) < q + stride (each (shape .size)) b
   sharing-range a c h blocks within =
@@ -249,7 +258,9 @@ module _ {l : Layout} {y numbers : List ℕ} {heavy : Heavy} {row z : List ℕ} 
         → apart + unlike vs z (chunkAt l heavy j b) ≤ more → Chosen l heavy z shape j b q wider more next vs
     unfolding brought apartIn
     sharing-next g more wider just w other =
-        let one = one-wider (l .nc) (getD (heavy .block) b 0 * l .nc) a v (drop (view .at) y) loses (view .seen) g span wider (see .few)
+        let one =
+        one-wider (l .nc) (getD (heavy .block) b 0 * l .nc) a v (drop (view .at) y) loses (view .seen) g span wider
+        (see .few)
         (see .seen) just w in
         record {
           number = s .number;
@@ -259,7 +270,8 @@ module _ {l : Layout} {y numbers : List ℕ} {heavy : Heavy} {row z : List ℕ} 
         }
 
 -- ---- after the first block
-pub raised-end : {l : Layout} {y : List ℕ} {heavy : Heavy} {z : List ℕ} {shape : Shape} {j : ℕ} {left : ℕ → ℕ} {modulus need there : ℕ}
+pub raised-end : {l : Layout} {y : List ℕ} {heavy : Heavy} {z : List ℕ} {shape : Shape} {j : ℕ} {left : ℕ → ℕ}
+    {modulus need there : ℕ}
     {marks : List ℕ} {at s q : ℕ} {span : Span} {apart : ℕ} {entry exit : List ℕ} → s ≡ 0 → Raises entry exit
     → ((n : ℕ) → span .low ≤ 2 * n → 2 * n ≤ span .high → n % modulus ≡ need → 0 < getD marks (at + q) 0
     → Above there apart (getD exit q 0))
@@ -272,14 +284,16 @@ raised-end {l} {y} {heavy} {z} {shape} {j} {there = there} {marks} {at} {q = q} 
           let d = subst (λ (k : ℕ). Chosen l heavy z shape j k q span apart next vs) e c in
           let number : q ≡ state (each (shape .size)) next (shape .n) = omega (arith, d .number) in
           let marked = subst (λ (k : ℕ). 0 < getD marks (at + k) 0) (sym number) m in
-          let above = found (broughtIn l heavy vs j (heavy .n)) (omega (arith, d .low)) (omega (arith, d .high)) is marked in
+          let above =
+          found (broughtIn l heavy vs j (heavy .n)) (omega (arith, d .low)) (omega (arith, d .high)) is marked in
           subst (λ (k : ℕ). Above there (apartIn l heavy z vs j (heavy .n)) (getD exit k 0)) number
           (above-less there (apartIn l heavy z vs j (heavy .n)) apart (getD exit q 0) (omega (arith, d .differs)) above);
     }
 
 -- ---- before the last block
 -- with no share chosen, each row goes on
-pub chosen-none : (l : Layout) (heavy : Heavy) (z : List ℕ) (shape : Shape) (j : ℕ) (span : Span) (next : ℕ → ℕ) (vs : List ℕ)
+pub chosen-none : (l : Layout) (heavy : Heavy) (z : List ℕ) (shape : Shape) (j : ℕ) (span : Span) (next : ℕ → ℕ)
+    (vs : List ℕ)
     → shape .n ≡ heavy .n → span .low ≡ 0 → Chosen l heavy z shape j (heavy .n) 0 span 0 next vs
 chosen-none l heavy z shape j span next vs e low =
     record {

@@ -1,5 +1,6 @@
--- The steps over one column from a loss state: the losses of the heavy blocks' chunks there are chosen block by block, from the last to the
--- first, and with each choice what the chunks can bring to the column's sum, and in how many of them a row can differ from another one.
+-- The steps over one column from a loss state: the losses of the heavy blocks' chunks there are chosen block by block,
+-- from the last to the first, and with each choice what the chunks can bring to the column's sum, and in how many of
+-- them a row can differ from another one.
 use Prim.Native.Nat.{ℕ, zero, suc, _+_, _-_, _*_, _%_, _<_, _≤_}
 use mathlib.Core.Path.{_≡_}
 use mathlib.Core.Bool.{true, cond}
@@ -65,8 +66,8 @@ pub record Seeable (l : Layout) (y totals counts : List ℕ) (heavy : Heavy) (j 
   pub blocks : (s : ℕ) → s < heavy .n → getD (heavy .block) s 0 < l .l1
   pub column : j < l .l2
 
--- what is seen of the chunk of heavy block s in column j, if it loses a bits where so many are left: where the bits start that it takes,
--- their ones, and how many more it can have
+-- what is seen of the chunk of heavy block s in column j, if it loses a bits where so many are left: where the bits
+-- start that it takes, their ones, and how many more it can have
 pub record Viewed (l : Layout) (y : List ℕ) (heavy : Heavy) (j s left a : ℕ) (view : View) : Type 0 where
   pub few : a ≤ l .nc
   pub place : view .at ≡ chunkAt l heavy j s * l .nc + left - getD (heavy .end) s 0
@@ -74,7 +75,8 @@ pub record Viewed (l : Layout) (y : List ℕ) (heavy : Heavy) (j s left a : ℕ)
   pub seen : SeenIn (take (l .nc - a) (drop (view .at) y)) (l .nc - a) (view .seen)
   pub more : MoreOnes y (view .at) (l .nc - a) a (view .first) (view .last)
 
--- all that a sweep reads: the loss states, so much left in one of them, what is needed, and the marks of the states after the column
+-- all that a sweep reads: the loss states, so much left in one of them, what is needed, and the marks of the states
+-- after the column
 pub record Ground (l : Layout) (y totals counts : List ℕ) (heavy : Heavy) (z : List ℕ) (shape : Shape) (j : ℕ)
     (left : List ℕ) (modulus need : ℕ) (marks : List ℕ) (at : ℕ) (some fresh : List ℕ) : Type 0 where
   pub seeable : Seeable l y totals counts heavy j
@@ -84,7 +86,8 @@ pub record Ground (l : Layout) (y totals counts : List ℕ) (heavy : Heavy) (z :
   pub high : modulus ≤ longest + 1
   pub long-fresh : shape .states ≤ length fresh
 
--- where a sweep stands: the heavy blocks from s on have their shares, which make the number q; what they bring is in a span
+-- where a sweep stands: the heavy blocks from s on have their shares, which make the number q; what they bring is in a
+-- span
 pub record Stands (shape : Shape) (n s q : ℕ) (span : Span) (apart : ℕ) : Type 0 where
   pub inside : s ≤ n
   pub room : q + stride (each (shape .size)) s ≤ shape .states
@@ -117,8 +120,8 @@ pub record Sharing (l : Layout) (heavy : Heavy) (z : List ℕ) (shape : Shape) (
   pub high : 2 * broughtIn l heavy vs j (heavy .n) ≤ span .high + 2 * broughtIn l heavy vs j (suc b)
   pub differs : apartIn l heavy z vs j (heavy .n) ≤ apart + apartIn l heavy z vs j (suc b)
 
--- the marks are raised for each row that goes on with the choices so far: the mark of the state that it is at after the column is at least
--- the one there and the chunks of the column that are others than in z
+-- the marks are raised for each row that goes on with the choices so far: the mark of the state that it is at after the
+-- column is at least the one there and the chunks of the column that are others than in z
 pub record Raised (l : Layout) (y : List ℕ) (heavy : Heavy) (z : List ℕ) (shape : Shape) (j : ℕ) (left : ℕ → ℕ)
     (modulus need there : ℕ) (marks : List ℕ) (at : ℕ) (Goes : (next : ℕ → ℕ) (vs : List ℕ) → Type 0)
     (entry exit : List ℕ) : Type 0 where

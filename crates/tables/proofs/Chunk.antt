@@ -1,5 +1,5 @@
--- A chunk of a row and its own losses: where it is read in the received row, what it loses there, and that a chunk without a
--- loss is the next bits of the received row. Assumes nothing.
+-- A chunk of a row and its own losses: where it is read in the received row, what it loses there, and that a chunk
+-- without a loss is the next bits of the received row. Assumes nothing.
 use Prim.Native.Nat.{ℕ, _+_, _*_, _-_, _<_, _≤_}
 use mathlib.Core.Path.{_≡_, refl, sym, ap, _∙_}
 use mathlib.Core.List.{List}
@@ -92,5 +92,7 @@ module _ (l : Layout) (y x : List ℕ) (row : Row (rowBits l) x) (c : ℕ) (insi
 
     pub chunk-read : a ≡ 0 → getD (values l x) c 0 ≡ number (l .nc) rest
     chunk-read z =
-        let e : chunk ≡ take (l .nc) rest = whole chunk rest (loses-bits ∙ z) ∙ ap (λ (n : ℕ). take n rest) length-chunk in
-        value-at l x c inside ∙ sym (number-take (l .nc) (drop (c * l .nc) x)) ∙ ap (number (l .nc)) e ∙ number-take (l .nc) rest
+        let e : chunk ≡ take (l .nc) rest =
+        whole chunk rest (loses-bits ∙ z) ∙ ap (λ (n : ℕ). take n rest) length-chunk in
+        value-at l x c inside ∙ sym (number-take (l .nc) (drop (c * l .nc) x)) ∙ ap (number (l .nc)) e
+        ∙ number-take (l .nc) rest

@@ -1,5 +1,5 @@
--- A heavy block whose losses are all shared out: a row under the table has its chunks before there in hand or in cells, and from there on
--- as they are read. Assumes nothing.
+-- A heavy block whose losses are all shared out: a row under the table has its chunks before there in hand or in cells,
+-- and from there on as they are read. Assumes nothing.
 use Prim.Native.Nat.{ℕ, _+_, _-_, _*_, _<_, _≤_}
 use mathlib.Core.Path.{_≡_, refl, sym, ap, _∙_}
 use mathlib.Core.List.{List}
@@ -22,7 +22,8 @@ use Rattle.tables.proofs.Chunk.{chunk-inside, lost-grows, lost-before, 
 use Rattle.tables.proofs.Making.{reached-not, end-at}
 
 module _ {l : Layout} {numbers y : List ℕ} {heavy : Heavy} {t : Table} {x : List ℕ} {j : ℕ} (given : Given l numbers y)
-    (sent : Sent l numbers y x) (sound : Sound l (length y) heavy t) (u : Under l y heavy j 0 t x) (h : ℕ) (some : h < heavy .n)
+    (sent : Sent l numbers y x) (sound : Sound l (length y) heavy t) (u : Under l y heavy j 0 t x) (h : ℕ)
+    (some : h < heavy .n)
     (none : getD (t .left) h 0 ≡ 0) where
   -- the block, and the losses up to its end
   abbrev i : ℕ
@@ -45,10 +46,17 @@ module _ {l : Layout} {numbers y : List ℕ} {heavy : Heavy} {t : Table} {x : Li
       let inside = chunk-inside (l .l1) (l .l2) i c (sound .inside h some) b in
       let here = lost-is c a (omega arith) in
       let next : i * l .l2 + c + 1 ≡ i * l .l2 + (c + 1) = omega arith in
-      let whole : Loses l y x (i * l .l2 + c) 0 = rw next (omega (arith, here, lost-is (c + 1) (omega arith) (omega arith))) in
+      let whole : Loses l y x (i * l .l2 + c) 0 =
+      rw next (omega (arith, here, lost-is (c + 1) (omega arith) (omega arith))) in
       record {
         starts = omega (arith, here, lost-before l y x (sent .0) (i * l .l2 + c) inside);
-        there = omega (arith, here, chunk-there l y x (sent .0) (i * l .l2 + c) inside 0 whole, lost-before l y x (sent .0) (i * l .l2 + c) inside);
+        there =
+            omega (
+              arith,
+              here,
+              chunk-there l y x (sent .0) (i * l .l2 + c) inside 0 whole,
+              lost-before l y x (sent .0) (i * l .l2 + c) inside,
+            );
         as-read =
             chunk-read l y x (sent .0) (i * l .l2 + c) inside 0 whole refl
             ∙ ap (λ (d : ℕ). number (l .nc) (drop ((i * l .l2 + c) * l .nc - d) y)) here;
@@ -66,5 +74,6 @@ module _ {l : Layout} {numbers y : List ℕ} {heavy : Heavy} {t : Table} {x : Li
         lose = λ z o e. (value-low l x (sent .0) (chunkOf l (t .cells) z), u .loses z o);
         later = later;
         has-sum =
-            sym (block-line l x (sent .0) i (sound .inside h some)) ∙ sent-parts given x sent .blocks i (sound .inside h some);
+            sym (block-line l x (sent .0) i (sound .inside h some))
+            ∙ sent-parts given x sent .blocks i (sound .inside h some);
       }

@@ -46,7 +46,8 @@ pub record Going (l : Layout) (y totals counts numbers : List ℕ) (heavy : Heav
 module _ {l : Layout} {y totals counts numbers : List ℕ} {heavy : Heavy} {shape : Shape} {known marks z : List ℕ}
     {room cap : ℕ} {P : List ℕ → Type 0} {entry : List ℕ} {d : ℕ} {m : Bool} {top : ℕ} {list : List ℕ} {now : Table}
     {apart e : ℕ} {o : Bool} {c : ℕ}
-    (going : Going l y totals counts numbers heavy shape known marks z room cap P entry d m top list now apart e o c) where
+    (going : Going l y totals counts numbers heavy shape known marks z room cap P entry d m top list now apart e o
+    c) where
   -- the state's mark leaves no room for a row that is not known
   pub going-near : (mark : ℕ) → IsMark shape marks c (stateOf shape (each (now .left))) mark
       → ((n : ℕ) → Covers mark n → apart + n < room) → Grown l numbers y cap P entry d m list e o

@@ -1,5 +1,5 @@
--- In how many chunks a row differs from another one: those of the heavy blocks, counted column by column, and those of the others, which
--- are in hand. Rests on the sums over places (anchor). Assumes nothing.
+-- In how many chunks a row differs from another one: those of the heavy blocks, counted column by column, and those of
+-- the others, which are in hand. Rests on the sums over places (anchor). Assumes nothing.
 use Prim.Native.Nat.{ℕ, zero, suc, _+_, _-_, _*_, _<_, _≤_}
 use mathlib.Core.Path.{_≡_, refl, sym, ap, _∙_}
 use mathlib.Core.Bool.{cond}
@@ -141,5 +141,7 @@ module _ (l : Layout) (heavy : Heavy) (row z : List ℕ) (of : HeavyOf l heavy) 
       → over (unlike vs z) 0 (l .l1 * l .l2) ≤ count + apartFrom l heavy z vs 0
   counted-all count h i c done vs light =
       let all : i ≡ l .l1 = omega (arith, c .blocks) in
-      let none : h ≡ heavy .n = ⊎-elim (λ q. absurd (omega (arith, c .ahead h (omega arith) q, of .inside h q))) (λ q. omega (arith, c .few)) (lt-or-ge h (heavy .n)) in
+      let none : h ≡ heavy .n =
+      ⊎-elim (λ q. absurd (omega (arith, c .ahead h (omega arith) q, of .inside h q))) (λ q. omega (arith, c .few))
+      (lt-or-ge h (heavy .n)) in
       rw (all-apart l heavy z vs) (rw (all, none) at (c .bound vs light))

@@ -122,8 +122,10 @@ module _ (cells : Cells) (twelve : Twelve cells) (room : cells .n < 12) (unused 
   at-kept : (b c : ℕ) → OpenAt cells b c → OpenAt (pushed cells i j a place) b c
   at-kept b c (z, (o, (p, q))) =
       let k = open-kept z o in
-      let in-block : getD (set (cells .block) (cells .n) i) z 0 ≡ b = getD-set-other (cells .block) (cells .n) z i 0 (k .0) ∙ p in
-      let in-column : getD (set (cells .column) (cells .n) j) z 0 ≡ c = getD-set-other (cells .column) (cells .n) z j 0 (k .0) ∙ q in
+      let in-block : getD (set (cells .block) (cells .n) i) z 0 ≡ b =
+      getD-set-other (cells .block) (cells .n) z i 0 (k .0) ∙ p in
+      let in-column : getD (set (cells .column) (cells .n) j) z 0 ≡ c =
+      getD-set-other (cells .column) (cells .n) z j 0 (k .0) ∙ q in
       (z, (k .1, (in-block, in-column)))
 
   -- the new cell is open
@@ -132,7 +134,10 @@ module _ (cells : Cells) (twelve : Twelve cells) (room : cells .n < 12) (unused 
     cells .n,
     (
       (room, rw (getD-set-same (cells .lost) (cells .n) a 0 (omega arith)) p),
-      (getD-set-same (cells .block) (cells .n) i 0 (omega arith), getD-set-same (cells .column) (cells .n) j 0 (omega arith)),
+      (
+        getD-set-same (cells .block) (cells .n) i 0 (omega arith),
+        getD-set-same (cells .column) (cells .n) j 0 (omega arith),
+      ),
     ),
   )
 
@@ -172,7 +177,8 @@ module _ {l : Layout} {y : List ℕ} {heavy : Heavy} {j h : ℕ} {t : Table} {x 
   -- after the share of a losses as many fewer are left
   shifts-next : (left : List ℕ) (a : ℕ) → Loses l y x (chunkAt l heavy j h) a → getD left h 0 + a ≡ getD (t .left) h 0
       → ((s : ℕ) → (s ≡ h → ⊥) → getD left s 0 ≡ getD (t .left) s 0)
-      → (s : ℕ) → s < heavy .n → lostBefore l y x (chunkAt l heavy (reached j (h + 1) s) s) + getD left s 0 ≡ getD (heavy .end) s 0
+      → (s : ℕ) → s < heavy .n
+      → lostBefore l y x (chunkAt l heavy (reached j (h + 1) s) s) + getD left s 0 ≡ getD (heavy .end) s 0
   shifts-next left a own less others s k = ⊎-elim here other (same-or-not s h)
     where
       next : chunkAt l heavy (reached j (h + 1) h) h ≡ chunkAt l heavy j h + 1
@@ -181,11 +187,13 @@ module _ {l : Layout} {y : List ℕ} {heavy : Heavy} {j h : ℕ} {t : Table} {x 
       here : s ≡ h → lostBefore l y x (chunkAt l heavy (reached j (h + 1) s) s) + getD left s 0 ≡ getD (heavy .end) s 0
       here e = rw (e, next) (omega (arith, own, less, shift-at))
 
-      other : (s ≡ h → ⊥) → lostBefore l y x (chunkAt l heavy (reached j (h + 1) s) s) + getD left s 0 ≡ getD (heavy .end) s 0
+      other : (s ≡ h → ⊥)
+          → lostBefore l y x (chunkAt l heavy (reached j (h + 1) s) s) + getD left s 0 ≡ getD (heavy .end) s 0
       other n = rw (reached-next j h s n, others s n) (u .shifts s k)
 
   -- the chunk that is shared out to is decided, and no other
-  undecided-next : (i c : ℕ) → Undecided heavy j h i c → Undecided heavy j (h + 1) i c ⊎ ((getD (heavy .block) h 0 ≡ i) × (j ≡ c))
+  undecided-next : (i c : ℕ) → Undecided heavy j h i c
+      → Undecided heavy j (h + 1) i c ⊎ ((getD (heavy .block) h 0 ≡ i) × (j ≡ c))
   undecided-next i c (s, (k, (b, r))) = ⊎-elim here other (same-or-not s h)
     where
       other : (s ≡ h → ⊥) → Undecided heavy j (h + 1) i c ⊎ ((getD (heavy .block) h 0 ≡ i) × (j ≡ c))
@@ -231,7 +239,8 @@ module _ {l : Layout} {y : List ℕ} {heavy : Heavy} {j h : ℕ} {t : Table} {x 
       fresh i c (inr w) = inr (inr (there (i * l .l2 + c) (rw (w .0, w .1) refl)))
 
   -- a chunk with losses becomes a cell
-  pub under-cell : (a place : ℕ) → Loses l y x (chunkAt l heavy j h) a → 0 < a → a ≤ getD (t .left) h 0 → h < length (t .left)
+  pub under-cell : (a place : ℕ) → Loses l y x (chunkAt l heavy j h) a → 0 < a → a ≤ getD (t .left) h 0
+      → h < length (t .left)
       → Twelve (t .cells) → t .cells .n < 12 → getD (t .cells .lost) (t .cells .n) 0 ≡ 0
       → losses (digits (l .nc) (getD (values l x) (chunkAt l heavy j h) 0)) (drop place y) ≡ a
       → Under l y heavy j (h + 1) (withCell t h (getD (heavy .block) h 0) j a place) x
@@ -257,7 +266,8 @@ module _ {l : Layout} {y : List ℕ} {heavy : Heavy} {j h : ℕ} {t : Table} {x 
 
       fresh : (i c : ℕ) → Undecided heavy j (h + 1) i c ⊎ ((block ≡ i) × (j ≡ c))
           → Undecided heavy j (h + 1) i c
-          ⊎ (OpenAt (pushed (t .cells) block j a place) i c ⊎ (getD (values l x) (i * l .l2 + c) 0 ≡ getD (t .row) (i * l .l2 + c) 0))
+          ⊎ (OpenAt (pushed (t .cells) block j a place) i c
+          ⊎ (getD (values l x) (i * l .l2 + c) 0 ≡ getD (t .row) (i * l .l2 + c) 0))
       fresh i c (inl w) = inl w
       fresh i c (inr w) = inr (inl (rw (← w .0, ← w .1) (at-new (t .cells) twelve room unused block j a place pos)))
 
@@ -292,8 +302,11 @@ module _ {l : Layout} {m : ℕ} {heavy : Heavy} {t : Table} (s : Sound l m heavy
           placed = each-pushed (t .cells) twelve room unused block j a place
               (λ b c lost q. (b < l .l1) × ((c < l .l2) × (q ≤ m))) (s .placed) (s .inside h some, (inside, within));
           room = omega (arith, all-set (t .left) h a (omega (arith, s .few)) less, s .room);
-          fresh = λ z k. getD-set-other (t .cells .lost) (t .cells .n) z a 0 (λ e. absurd (omega arith)) ∙ s .fresh z (omega arith);
-          spare = λ r k. getD-set-other (t .left) h r (getD (t .left) h 0 - a) 0 (λ e. absurd (omega arith)) ∙ s .spare r k;
+          fresh =
+              λ z k. getD-set-other (t .cells .lost) (t .cells .n) z a 0 (λ e. absurd (omega arith))
+              ∙ s .fresh z (omega arith);
+          spare =
+              λ r k. getD-set-other (t .left) h r (getD (t .left) h 0 - a) 0 (λ e. absurd (omega arith)) ∙ s .spare r k;
           not-one = λ i e. s .not-one i (omega (arith, fewer i, more i));
         }
       where
@@ -308,14 +321,16 @@ module _ {l : Layout} {m : ℕ} {heavy : Heavy} {t : Table} (s : Sound l m heavy
 
         -- what block i has left falls by what its cells gain
         fewer : (i : ℕ)
-            → share (heavy .block) (set (t .left) h (getD (t .left) h 0 - a)) i + cond (eqb block i) a 0 ≡ share (heavy .block) (t .left) i
+            → share (heavy .block) (set (t .left) h (getD (t .left) h 0 - a)) i + cond (eqb block i) a 0
+            ≡ share (heavy .block) (t .left) i
         fewer i = share-set (heavy .block) (t .left) i h a (omega (arith, s .few)) (omega (arith, s .few)) less
 
         more : (i : ℕ)
             → share (set (t .cells .block) (t .cells .n) block) (set (t .cells .lost) (t .cells .n) a) i
             ≡ share (t .cells .block) (t .cells .lost) i + cond (eqb block i) a 0
         more i =
-            share-pushed (t .cells .block) (t .cells .lost) i (t .cells .n) block a (omega (arith, room)) (omega (arith, room))
+            share-pushed (t .cells .block) (t .cells .lost) i (t .cells .n) block a (omega (arith, room))
+            (omega (arith, room))
             unused
 
 -- ---- the end of a column, and of the last

@@ -1,4 +1,5 @@
--- The loss states that a row comes through: from the table with which the columns begin to the end they are a path. Assumes nothing.
+-- The loss states that a row comes through: from the table with which the columns begin to the end they are a path.
+-- Assumes nothing.
 use Prim.Native.Nat.{ℕ, _+_, _-_, _*_, _<_, _≤_}
 use mathlib.Core.Path.{_≡_, sym, ap, _∙_}
 use mathlib.Core.Logic.{⊎-elim}
@@ -25,7 +26,8 @@ use Rattle.tables.proofs.Making.{end-at}
 
 -- ---- a row under the table with which the columns begin, which has no cells
 module _ {l : Layout} {numbers y : List ℕ} {heavy : Heavy} {t : Table} {x : List ℕ} (given : Given l numbers y)
-    (sent : Sent l numbers y x) (sound : Sound l (length y) heavy t) (u : Under l y heavy 0 0 t x) (none : t .cells .n ≡ 0) where
+    (sent : Sent l numbers y x) (sound : Sound l (length y) heavy t) (u : Under l y heavy 0 0 t x)
+    (none : t .cells .n ≡ 0) where
   -- the losses before the chunk of a heavy block in a column
   abbrev lost : (j s : ℕ) → ℕ
   lost j s = lostBefore l y x (chunkAt l heavy j s)
@@ -77,7 +79,11 @@ module _ {l : Layout} {numbers y : List ℕ} {heavy : Heavy} {t : Table} {x : Li
     crosses =
         record {
           falls = λ s h. own-falls j s column h;
-          few = λ s h. omega (arith, chunk-few l y x (sent .0) (c s h) (inside s h) (own j s - own (j + 1) s) (lost-here s h));
+          few =
+              λ s h. omega (
+                arith,
+                chunk-few l y x (sent .0) (c s h) (inside s h) (own j s - own (j + 1) s) (lost-here s h),
+              );
           starts = λ s h. omega (arith, own-all j s (omega arith) h, lost-before l y x (sent .0) (c s h) (inside s h));
           there = λ s h. omega (
             arith,

@@ -106,7 +106,8 @@ module _ {l : Layout} {y : List ℕ} {heavy : Heavy} {j h a : ℕ} {t : Table} (
   shared-beyond beyond = failed (λ x row u own. omega (arith, reaches x row u))
 
   -- the chunk becomes a cell
-  module _ (pos : 0 < a) (in-left : length (t .left) ≡ 6) (in-block : length (heavy .block) ≡ 6) (twelve : Twelve (t .cells)) where
+  module _ (pos : 0 < a) (in-left : length (t .left) ≡ 6) (in-block : length (heavy .block) ≡ 6)
+      (twelve : Twelve (t .cells)) where
     pub cell-room : t .cells .n < 12
     cell-room = room-cell (q .sound) j h a place (q .some) (q .less) in-left in-block pos
 
@@ -118,6 +119,9 @@ module _ {l : Layout} {y : List ℕ} {heavy : Heavy} {j h a : ℕ} {t : Table} (
           sound = sound-cell (q .sound) j h a place (q .some) (q .less) in-left in-block pos (q .column) within twelve;
           falls = λ e. omega (arith, getD-set-same (t .left) h (getD (t .left) h 0 - a) 0 in-range, q .less);
           others = λ s n. getD-set-other (t .left) h s (getD (t .left) h 0 - a) 0 n;
-          under = λ x row u own.
-              (refl, under-cell u (q .some) a place own pos (q .less) in-range twelve cell-room unused (loses x row u own));
+          under = λ x row u own. (
+            refl,
+            under-cell u (q .some) a place own pos (q .less) in-range twelve cell-room unused
+                (loses x row u own),
+          );
         }

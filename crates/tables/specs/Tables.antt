@@ -58,11 +58,13 @@ pub record Sound (l : Layout) (m : ℕ) (heavy : Heavy) (t : Table) : Type 0 whe
 -- the row x is under the state: its losses up to the end of each heavy block are those of the pattern, of these as many
 -- are still to come as are left, and its chunks are those in hand but for those not decided yet and the cells
 pub record Under (l : Layout) (y : List ℕ) (heavy : Heavy) (j h : ℕ) (t : Table) (x : List ℕ) : Type 0 where
-  pub ends : (s : ℕ) → s < heavy .n → losses (take ((getD (heavy .block) s 0 + 1) * blockBits l) x) y ≡ getD (heavy .end) s 0
+  pub ends : (s : ℕ) → s < heavy .n
+      → losses (take ((getD (heavy .block) s 0 + 1) * blockBits l) x) y ≡ getD (heavy .end) s 0
   pub shifts : (s : ℕ) → s < heavy .n
       → lostBefore l y x (chunkAt l heavy (reached j h s) s) + getD (t .left) s 0 ≡ getD (heavy .end) s 0
   pub decided : (i c : ℕ) → i < l .l1 → c < l .l2
-      → Undecided heavy j h i c ⊎ (OpenAt (t .cells) i c ⊎ (getD (values l x) (i * l .l2 + c) 0 ≡ getD (t .row) (i * l .l2 + c) 0))
+      → Undecided heavy j h i c
+      ⊎ (OpenAt (t .cells) i c ⊎ (getD (values l x) (i * l .l2 + c) 0 ≡ getD (t .row) (i * l .l2 + c) 0))
   pub loses : (z : ℕ) → Open (t .cells) z
       → losses (digits (l .nc) (getD (values l x) (chunkOf l (t .cells) z) 0)) (drop (getD (t .cells .place) z 0) y)
       ≡ getD (t .cells .lost) z 0
@@ -121,7 +123,8 @@ pub record Comes (l : Layout) (y numbers : List ℕ) (heavy : Heavy) (shape : Sh
   pub within : apart l z x ≤ differ + apartFrom l heavy z (values l x) j
 
 -- the row x is under the state, and comes through marked ones
-abbrev pub UnderMarks : (l : Layout) (y numbers : List ℕ) → Heavy → Shape → (known marks z : List ℕ) → (differ j : ℕ) → Table
+abbrev pub UnderMarks : (l : Layout) (y numbers : List ℕ) → Heavy → Shape → (known marks z : List ℕ) → (differ j : ℕ)
+    → Table
     → (x : List ℕ) → Type 0
 UnderMarks l y numbers heavy shape known marks z differ j t x =
     Under l y heavy j 0 t x × Comes l y numbers heavy shape known marks z differ j x

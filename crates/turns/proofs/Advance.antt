@@ -1,5 +1,5 @@
--- Cells found one after another: a turn starts where none is found yet, each that is found takes its losses away, and what is
--- listed afterwards is listed of the rows under the state before. Assumes nothing.
+-- Cells found one after another: a turn starts where none is found yet, each that is found takes its losses away, and
+-- what is listed afterwards is listed of the rows under the state before. Assumes nothing.
 use Prim.Native.Nat.{ℕ, _<_, _≤_}
 use mathlib.Core.Path.{_≡_, refl, sym, ap, _∙_, subst}
 use mathlib.Core.Bool.{Bool, true, false, true≢false, false≢true}
@@ -18,12 +18,14 @@ use Rattle.turns.specs.Turns.{keysOf, Advanced}
 use Rattle.turns.specs.declared.Turn.{Turn}
 
 -- nothing is found yet
-pub advanced-none : {l : Layout} (numbers : List ℕ) {y : List ℕ} {cells : Cells} {row : List ℕ} → Placed l (length y) cells
+pub advanced-none : {l : Layout} (numbers : List ℕ) {y : List ℕ} {cells : Cells} {row : List ℕ}
+    → Placed l (length y) cells
     → Advanced l numbers y cells row (record { ok = true; any = false; cells = cells; row = row })
 advanced-none numbers p =
     record { keeps = λ x s u. (refl, u); unchanged = λ e. refl; fewer = λ e. absurd (false≢true e); placed = p }
 
-module _ {l : Layout} {numbers y : List ℕ} {cells : Cells} {row : List ℕ} {t : Turn} (a : Advanced l numbers y cells row t) where
+module _ {l : Layout} {numbers y : List ℕ} {cells : Cells} {row : List ℕ} {t : Turn}
+    (a : Advanced l numbers y cells row t) where
   -- open losses do not get more
   no-more : inAll (t .cells .lost) ≤ inAll (cells .lost)
   no-more = go (t .any) refl
@@ -51,7 +53,8 @@ module _ {l : Layout} {numbers y : List ℕ} {cells : Cells} {row : List ℕ} {t
           keeps = λ x s u. keeps x s (a .keeps x s u .1);
           unchanged = λ f. absurd (true≢false (sym any ∙ f));
           fewer = λ f. omega (arith, falls, no-more);
-          placed = subst (λ (c : Cells). Placed l (length y) c) (sym e) (placed-found l (length y) (t .cells) z (a .placed));
+          placed =
+              subst (λ (c : Cells). Placed l (length y) c) (sym e) (placed-found l (length y) (t .cells) z (a .placed));
         }
 
   -- ---- what is listed

@@ -1,5 +1,5 @@
--- Chunk-strings and blocks as lines of one chunk: where they stand, what their sum is in a consistent row, and what is known of
--- them where they have exactly one open loss. Assumes nothing.
+-- Chunk-strings and blocks as lines of one chunk: where they stand, what their sum is in a consistent row, and what is
+-- known of them where they have exactly one open loss. Assumes nothing.
 use Prim.Native.Nat.{ℕ, _+_, _-_, _*_, _<_, _≤_}
 use mathlib.Core.Path.{_≡_, refl, sym, ap, _∙_}
 use mathlib.Core.Bool.{Bool, true, false}
@@ -87,7 +87,8 @@ short-bits {nc} {n} {s} {z} {vs} {us} k =
     (p .within, record { around = k .around; has-sum = k .has-sum; comes = p .comes; small = k .small })
 
 -- ---- the line of a cell that has its only open loss
-module _ {l : Layout} {numbers y : List ℕ} (given : Given l numbers y) (cells : Cells) (placed : Placed l (length y) cells)
+module _ {l : Layout} {numbers y : List ℕ} (given : Given l numbers y) (cells : Cells)
+    (placed : Placed l (length y) cells)
     (strings : Bool) {z : ℕ} (h : z < 12) (single : SingleAt (keysOf strings cells) (cells .lost) z) where
   -- where the cell stands
   abbrev pub Block : ℕ

@@ -1,5 +1,5 @@
--- Mending by turns: "blocks and chunk-strings are mended by turns" (document 01). Both kinds of line have a sum, and a line that
--- lost exactly one bit is mended by it.
+-- Mending by turns: "blocks and chunk-strings are mended by turns" (document 01). Both kinds of line have a sum, and a
+-- line that lost exactly one bit is mended by it.
 use Prim.Native.Nat.{ℕ, _+_, _*_, _^_, _<_, _≤_}
 use mathlib.Core.Path.{_≡_}
 use mathlib.Core.Bool.{Bool, true, false, cond}
@@ -27,7 +27,8 @@ lineOf strings l i j =
     (record { start = j; stride = l .l2; count = l .l1; hole = i; number = l .l1 + j })
     (record { start = i * l .l2; stride = 1; count = l .l2; hole = j; number = i })
 
--- a line of a row in hand that can be mended by the sum s: its marked chunk is matched against the received bits y from a place on
+-- a line of a row in hand that can be mended by the sum s: its marked chunk is matched against the received bits y from
+-- a place on
 pub record Ready (nc : ℕ) (y : List ℕ) (place : ℕ) (n : Line) (s : ℕ) : Type 0 where
   pub inside : Inside nc (n .start) (n .stride) (n .count) 255
   pub some-bits : 1 ≤ nc
@@ -40,8 +41,8 @@ pub record Ready (nc : ℕ) (y : List ℕ) (place : ℕ) (n : Line) (s : ℕ) : 
 abbrev pub chunkAt : Line → List ℕ → ℕ
 chunkAt n us = getD us (n .start + n .hole * n .stride) 0
 
--- the numbers us are those of a row in which the line n has its sum s and lost one bit, in its marked chunk, against the received
--- bits z: its other chunks are those in hand
+-- the numbers us are those of a row in which the line n has its sum s and lost one bit, in its marked chunk, against
+-- the received bits z: its other chunks are those in hand
 pub record Short (nc : ℕ) (n : Line) (s : ℕ) (z vs us : List ℕ) : Type 0 where
   pub around : (t : ℕ) → t < n .count → (t ≡ n .hole → ⊥)
       → getD us (n .start + t * n .stride) 0 ≡ getD vs (n .start + t * n .stride) 0
@@ -49,8 +50,8 @@ pub record Short (nc : ℕ) (n : Line) (s : ℕ) (z vs us : List ℕ) : Type 0 w
   pub loses : losses (digits nc (chunkAt n us)) z ≡ 1
   pub small : chunkAt n us < 2 ^ nc
 
--- what cells that are found one after another change of the state: the rows under it stay under it, and where there are any the
--- search goes on; open losses get fewer
+-- what cells that are found one after another change of the state: the rows under it stay under it, and where there are
+-- any the search goes on; open losses get fewer
 pub record Advanced (l : Layout) (numbers y : List ℕ) (cells : Cells) (row : List ℕ) (t : Turn) : Type 0 where
   pub keeps : (x : List ℕ) → Sent l numbers y x → Under l y cells row x
       → (t .ok ≡ true) × Under l y (t .cells) (t .row) x

@@ -1,5 +1,5 @@
--- Which bits are lost against a run: a lost bit is another than the next one received, so against zeros each lost bit is a one, and
--- against ones a zero. Rests on Weights.antt and greedy matching. Assumes nothing.
+-- Which bits are lost against a run: a lost bit is another than the next one received, so against zeros each lost bit
+-- is a one, and against ones a zero. Rests on Weights.antt and greedy matching. Assumes nothing.
 use Prim.Native.Nat.{ℕ, zero, suc, _+_, _-_, _^_, _<_, _≤_}
 use mathlib.Core.Path.{_≡_, refl, sym, ap, _∙_}
 use mathlib.Core.Bool.{cond}
@@ -40,7 +40,8 @@ run-lost c (b ∷ v) (d ∷ ys) w run h e =
     first = run 0 (omega arith)
 
     go : Dec (b ≡ c)
-        → ((k : ℕ) → ((i : ℕ) → i ≤ k → getD ys i 0 ≡ c) → k < length ys → losses v ys + k ≡ length v → others c v ≡ losses v ys)
+        → ((k : ℕ) → ((i : ℕ) → i ≤ k → getD ys i 0 ≡ c) → k < length ys → losses v ys + k ≡ length v
+        → others c v ≡ losses v ys)
         → (losses v (d ∷ ys) + w ≡ length v → others c v ≡ losses v (d ∷ ys))
         → cond (eqb b c) 0 1 + others c v ≡ cond (eqb b d) (losses v ys) (suc (losses v (d ∷ ys)))
     go (yes q) taken lost =

@@ -61,6 +61,7 @@ module _ {nc : ℕ} {y : List ℕ} {chunks : Chunks} {vs : ℕ → ℕ} (can : C
       → Within nc chunks vs s span → Within nc chunks vs (s + 1) wider
   unfolding brought
   wider-holds seen g span wider i e w inside =
-      let one = one-wider nc (getD (chunks .block) s 0 * nc) (getD (chunks .lost) s 0) (vs s) (drop (getD (chunks .place) s 0) y)
+      let one =
+      one-wider nc (getD (chunks .block) s 0 * nc) (getD (chunks .lost) s 0) (vs s) (drop (getD (chunks .place) s 0) y)
       (can .loses s h) seen g span wider (can .few s h) i e w in
       rw (add-one s) (record { low = omega (arith, one, inside .low); high = omega (arith, one, inside .high) })

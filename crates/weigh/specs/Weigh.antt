@@ -1,5 +1,6 @@
--- What chunks that lost bits can bring to the sum of their line, a chunk-string or a block: the chunk at place i of the line, its
--- `block`, brings the total of the positions of its ones there, which are i * nc higher than those in the chunk.
+-- What chunks that lost bits can bring to the sum of their line, a chunk-string or a block: the chunk at place i of the
+-- line, its `block`, brings the total of the positions of its ones there, which are i * nc higher than those in the
+-- chunk.
 use Prim.Native.Nat.{ℕ, zero, suc, _+_, _-_, _*_, _^_, _<_, _≤_}
 use mathlib.Core.Path.{_≡_}
 use mathlib.Core.List.{List}
@@ -53,7 +54,8 @@ pub record SeenIn (x : List ℕ) (w : ℕ) (seen : Seen) : Type 0 where
   pub count-small : seen .ones ≤ w
   pub positions-small : seen .total ≤ w * w
 
--- a string that takes the next w bits from a place on and loses so many has at least first and at most last ones more than these
+-- a string that takes the next w bits from a place on and loses so many has at least first and at most last ones more
+-- than these
 pub record MoreOnes (y : List ℕ) (place w lost first last : ℕ) : Type 0 where
   pub least : (v : List ℕ) → AllBits v → length v ≡ w + lost → losses v (drop place y) ≡ lost
       → ones (take w (drop place y)) + first ≤ ones v

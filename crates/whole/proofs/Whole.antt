@@ -1,5 +1,5 @@
--- A row that crosses a column: what its chunks in the heavy blocks bring makes up the sum, and those that lose no bit are read whole and
--- bring what is read. Rests on the laws of the crate column. Assumes nothing.
+-- A row that crosses a column: what its chunks in the heavy blocks bring makes up the sum, and those that lose no bit
+-- are read whole and bring what is read. Rests on the laws of the crate column. Assumes nothing.
 use Prim.Native.Nat.{ℕ, zero, suc, _+_, _-_, _*_, _%_, _<_, _≤_}
 use mathlib.Core.Path.{_≡_, refl, sym, ap, _∙_}
 use mathlib.Core.List.{List}

@@ -51,6 +51,10 @@ legibleIn l size heavy j left s = Legible l size (getD (heavy .block) s 0) (getD
 abbrev pub bringsIn : Layout → (y : List ℕ) → Heavy → (j : ℕ) (left : ℕ → ℕ) (s : ℕ) → ℕ
 bringsIn l y heavy j left s = brings l y (getD (heavy .block) s 0) (getD (heavy .end) s 0) j (left s)
 
+-- of n blocks, block s has one loss left less, and the others have as many
+abbrev pub OneLess : (n : ℕ) (left next : ℕ → ℕ) (s : ℕ) → Type 0
+OneLess n left next s = (next s + 1 ≡ left s) × ((t : ℕ) → t < n → (t ≡ s → ⊥) → next t ≡ left t)
+
 -- in place of what a chunk brings that cannot be read whole: more than a chunk brings
 abbrev pub unread : ℕ
 unread = 65535

@@ -1,4 +1,5 @@
--- `anchor::block_most` meets its contract: a block in hand is compared, a heavy one is bounded by its losses. Assumes nothing.
+-- `anchor::block_most` meets its contract: a block in hand is compared, a heavy one is bounded by its losses. Assumes
+-- nothing.
 use borrow.Author.Needs.{needs}
 use Prim.Native.Nat.{_+_, _*_, _≤_}
 use mathlib.Core.Path.{_≡_, refl, sym, _∙_}
@@ -55,7 +56,8 @@ returns c =
     let l = a .l in (
       λ vs x p q lo hi same.
           let e : over (unlike (values l x) vs) (a .b * l .l2) (l .l2) ≡ c .count-unlike .result =
-          light-bound l (a .y .now) vs (a .desk .now) _ (values l x) (a .row .now) (a .b) (size s .chunks) p refl (s .pre .1 .1 .0)
+          light-bound l (a .y .now) vs (a .desk .now) _ (values l x) (a .row .now) (a .b) (size s .chunks) p refl
+          (s .pre .1 .1 .0)
           (same (c .before .before .if1 .taken))
           ∙ sym (c .count-unlike .ensures .0)
           in
@@ -79,7 +81,9 @@ returns-2 c =
     let a = s .args in
     let l = a .l in (
       λ vs x p q lo hi same.
-          let e = heavy-bound (s .pre .0 .0) x q vs (a .desk .now) p (a .b) (a .d) (a .a) (s .pre .1 .1 .0) (s .pre .1 .1 .1 .0) in
+          let e =
+          heavy-bound (s .pre .0 .0) x q vs (a .desk .now) p (a .b) (a .d) (a .a) (s .pre .1 .1 .0)
+          (s .pre .1 .1 .1 .0) in
           omega (arith, e lo hi, c .count-wide .ensures .0),
       omega (arith, c .count-wide .ensures .1, size s .l2-high, s .pre .1 .1 .1 .1),
     )

@@ -1,5 +1,5 @@
--- `anchor::fill_later` meets its contract. The loop's invariant: the third part of the desk is written for fewer than d losses.
--- Assumes nothing.
+-- `anchor::fill_later` meets its contract. The loop's invariant: the third part of the desk is written for fewer than d
+-- losses. Assumes nothing.
 use borrow.Author.Needs.{needs}
 use Prim.Native.Nat.{_+_, _-_, _≤_}
 use mathlib.Core.Path.{_≡_}
@@ -28,8 +28,13 @@ loop-holds c =
 later-requires : tie.Need-later-requires Inv-loop μ-loop
 later-requires c κs =
     let s = c .before .before .before .before in
-    let p = c .before .before .loop in
-    (s .pre .0, (omega (arith, s .pre .1 .1, p .inv .1 .size), (omega (arith, c .before .loop-test .taken), s .pre .1 .0)))
+    let p = c .before .before .loop in (
+      s .pre .0,
+      (
+        omega (arith, s .pre .1 .1, p .inv .1 .size),
+        (omega (arith, c .before .loop-test .taken), s .pre .1 .0),
+      ),
+    )
 
 slice-aggregate-copy-to : tie.Need-slice-aggregate-copy-to Inv-loop μ-loop
 slice-aggregate-copy-to c = search needs

@@ -1,5 +1,5 @@
--- `anchor::fill_near` meets its contract. The loop's invariant: the second part of the desk is written for the first c chunks. Assumes
--- nothing.
+-- `anchor::fill_near` meets its contract. The loop's invariant: the second part of the desk is written for the first c
+-- chunks. Assumes nothing.
 use borrow.Author.Needs.{needs}
 use Prim.Native.Nat.{_-_, _*_, _≤_}
 use mathlib.Core.Path.{_≡_}

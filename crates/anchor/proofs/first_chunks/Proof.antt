@@ -43,7 +43,8 @@ bits-are : (k : tie.After-unpack) → take (rowBits (start k .args .l) - 0) (k .
 bits-are k =
     let s = start k in
     let n = rowBits (s .args .l) in
-    front-part (first s) (drop n _) (k .unpack .last .1 .1 .0) n (first-row s .0) (rw (sub-zero (bytesFor n)) at (k .unpack .ensures))
+    front-part (first s) (drop n _) (k .unpack .last .1 .1 .0) n (first-row s .0)
+    (rw (sub-zero (bytesFor n)) at (k .unpack .ensures))
 
 mul-n : tie.Need-mul-n
 mul-n c = omega (arith, size (c .before .before .before) .chunks)

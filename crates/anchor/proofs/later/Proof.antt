@@ -1,5 +1,5 @@
--- `anchor::later` meets its contract. The loop's invariant: the count is that of all chunks from block i on, and the entries from
--- entry i on are written. Assumes nothing.
+-- `anchor::later` meets its contract. The loop's invariant: the count is that of all chunks from block i on, and the
+-- entries from entry i on are written. Assumes nothing.
 use borrow.Author.Needs.{needs}
 use Prim.Native.Nat.{_+_, _-_, _*_, _<_, _≤_}
 use mathlib.Core.Path.{_≡_, sym}
@@ -33,8 +33,10 @@ more c =
     let s = c .before .before .before .before .before in
     let l = s .args .l in
     let i = c .before .before .before .loop .i in
-    let n = blocks-next (l .l1) (l .l2) i (omega arith) (omega arith) in
-    (omega (arith, c .count-wide .ensures .1), omega (arith, size s .chunks, blocks-split (l .l1) (l .l2) (i - 1) (omega arith)))
+    let n = blocks-next (l .l1) (l .l2) i (omega arith) (omega arith) in (
+      omega (arith, c .count-wide .ensures .1),
+      omega (arith, size s .chunks, blocks-split (l .l1) (l .l2) (i - 1) (omega arith)),
+    )
 
 loop-holds : tie.Need-loop-holds Inv-loop μ-loop
 loop-holds c =
@@ -83,11 +85,17 @@ loop-again c =
     let p = c .before .before .before .loop in
     let f = wide (a .desk .now) (a .d) (a .k - a .d) in
     let e : p .count + c .count-wide .result ≡ over f ((p .i - 1) * l .l2) ((l .l1 - (p .i - 1)) * l .l2) =
-    omega (arith, sum-next f (l .l1) (l .l2) (p .i) (omega arith) (omega arith), c .count-wide .ensures .0, p .inv .1 .0 .1)
+    omega (
+      arith,
+      sum-next f (l .l1) (l .l2) (p .i) (omega arith) (omega arith),
+      c .count-wide .ensures .0,
+      p .inv .1 .0 .1,
+    )
     in
     let i : p .i - 1 + 1 ≡ p .i = omega arith in
     let low : p .i - 1 < length (p .out) = omega (arith, size s .l1-high) in
-    let all = sums-set f (l .l1) (l .l2) (p .i - 1) (p .count + c .count-wide .result) (p .out) low e (rw i (p .inv .1 .1)) in
+    let all =
+    sums-set f (l .l1) (l .l2) (p .i - 1) (p .count + c .count-wide .result) (p .out) low e (rw i (p .inv .1 .1)) in
     ((omega arith, search needs), ((more c .0, e), all))
 
 returns : tie.Need-returns Inv-loop μ-loop

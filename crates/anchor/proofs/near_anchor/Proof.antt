@@ -52,7 +52,12 @@ long t = leb-true _ _ (both-left _ _ (there t))
 few : (t : tie.At-loop Inv-loop μ-loop) → t .loop .d + length (start t .args .y .now) ≤ rowBits (start t .args .l)
 few t =
     let s = start t in
-    omega (arith, s .pre .1 .1 .1, t .loop .inv .0 .1, total-grows (s .args .t5) (t .loop .b) (s .args .i) (t .loop .inv .0 .0))
+    omega (
+      arith,
+      s .pre .1 .1 .1,
+      t .loop .inv .0 .1,
+      total-grows (s .args .t5) (t .loop .b) (s .args .i) (t .loop .inv .0 .0),
+    )
 
 -- a count is a byte
 byte : (c : tie.After-wide Inv-loop μ-loop) → c .wide .result ≤ 255
@@ -85,8 +90,10 @@ add-least c = omega (arith, bounds (begin (c .before .before)) .r-high)
 loop-holds : tie.Need-loop-holds Inv-loop μ-loop
 loop-holds c =
     let s = begin (c .before .before) in
-    let a = s .args in
-    ((omega arith, sym (total-none (a .t5))), (omega arith, counted-none (s .pre .0) (a .desk .now) (a .t5) (a .row .now) (a .i)))
+    let a = s .args in (
+      (omega arith, sym (total-none (a .t5))),
+      (omega arith, counted-none (s .pre .0) (a .desk .now) (a .t5) (a .row .now) (a .i)),
+    )
 
 array-read-wide : tie.Need-array-read-wide Inv-loop μ-loop
 array-read-wide c = omega (arith, size (start (c .before)) .l1-high, start (c .before) .pre .1 .1 .0)
@@ -136,7 +143,8 @@ loop-again c =
       (omega arith, omega (arith, p .inv .0 .1, k .before .wide .ensures, next)),
       (
         omega (arith, c .if2 .left),
-        counted-next (s .pre .0) (a .desk .now) (a .t5) (a .row .now) (a .i) (p .b) (p .most) (k .block-most .result) (omega arith)
+        counted-next (s .pre .0) (a .desk .now) (a .t5) (a .row .now) (a .i) (p .b) (p .most) (k .block-most .result)
+            (omega arith)
             (omega (arith, size s .l1-high, s .pre .1 .1 .0)) most (p .inv .1 .1),
       ),
     )
@@ -195,7 +203,8 @@ returns-3 c =
     let e : p .b ≡ a .i = omega (arith, c .before .before .before .before .loop-test .left) in
     let d : p .d ≡ inAll (take (a .i) (a .t5)) = p .inv .0 .1 ∙ ap (λ (n : ℕ). inAll (take n (a .t5))) e in
     λ small held x anchored sent own light.
-    counted-known (s .pre .0) (a .desk .now) (a .t5) (a .row .now) (a .i) (p .most) (s .pre .1 .1 .0) (rw e at (p .inv .1 .1))
+    counted-known (s .pre .0) (a .desk .now) (a .t5) (a .row .now) (a .i) (p .most) (s .pre .1 .1 .0)
+    (rw e at (p .inv .1 .1))
     (rw (← d, ← c .wide2 .ensures) (at-most _ _ _ (omega arith) small)) held x (anchored (there t)) sent own light
 
 pub near-anchor-spec : {M : Type 1} → statement M

@@ -1,5 +1,5 @@
--- `anchor::prepare` meets its contract: the chunks are copied to the desk, and the other parts are written after them. Assumes
--- nothing.
+-- `anchor::prepare` meets its contract: the chunks are copied to the desk, and the other parts are written after them.
+-- Assumes nothing.
 use borrow.Author.Needs.{needs}
 use Prim.Native.Nat.{_-_}
 use mathlib.Core.Path.{_≡_, ap, _∙_}
@@ -69,8 +69,13 @@ fill-later-requires : tie.Need-fill-later-requires
 fill-later-requires c κs =
     let q = c .before .before .before in
     let k = copied q in
-    let s = start k in
-    (s .pre .0, (omega (arith, s .pre .1 .1 .0 .1), omega (arith, s .pre .1 .1 .1 .1, same-size k, q .fill-near .ensures .size)))
+    let s = start k in (
+      s .pre .0,
+      (
+        omega (arith, s .pre .1 .1 .0 .1),
+        omega (arith, s .pre .1 .1 .1 .1, same-size k, q .fill-near .ensures .size),
+      ),
+    )
 
 same-length : tie.Need-same-length
 same-length c =
@@ -89,8 +94,10 @@ returns c =
     let a = s .args in
     let n : length (f .first-chunks .last .1 .1 .0) ≡ 255 = search needs in
     prepared (a .l) (a .y .now) _ _ (f .first-chunks .last .1 .1 .0) (a .desk .now) (k .copy-to .last .1 .0)
-    (q .fill-near .last .1 .1 .1 .0) (r .fill-later .last .1 .1 .0) (size s .chunks) (s .pre .1 .1 .0 .0) (s .pre .1 .1 .0 .1)
-    (s .pre .1 .1 .1 .1) (f .first-chunks .ensures) (length-values (a .l) _) n (k .copy-to .ensures) (q .fill-near .ensures)
+    (q .fill-near .last .1 .1 .1 .0) (r .fill-later .last .1 .1 .0) (size s .chunks) (s .pre .1 .1 .0 .0)
+    (s .pre .1 .1 .0 .1)
+    (s .pre .1 .1 .1 .1) (f .first-chunks .ensures) (length-values (a .l) _) n (k .copy-to .ensures)
+    (q .fill-near .ensures)
     (r .fill-later .ensures)
 
 pub prepare-spec : {M : Type 1} → statement M

@@ -1,5 +1,5 @@
--- `anchor::shifts` meets its contract. The loop's invariant: the entries that are written hold, and so does the run, which is the last
--- of them. Assumes nothing.
+-- `anchor::shifts` meets its contract. The loop's invariant: the entries that are written hold, and so does the run,
+-- which is the last of them. Assumes nothing.
 use borrow.Author.Needs.{needs}
 use Prim.Native.Nat.{ℕ, _+_, _-_, _<_, _≤_}
 use mathlib.Core.Path.{_≡_}
@@ -38,8 +38,10 @@ add-d c = search needs
 
 loop-holds : tie.Need-loop-holds Inv-loop μ-loop
 loop-holds c =
-    let a = c .before .args in
-    ((search needs, (omega arith, omega arith)), (λ t i j. absurd (omega arith), runs-none (a .nc) (a .y .now) (a .c) (a .v)))
+    let a = c .before .args in (
+      (search needs, (omega arith, omega arith)),
+      (λ t i j. absurd (omega arith), runs-none (a .nc) (a .y .now) (a .c) (a .v)),
+    )
 
 sub-d : tie.Need-sub-d Inv-loop μ-loop
 sub-d c = search needs
@@ -64,12 +66,14 @@ loop-again c =
     let more = run-more (a .nc) (a .y .now) (a .c) (a .v) (p .d - 1) (p .run) in
     let here : (t : ℕ) → p .d - 1 ≤ t → t < p .d - 1 + c .if1 .run → Reads (a .nc) (a .y .now) (a .c) (a .v) t =
     λ t i j. ⊎-elim
-    (λ w. more (c .before .reads .ensures (w .0 .taken)) (λ u q m. p .inv .1 .0 u (omega arith) (omega arith)) t i (omega arith))
+    (λ w. more (c .before .reads .ensures (w .0 .taken)) (λ u q m. p .inv .1 .0 u (omega arith) (omega arith)) t i
+    (omega arith))
     (λ w. absurd (omega arith))
     (c .if1 .came)
     in
     let low : c .if1 .run + (p .d - 1) ≤ a .k + 1 = ⊎-elim (λ w. omega arith) (λ w. omega arith) (c .if1 .came) in
-    let all = runs-set (a .nc) (a .y .now) (a .c) (a .v) (p .out) (p .d - 1) (c .if1 .run) (omega arith) here (p .inv .1 .1) in
+    let all =
+    runs-set (a .nc) (a .y .now) (a .c) (a .v) (p .out) (p .d - 1) (c .if1 .run) (omega arith) here (p .inv .1 .1) in
     ((search needs, (omega arith, low)), (here, all))
 
 returns : tie.Need-returns Inv-loop μ-loop

@@ -1,5 +1,5 @@
--- `blocks::can_end` meets its contract: the block's total is that of the row with zeros and what its open cells bring. Rests on
--- Cutting.antt. Assumes nothing.
+-- `blocks::can_end` meets its contract: the block's total is that of the row with zeros and what its open cells bring.
+-- Rests on Cutting.antt. Assumes nothing.
 use borrow.Author.Needs.{needs}
 use Prim.Native.Nat.{ℕ, _+_, _*_, _%_, _<_, _≤_}
 use mathlib.Core.Path.{_≡_, refl, sym, ap, _∙_}
@@ -103,20 +103,32 @@ line-sum-requires c κs =
     let long = row-long s in
     let is = is-cut e .1 in
     let all : 255 ≤ length (cut e .cut-out .last .1 .1 .1 .1 .0) =
-    rw is (omega (arith, length-bare (s .args .l) (s .args .cells) (s .args .i) 12 (w .read-on .last .1 .1 .1 .1 .1 .0), w .read-on .ensures .long, long))
+    rw is (omega (
+      arith,
+      length-bare (s .args .l) (s .args .cells) (s .args .i) 12 (w .read-on .last .1 .1 .1 .1 .1 .0),
+      w .read-on .ensures .long,
+      long,
+    ))
     in
     block-inside (s .args .l) (s .pre .0 .0) _ all (s .args .i) (s .pre .1 .1 .1 .0)
 
 mul-missing : tie.Need-mul-missing
 mul-missing c =
     let s = begin (read (c .before .before .before .before)) in
-    record { fits = omega (arith, s .pre .1 .1 .1 .0, sizes (s .args .l) (legal-bounds (s .args .l) (s .pre .0 .0)) .l1-high) }
+    record {
+      fits = omega (
+        arith,
+        s .pre .1 .1 .1 .0,
+        sizes (s .args .l) (legal-bounds (s .args .l) (s .pre .0 .0)) .l1-high,
+      );
+    }
 
 shared-slice-read-missing : tie.Need-shared-slice-read-missing
 shared-slice-read-missing c = begin (read (c .before .before .before .before .before)) .pre .1 .1 .1 .1 .0
 
 cast-missing : tie.Need-cast-missing
-cast-missing c = let s = begin (read (c .before .before .before .before .before)) in record { fits = omega (arith, s .pre .1 .1 .1 .1 .1, block-high s) }
+cast-missing c = let s = begin (read (c .before .before .before .before .before)) in
+    record { fits = omega (arith, s .pre .1 .1 .1 .1 .1, block-high s) }
 
 missing-requires : tie.Need-missing-requires
 missing-requires c κs =
@@ -145,8 +157,10 @@ returns-3 c =
     let sum-is : p .result ≡ sum (line (a .l .nc) (a .i * a .l .l2) 1 (a .l .l2) (bare (a .l) (a .cells) (a .i) 12 out)) =
     p .ensures ∙ ap (λ (u : List ℕ). sum (line (a .l .nc) (a .i * a .l .l2) 1 (a .l .l2) u)) (d .1)
     in
-    let low = rw (← sum-is) at (sum-low (a .l .nc) (a .i * a .l .l2) 1 (a .l .l2) (bare (a .l) (a .cells) (a .i) 12 out)) in
-    let brings = ended-brings x out (w .read-on .ensures .others) (w .read-on .ensures .later vs (x .later) .1) k (d .0) in
+    let low =
+    rw (← sum-is) at (sum-low (a .l .nc) (a .i * a .l .l2) 1 (a .l .l2) (bare (a .l) (a .cells) (a .i) 12 out)) in
+    let brings =
+    ended-brings x out (w .read-on .ensures .others) (w .read-on .ensures .later vs (x .later) .1) k (d .0) in
     let own = ownOf (a .l) (a .i) k vs in
     let all = brought (a .l .nc) (k .chunks .block) own (k .chunks .n) in
     let need = m .missing .ensures .1 all low (rw (← sum-is) at brings) in

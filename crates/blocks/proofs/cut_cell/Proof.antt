@@ -37,8 +37,13 @@ stands c =
     let s = begin c in
     let a = s .args in
     let o = in-open (a .l) (a .t3) (a .i) (a .z) (s .pre .1 .1 .0) (s .pre .1 .1 .1 .0) in
-    let p = s .pre .1 .0 (a .z) (o .0) in
-    (p .1 .0, (p .1 .1, chunk-stands (a .l) (s .pre .0 .0) (a .i) (getD (a .t3 .column) (a .z) 0) (s .pre .0 .1) (p .1 .0) .1 .0))
+    let p = s .pre .1 .0 (a .z) (o .0) in (
+      p .1 .0,
+      (
+        p .1 .1,
+        chunk-stands (a .l) (s .pre .0 .0) (a .i) (getD (a .t3 .column) (a .z) 0) (s .pre .0 .1) (p .1 .0) .1 .0,
+      ),
+    )
 
 mul-row : tie.Need-mul-row
 mul-row c = record { fits = omega (arith, stands (c .before) .1 .1) }

@@ -1,5 +1,5 @@
--- `blocks::cut_out` meets its contract. The loop's invariant: the open cells of the block among those passed are cut out. The measure is
--- what is left of the cells. Rests on Cutting.antt. Assumes nothing.
+-- `blocks::cut_out` meets its contract. The loop's invariant: the open cells of the block among those passed are cut
+-- out. The measure is what is left of the cells. Rests on Cutting.antt. Assumes nothing.
 use borrow.Author.Needs.{needs}
 use Prim.Native.Nat.{ℕ, _+_, _-_, _*_, _<_, _≤_}
 use mathlib.Core.Path.{_≡_, refl, sym, ap, subst, _∙_}

@@ -1,5 +1,5 @@
--- `blocks::read_on` meets its contract. The loop's invariant: the chunks passed are in the row as they are read. The measure is what is
--- left of the columns. Assumes nothing.
+-- `blocks::read_on` meets its contract. The loop's invariant: the chunks passed are in the row as they are read. The
+-- measure is what is left of the columns. Assumes nothing.
 use borrow.Author.Needs.{needs}
 use Prim.Native.Nat.{ℕ, _+_, _-_, _*_, _<_, _≤_}
 use mathlib.Core.Path.{_≡_, refl, sym, ap, _∙_}
@@ -39,7 +39,12 @@ mul-first : tie.Need-mul-first Inv-loop μ-loop
 mul-first c =
     let s = c .before .before in
     let b = legal-bounds (s .args .l) (s .pre .0) in
-    record { fits = omega (arith, chunk-stands (s .args .l) (s .pre .0) (s .args .i) 0 (s .pre .1 .1 .1 .0) (b .l2-low) .1 .0) }
+    record {
+      fits = omega (
+        arith,
+        chunk-stands (s .args .l) (s .pre .0) (s .args .i) 0 (s .pre .1 .1 .1 .0) (b .l2-low) .1 .0,
+      );
+    }
 
 wide-requires : tie.Need-wide-requires Inv-loop μ-loop
 wide-requires c κs = search needs
@@ -120,7 +125,8 @@ loop-again c =
     let at : ℕ = a .i * a .l .l2 + p .loop .c in
     let v = c .number-at .result in
     let room : at < length row = omega (arith, stands t .0, p .loop .inv .0 .1, entry t .pre .1 .1 .1 .1) in
-    let same : (d : ℕ) → (d ≡ p .loop .c → ⊥) → getD (set row at v) (a .i * a .l .l2 + d) 0 ≡ getD row (a .i * a .l .l2 + d) 0 =
+    let same : (d : ℕ) → (d ≡ p .loop .c → ⊥)
+    → getD (set row at v) (a .i * a .l .l2 + d) 0 ≡ getD row (a .i * a .l .l2 + d) 0 =
     λ d n. getD-set-other row at (a .i * a .l .l2 + d) v 0 (λ e. n (omega (arith, e)))
     in (
       (omega (arith, p .loop .inv .0 .0), length-set row at v ∙ p .loop .inv .0 .1),

@@ -49,7 +49,8 @@ returns-3 c =
     λ e.
     record {
       room = c .before .before .before .before .if1 .left;
-      behind = omega (arith, c .before .before .before .if2 .left, c .before .before .before .before .before .wide .ensures);
+      behind =
+          omega (arith, c .before .before .before .if2 .left, c .before .before .before .before .before .wide .ensures);
       next = ap (λ (k : ℕ). k + 1) (c .before .before .before .before .before .wide .ensures);
       count = refl;
       blocks = refl;

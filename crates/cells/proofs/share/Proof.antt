@@ -1,5 +1,5 @@
--- `cells::share` meets its contract. The loop's invariant: what was counted and what is still to be counted is the share. Assumes
--- nothing.
+-- `cells::share` meets its contract. The loop's invariant: what was counted and what is still to be counted is the
+-- share. Assumes nothing.
 use Prim.Native.Nat.{_+_, _-_, _*_, _≤_}
 use mathlib.Core.Path.{_≡_}
 use mathlib.Core.Logic.{⊎-elim}
@@ -31,7 +31,8 @@ array-read-total : tie.Need-array-read-total Inv-loop μ-loop
 array-read-total c = search needs
 
 -- the losses of a cell are a byte
-byte : (c : tie.Then1 Inv-loop μ-loop) → Fits w8 (getD (c .before .before .before .args .t2) (c .before .before .loop .z) 0)
+byte : (c : tie.Then1 Inv-loop μ-loop)
+    → Fits w8 (getD (c .before .before .before .args .t2) (c .before .before .loop .z) 0)
 byte c = search needs
 
 cast-total : tie.Need-cast-total Inv-loop μ-loop

@@ -1,5 +1,5 @@
--- `cells::single` meets its contract. The loop's invariant: no cell that was passed has the only open loss of its key. Assumes
--- nothing.
+-- `cells::single` meets its contract. The loop's invariant: no cell that was passed has the only open loss of its key.
+-- Assumes nothing.
 use Prim.Native.Nat.{ℕ, _-_, _<_, _≤_}
 use mathlib.Core.Path.{_≡_, sym, _∙_}
 use mathlib.Core.Logic.{⊎-elim}

@@ -109,7 +109,8 @@ returns-2 c =
           let p = placed e in
           let j = s .pre .1 .1 .0 in
           let known = known-low (a .l) (a .heavy) row (a .known .now) (a .j) light j in
-          let brings = crosses-brings x (s .pre .0) j (a .known .now) light (chunks .n) (chunks .block) (p .count) (p .blocks) in
+          let brings =
+          crosses-brings x (s .pre .0) j (a .known .now) light (chunks .n) (chunks .block) (p .count) (p .blocks) in
           let need = m .missing .ensures .1 (brought (a .l .nc) (chunks .block) v (chunks .n)) known brings in
           let o = c .before .can-bring .ensures v (crosses-can x p) need in
           absurd (false≢true (sym (not-true _ (c .if2 .taken)) ∙ o)),

@@ -25,7 +25,8 @@ returns : tie.Need-returns
 returns c =
     let k = c .before .before in
     let a = start k .args in
-    let none : ones (take (a .nc) (drop (a .at) (a .y .now))) ≡ 0 = omega (arith, k .look .ensures .count, c .if1 .taken) in
+    let none : ones (take (a .nc) (drop (a .at) (a .y .now))) ≡ 0 =
+    omega (arith, k .look .ensures .count, c .if1 .taken) in
     sym (zeros-number (a .nc) (drop (a .at) (a .y .now)) none)
 
 power-requires : tie.Need-power-requires

@@ -1,5 +1,5 @@
--- `contents::gather` and `contents::gather_bit`, which call each other, meet their contracts. The measure is twice the bits that
--- are left, and one more where a bit before them is matched first. Assumes nothing.
+-- `contents::gather` and `contents::gather_bit`, which call each other, meet their contracts. The measure is twice the
+-- bits that are left, and one more where a bit before them is matched first. Assumes nothing.
 use borrow.Author.Needs.{needs}
 use Prim.Native.Nat.{ℕ, _+_, _-_, _*_, _^_, _<_, _≤_}
 use mathlib.Core.Path.{_≡_}
@@ -58,7 +58,8 @@ more left v n size b h g r =
 gather-returns : (t : ℕ) → gather-lts.Need-returns (gather-claims t) (gather-at t) gather.Post
 gather-returns t c =
     let a = c .before .before .before .args in
-    gathered-none (2 ^ a .left) (a .n) _ (λ w e. ends-few (a .left) (a .v) (a .a) (drop (a .p) (a .y .now)) w (c .if1 .taken) e)
+    gathered-none (2 ^ a .left) (a .n) _
+    (λ w e. ends-few (a .left) (a .v) (a .a) (drop (a .p) (a .y .now)) w (c .if1 .taken) e)
 
 gather-slice-write-out : (t : ℕ) → gather-lts.Need-slice-write-out (gather-claims t) (gather-at t) gather.Post
 gather-slice-write-out t c =
@@ -150,7 +151,8 @@ gather-bit-shared-slice-read-if2 t c = search needs
 gather-bit-add-gather : (t : ℕ) → gather-bit-lts.Need-add-gather (gather-bit-claims t) (gather-bit-at t) gather-bit.Post
 gather-bit-add-gather t c = search needs
 
-gather-bit-gather-requires : (t : ℕ) → gather-bit-lts.Need-gather-requires (gather-bit-claims t) (gather-bit-at t) gather-bit.Post
+gather-bit-gather-requires : (t : ℕ)
+    → gather-bit-lts.Need-gather-requires (gather-bit-claims t) (gather-bit-at t) gather-bit.Post
 gather-bit-gather-requires t c κs = search needs
 
 gather-bit-same-length : (t : ℕ) → gather-bit-lts.Need-same-length (gather-bit-claims t) (gather-bit-at t) gather-bit.Post
@@ -161,7 +163,8 @@ gather-bit-returns t c =
     let n = c .before .before .before .before in
     let a = n .before .before .before .before .before .args in
     gathered-weaken (2 ^ a .left) (a .n) _ (a .out .now) _
-    (λ w e. after-taken (a .b) (a .left) (a .v) (a .a) (a .y .now) (a .p) w (n .before .before .if1 .taken) (n .if2 .taken) e)
+    (λ w e. after-taken (a .b) (a .left) (a .v) (a .a) (a .y .now) (a .p) w (n .before .before .if1 .taken)
+    (n .if2 .taken) e)
     (c .before .before .gather .ensures)
 
 gather-bit-returns-2 : (t : ℕ) → gather-bit-lts.Need-returns-2 (gather-bit-claims t) (gather-bit-at t) gather-bit.Post
@@ -177,7 +180,8 @@ gather-bit-gather-requires-2 : (t : ℕ)
     → gather-bit-lts.Need-gather-requires-2 (gather-bit-claims t) (gather-bit-at t) gather-bit.Post
 gather-bit-gather-requires-2 t c κs = search needs
 
-gather-bit-same-length-2 : (t : ℕ) → gather-bit-lts.Need-same-length-2 (gather-bit-claims t) (gather-bit-at t) gather-bit.Post
+gather-bit-same-length-2 : (t : ℕ)
+    → gather-bit-lts.Need-same-length-2 (gather-bit-claims t) (gather-bit-at t) gather-bit.Post
 gather-bit-same-length-2 t c = search needs
 
 gather-bit-returns-3 : (t : ℕ) → gather-bit-lts.Need-returns-3 (gather-bit-claims t) (gather-bit-at t) gather-bit.Post

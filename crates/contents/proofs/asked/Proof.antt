@@ -1,5 +1,5 @@
--- `contents::asked` meets its contract: the sum of the line with a zero for the chunk and what the chunk brings make its sum.
--- Assumes nothing.
+-- `contents::asked` meets its contract: the sum of the line with a zero for the chunk and what the chunk brings make
+-- its sum. Assumes nothing.
 use borrow.Author.Needs.{needs}
 use Prim.Native.Nat.{_+_, _-_, _*_, _%_, _<_, _≤_}
 use mathlib.Core.Path.{_≡_, _∙_}
@@ -22,8 +22,10 @@ stands : (c : tie.Start) →
 stands c =
     let a = c .args in
     let i = c .pre .0 in
-    let h = c .pre .1 .1 in
-    (omega (arith, field-room (a .count) (a .stride) (a .t) h, i .last), (field-room (a .count) (a .nc) (a .t) h, i .short))
+    let h = c .pre .1 .1 in (
+      omega (arith, field-room (a .count) (a .stride) (a .t) h, i .last),
+      (field-room (a .count) (a .nc) (a .t) h, i .short),
+    )
 
 mul-at : tie.Need-mul-at
 mul-at c = omega (arith, stands c)
@@ -98,7 +100,12 @@ returns c =
     let n = length-line (a .nc) (a .start) (a .stride) (a .count) (set (a .row .now) at 0) in
     let e = rest c .1 in
     let h = stands s in (
-      record { rest = rw e (omega (arith, h .1)); first-low = omega arith; first = omega (arith, h .1); modulus = omega arith },
+      record {
+        rest = rw e (omega (arith, h .1));
+        first-low = omega arith;
+        first = omega (arith, h .1);
+        modulus = omega arith;
+      },
       λ v k. rw e (sum-set (a .nc) (a .start) (a .stride) (a .count) (a .t) (s .pre .1 .1) (a .row .now) (s .pre .1 .0)
           (omega (arith, h .0, row-length c)) v ∙ k),
     )

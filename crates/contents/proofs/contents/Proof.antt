@@ -1,4 +1,5 @@
--- `contents::contents` meets its contract: before the first bit every content of nc bits is still to come. Assumes nothing.
+-- `contents::contents` meets its contract: before the first bit every content of nc bits is still to come. Assumes
+-- nothing.
 use borrow.Author.Needs.{needs}
 use Prim.Native.Nat.{_^_, _≤_}
 use mathlib.Core.Path.{sym, _∙_}

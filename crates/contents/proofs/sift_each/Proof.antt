@@ -72,7 +72,10 @@ loop-again c =
     let more = turn (c .before .before .before .before) .loop-test .taken in
     let low : v .i < length (a .out .now) = omega (arith, s .pre .1 .1) in
     ⊎-elim
-    (λ w. (omega arith, rw (w .1, w .2) (sifted-kept (a .nc) (a .a) (a .out .now) (v .i) (v .out) (v .k) (v .inv .1) low)))
+    (λ w. (
+      omega arith,
+      rw (w .1, w .2) (sifted-kept (a .nc) (a .a) (a .out .now) (v .i) (v .out) (v .k) (v .inv .1) low),
+    ))
     (λ w. (
       omega arith,
       rw (w .1, w .2) (sifted-left (a .nc) (a .a) (a .out .now) (v .i) (v .out) (v .k) (v .inv .1)
@@ -85,8 +88,10 @@ same-length c = c .before .loop .inv .1 .long
 
 returns : tie.Need-returns Inv-loop μ-loop
 returns c =
-    let v = c .before .loop in
-    (omega (arith, v .inv .1 .few), λ w m h. v .inv .1 .all w (m .0, (m .1 .0, (omega (arith, m .1 .1 .0), m .1 .1 .1))) h)
+    let v = c .before .loop in (
+      omega (arith, v .inv .1 .few),
+      λ w m h. v .inv .1 .all w (m .0, (m .1 .0, (omega (arith, m .1 .1 .0), m .1 .1 .1))) h,
+    )
 
 pub sift-each-spec : {M : Type 1} → statement M
 sift-each-spec =

@@ -90,9 +90,11 @@ loop-again c =
     let next : stepAt (s .args .at) (s .args .t + 1) + p .loop .w
     ≡ s .args .at + s .args .t * 13 + 13 + p .loop .w = omega arith in
     rw (← next)
-    (stepping-next _ _ _ _ _ _ _ _ _ _ (p .loop .table) (p .loop .most) (p .loop .w) (d .step-apart .result) _ _ (s .pre .0 .small)
+    (stepping-next _ _ _ _ _ _ _ _ _ _ (p .loop .table) (p .loop .most) (p .loop .w) (d .step-apart .result) _ _
+    (s .pre .0 .small)
     (omega (arith, s .pre .1 .1 .0, p .loop .inv .long)) (d .before .before .loop-test .taken) (p .loop .inv) (k .1 .0)
-    (d .step-apart .ensures .0) (d .step-apart .ensures .1) (rw (k .0) at (c .before .higher .ensures)) (rw (k .0) at (c .higher2 .ensures)))
+    (d .step-apart .ensures .0) (d .step-apart .ensures .1) (rw (k .0) at (c .before .higher .ensures))
+    (rw (k .0) at (c .higher2 .ensures)))
 
 same-length : tie.Need-same-length Inv-loop μ-loop
 same-length c = search needs

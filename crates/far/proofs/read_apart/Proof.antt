@@ -80,8 +80,10 @@ add-if2 c =
 returns-2 : tie.Need-returns-2
 returns-2 c =
     let w = c .before .before .before in
-    let k = chunk-is (chunk-at w) in
-    (omega arith, λ h. absurd (omega (arith, h .1, c .if2 .taken, c .before .before .if1 .left, w .wide2 .ensures, k .0 .1)))
+    let k = chunk-is (chunk-at w) in (
+      omega arith,
+      λ h. absurd (omega (arith, h .1, c .if2 .taken, c .before .before .if1 .left, w .wide2 .ensures, k .0 .1)),
+    )
 
 number-at-requires : tie.Need-number-at-requires
 number-at-requires c κs =

@@ -1,7 +1,7 @@
--- `fill::try_content`, `fill::try_contents` and `fill::try_each`, which call each other, meet their contracts. The measure is
--- thrice the losses that are still open, and more for the functions that find no cell. The loop's invariant: every consistent row
--- under the state whose chunk at the cell is among the contents tried is known. Rests on the laws of steps (found) and of a cell
--- that is found (cells). Assumes nothing.
+-- `fill::try_content`, `fill::try_contents` and `fill::try_each`, which call each other, meet their contracts. The
+-- measure is thrice the losses that are still open, and more for the functions that find no cell. The loop's invariant:
+-- every consistent row under the state whose chunk at the cell is among the contents tried is known. Rests on the laws
+-- of steps (found) and of a cell that is found (cells). Assumes nothing.
 use borrow.Author.Needs.{needs}
 use Prim.Native.Nat.{ℕ, _+_, _-_, _*_, _<_, _≤_}
 use mathlib.Core.Path.{_≡_}
@@ -150,7 +150,8 @@ try-content-same-length t c = search needs
 try-content-returns : (t : ℕ)
     → try-content-lts.Need-returns (try-content-claims t) (try-content-at t) try-content.Post
 try-content-returns t c =
-    grown-weaken (λ x r w. found-under t (c .before .before .before .before) x w) (c .before .before .try-contents .ensures)
+    grown-weaken (λ x r w. found-under t (c .before .before .before .before) x w)
+    (c .before .before .try-contents .ensures)
 
 try-contents-few-erased-requires : (t : ℕ)
     → try-contents-lts.Need-few-erased-requires (try-contents-claims t) (try-contents-at t) try-contents.Post
@@ -209,7 +210,8 @@ try-contents-returns-2 t c = c .before .before .try-each .ensures
 
 abbrev try-each-Inv-loop : try-each-lts.InvT-loop
 try-each-Inv-loop l y numbers cells row z cap list₀ tried n held₀ u₀ list held u =
-    Grown l numbers y cap (Tried l y cells row z tried u) list₀ (held₀ .count) (held₀ .more) list (held .count) (held .more)
+    Grown l numbers y cap (Tried l y cells row z tried u) list₀ (held₀ .count) (held₀ .more) list (held .count)
+    (held .more)
 
 abbrev try-each-μ-loop : try-each-lts.MeasureT-loop
 try-each-μ-loop l y numbers cells row z cap list₀ tried n held₀ u₀ list held u = 256 - u
@@ -220,7 +222,8 @@ try-each-slice-aggregate-list-contents : (t : ℕ)
 try-each-slice-aggregate-list-contents t c = search needs
 
 try-each-list-contents-requires : (t : ℕ)
-    → try-each-lts.Need-list-contents-requires (try-each-claims t) (try-each-at t) try-each.Post try-each-Inv-loop try-each-μ-loop
+    → try-each-lts.Need-list-contents-requires (try-each-claims t) (try-each-at t) try-each.Post try-each-Inv-loop
+    try-each-μ-loop
 try-each-list-contents-requires t c κs =
     let s = c .before .before .before .before in
     (s .pre .1 .0, (s .pre .1 .1 .1, search needs))
@@ -238,14 +241,19 @@ try-each-loop-holds t c =
     grown-nothing (s .pre .1 .1 .0) (λ x r b. omega (arith, b .1 .1 .1 .0))
 
 try-each-array-read-try-content : (t : ℕ)
-    → try-each-lts.Need-array-read-try-content (try-each-claims t) (try-each-at t) try-each.Post try-each-Inv-loop try-each-μ-loop
-try-each-array-read-try-content t c = omega (arith, c .loop-test .taken, c .before .before .before .list-contents .ensures .0)
+    → try-each-lts.Need-array-read-try-content (try-each-claims t) (try-each-at t) try-each.Post try-each-Inv-loop
+    try-each-μ-loop
+try-each-array-read-try-content t c =
+    omega (arith, c .loop-test .taken, c .before .before .before .list-contents .ensures .0)
 
 try-each-try-content-requires : (t : ℕ)
-    → try-each-lts.Need-try-content-requires (try-each-claims t) (try-each-at t) try-each.Post try-each-Inv-loop try-each-μ-loop
+    → try-each-lts.Need-try-content-requires (try-each-claims t) (try-each-at t) try-each.Post try-each-Inv-loop
+    try-each-μ-loop
 try-each-try-content-requires t c κs =
-    let s = try-each-start t (c .before .before .before .before) in
-    (omega (arith, s .pre .0), (s .pre .1 .0, (grown-holding (s .pre .1 .1 .0) (c .before .before .loop .inv), s .pre .1 .1 .1)))
+    let s = try-each-start t (c .before .before .before .before) in (
+      omega (arith, s .pre .0),
+      (s .pre .1 .0, (grown-holding (s .pre .1 .1 .0) (c .before .before .loop .inv), s .pre .1 .1 .1)),
+    )
 
 try-each-add-u : (t : ℕ)
     → try-each-lts.Need-add-u (try-each-claims t) (try-each-at t) try-each.Post try-each-Inv-loop try-each-μ-loop

@@ -1,5 +1,5 @@
--- `fill::add_recovered` meets its contract: every consistent row under the state is the one that was recovered, so its open cells
--- lose just their counts there. Assumes nothing.
+-- `fill::add_recovered` meets its contract: every consistent row under the state is the one that was recovered, so its
+-- open cells lose just their counts there. Assumes nothing.
 use borrow.Author.Needs.{needs}
 use borrow.Author.Tests.{not-true}
 use mathlib.Core.Path.{sym, _∙_}

@@ -1,4 +1,5 @@
--- `fill::all_lose` meets its contract: where it says no, it has come to an open cell that loses another count. Assumes nothing.
+-- `fill::all_lose` meets its contract: where it says no, it has come to an open cell that loses another count. Assumes
+-- nothing.
 use borrow.Author.Needs.{needs}
 use borrow.Author.Tests.{eqb-false, not-true}
 use Prim.Native.Nat.{_-_, _≤_}

@@ -1,5 +1,5 @@
--- `fill::choose` meets its contract. The loop's invariant: the best cell so far is open, and where there is none no cell passed
--- is. Assumes nothing.
+-- `fill::choose` meets its contract. The loop's invariant: the best cell so far is open, and where there is none no
+-- cell passed is. Assumes nothing.
 use borrow.Author.Needs.{needs}
 use borrow.Author.Count.{below-more}
 use Prim.Native.Nat.{ℕ, zero, suc, _-_, _<_, _≤_}
@@ -41,8 +41,10 @@ loop-again c =
     let r = c .before .rank .ensures in
     ⊎-elim
     (λ w.
-    rw (w .1, w .2)
-    (omega arith, (λ h. r .1 .1 (omega (arith, w .0 .taken)), λ e. absurd (omega (arith, c .before .before .loop-test .taken)))))
+    rw (w .1, w .2) (
+      omega arith,
+      (λ h. r .1 .1 (omega (arith, w .0 .taken)), λ e. absurd (omega (arith, c .before .before .loop-test .taken))),
+    ))
     (λ w.
     rw (w .1, w .2) (
       omega arith,

@@ -16,8 +16,10 @@ add-t6 c = search needs
 
 returns : tie.Need-returns
 returns c =
-    let k = c .before .before .before in
-    (λ few. absurd (omega (arith, few)), λ closed. absurd (omega (arith, k .open-cells .ensures .1 closed, c .before .if1 .taken)))
+    let k = c .before .before .before in (
+      λ few. absurd (omega (arith, few)),
+      λ closed. absurd (omega (arith, k .open-cells .ensures .1 closed, c .before .if1 .taken)),
+    )
 
 collect-requires : tie.Need-collect-requires
 collect-requires c κs = search needs

@@ -1,5 +1,5 @@
--- `fill::list_contents` meets its contract: the row's own content loses just the cell's count, and its sums allow it. Assumes
--- nothing.
+-- `fill::list_contents` meets its contract: the row's own content loses just the cell's count, and its sums allow it.
+-- Assumes nothing.
 use borrow.Author.Needs.{needs}
 use Prim.Native.Nat.{_+_, _<_}
 use mathlib.Core.Path.{_≡_}

@@ -22,7 +22,8 @@ wide-requires : tie.Need-wide-requires
 wide-requires c κs = search needs
 
 returns : tie.Need-returns
-returns c = (omega arith, (λ h. absurd (omega (arith, c .before .wide .ensures, c .if1 .taken)), λ h. absurd (omega arith)))
+returns c =
+    (omega arith, (λ h. absurd (omega (arith, c .before .wide .ensures, c .if1 .taken)), λ h. absurd (omega arith)))
 
 alone-requires : tie.Need-alone-requires
 alone-requires c κs = search needs

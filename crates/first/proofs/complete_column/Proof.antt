@@ -13,13 +13,15 @@ use Rattle.first.proofs.complete_column.Statement.{statement}
 use Rattle.first.proofs.complete_column.Tie as tie
 
 abbrev Inv-loop : tie.InvT-loop
-Inv-loop l y totals counts numbers heavy known shape digits before after room j at base marks₀ columns n states strides readings levels₀
+Inv-loop l y totals counts numbers heavy known shape digits before after room j at base marks₀ columns n states strides
+    readings levels₀
     most₀ q₀ marks levels highest q =
     Completing l y numbers heavy known shape j at base marks₀
     (λ left. room ≤ most columns before after (each (shape .size)) left j (shape .n)) marks levels highest q
 
 abbrev μ-loop : tie.MeasureT-loop
-μ-loop l y totals counts numbers heavy known shape digits before after room j at base marks₀ columns n states strides readings levels₀
+μ-loop l y totals counts numbers heavy known shape digits before after room j at base marks₀ columns n states strides
+    readings levels₀
     most₀ q₀ marks levels highest q = states - q
 
 -- where the function starts, seen from where the slices are known, from where the readings are made, and from the loop
@@ -164,9 +166,11 @@ loop-again c =
     let s = begin i in
     let p = s .pre in
     let found = entryOf (s .args .digits .now) (i .loop .q) in
-    completing-next _ _ _ _ _ _ _ _ _ _ _ (p .1 .1 .0) (p .1 .1 .1 .1 .1 .0) (p .1 .1 .1 .1 .1 .1) (i .loop .marks) (i .loop
+    completing-next _ _ _ _ _ _ _ _ _ _ _ (p .1 .1 .0) (p .1 .1 .1 .1 .1 .0) (p .1 .1 .1 .1 .1 .1) (i .loop .marks)
+    (i .loop
     .levels)
-    (i .loop .highest) (i .loop .q) found (v .level-of .result) (d .far-level .result) (f .first-mark .result) (c .higher .result)
+    (i .loop .highest) (i .loop .q) found (v .level-of .result) (d .far-level .result) (f .first-mark .result)
+    (c .higher .result)
     (i .loop .inv) (t .loop-test .taken)
     record {
       digits = λ own w e. entry-is (p .1 .1 .0) (p .1 .1 .1 .0) own w (i .loop .q) e;

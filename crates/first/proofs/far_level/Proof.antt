@@ -32,7 +32,8 @@ returns-2 c left w e room =
       c .if2 .taken,
       room,
       m .most-apart .ensures (λ k h. omega (arith, same k h, w k h)),
-      most-same (a .columns) (a .before .now) (a .after .now) (each (a .shape .size)) (each (d .digits-of .result)) left (a .j)
+      most-same (a .columns) (a .before .now) (a .after .now) (each (a .shape .size)) (each (d .digits-of .result)) left
+          (a .j)
           (a .shape .n) same,
     ))
 

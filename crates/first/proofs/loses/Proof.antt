@@ -11,8 +11,7 @@ use borrow.Author.Needs.{needs}
 use lib.ListN.{getD}
 use Rattle.states.specs.States.{each}
 use Rattle.column.specs.Column.{Light, Crosses}
-use Rattle.whole.specs.Whole.{readSum}
-use Rattle.first.specs.First.{OneLess}
+use Rattle.whole.specs.Whole.{OneLess, readSum}
 use Rattle.first.proofs.loses.Statement.{statement}
 use Rattle.first.proofs.loses.Tie as tie
 
@@ -87,7 +86,8 @@ loop-again c =
 
 returns-2 : tie.Need-returns-2 Inv-loop μ-loop
 returns-2 c row vs known next s h light sum crosses one low mark =
-    absurd (c .before .loop .inv .1 s (omega (arith, h, c .loop-test .left)) row vs known next light sum crosses one low mark)
+    absurd (c .before .loop .inv .1 s (omega (arith, h, c .loop-test .left)) row vs known next light sum crosses one low
+    mark)
 
 pub loses-spec : {M : Type 1} → statement M
 loses-spec =

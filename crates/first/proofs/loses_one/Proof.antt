@@ -1,4 +1,5 @@
--- `first::loses_one` meets its contract: with the reading of the chunk taken away, what it brings is weighed. Assumes nothing.
+-- `first::loses_one` meets its contract: with the reading of the chunk taken away, what it brings is weighed. Assumes
+-- nothing.
 use Prim.Native.Nat.{ℕ, _+_, _-_, _*_, _%_, _<_, _≤_}
 use mathlib.Core.Path.{_≡_, sym, ap, _∙_}
 use native.Mathlib.Nat.{mul-le-mul-right}
@@ -55,7 +56,8 @@ cast-reading c = omega (arith, c .shared-slice-known6 .given (taken c .args .s *
 
 -- what is read is the entry for the losses left, and no more than all entries together
 entry : (c : tie.After-shared-slice-known6) → let a = taken c .args in
-    (getD (a .readings .now) (a .s * 13 + c .before .wide .result) 0 ≡ getD (a .readings .now) (entryAt (a .s) (getD (a .t9) (a .s) 0)) 0)
+    (getD (a .readings .now) (a .s * 13 + c .before .wide .result) 0
+    ≡ getD (a .readings .now) (entryAt (a .s) (getD (a .t9) (a .s) 0)) 0)
     × (getD (a .readings .now) (entryAt (a .s) (getD (a .t9) (a .s) 0)) 0 ≤ readSum (a .readings .now) (a .t9) (a .t6 .n))
 entry c =
     let s = taken c in
@@ -119,7 +121,8 @@ returns c row vs known next light sum crosses one =
     let but = firsts-but tab own (a .t6 .n) (a .s) h
     (λ t k d.
     let kept = one .1 t k d in
-    s .pre .0 .1 .1 .1 .0 t (getD (a .t9) t 0) k (omega arith) (kept-legible crosses t k kept) ∙ sym (kept-read crosses t k kept)) in
+    s .pre .0 .1 .1 .1 .0 t (getD (a .t9) t 0) k (omega arith) (kept-legible crosses t k kept)
+    ∙ sym (kept-read crosses t k kept)) in
     let e : a .part - getD (a .readings .now) (a .s * 13 + r .before .wide .result) 0 + own (a .s)
     ≡ getD known (a .j) 0 + firsts own (a .t6 .n) =
     omega (arith, sum, but, entry r .0, entry r .1)

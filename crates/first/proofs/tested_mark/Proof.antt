@@ -28,12 +28,14 @@ begin c = start (c .before)
 
 -- the losses left are those of the state, and few
 left-is : (c : tie.After-digits-of) → let a = begin c .args in (s : ℕ) → s < a .heavy .n
-    → (entryOf (a .digits .now) (a .q) s ≡ each (c .digits-of .result) s) × (each (c .digits-of .result) s ≤ each (a .shape .size) s)
+    → (entryOf (a .digits .now) (a .q) s ≡ each (c .digits-of .result) s)
+    × (each (c .digits-of .result) s ≤ each (a .shape .size) s)
 left-is c s h =
     let p = begin c .pre in
     let t = p .0 .0 in
     let e = c .digits-of .ensures s (omega (arith, h, t .fit .few)) in
-    let low = entry-low (t .kept .shaped .all) (p .0 .1 .1) (begin c .args .q) (p .1 .0) s (omega (arith, h, t .kept .blocks)) in
+    let low =
+    entry-low (t .kept .shaped .all) (p .0 .1 .1) (begin c .args .q) (p .1 .0) s (omega (arith, h, t .kept .blocks)) in
     (sym e, omega (arith, e, low))
 
 digits-of-requires : tie.Need-digits-of-requires
@@ -62,7 +64,13 @@ add-part : tie.Need-add-part
 add-part c =
     let d = c .before .before in
     record {
-      fits = omega (arith, c .all .ensures .1, begin d .pre .0 .0 .fit .few, c .before .shared-slice-known9 .given (begin d .args .j));
+      fits =
+          omega (
+            arith,
+            c .all .ensures .1,
+            begin d .pre .0 .0 .fit .few,
+            c .before .shared-slice-known9 .given (begin d .args .j),
+          );
     }
 
 add-stays : tie.Need-add-stays
@@ -125,19 +133,24 @@ returns-3 c =
     record {
       high = λ h. absurd (omega arith);
       same = λ row vs next light crosses same v m.
-          let x = crosses-same (a .l) (a .y .now) (a .numbers .now) (a .heavy) row (a .j) vs left found next next same-left (λ i k. refl)
+          let x =
+          crosses-same (a .l) (a .y .now) (a .numbers .now) (a .heavy) row (a .j) vs left found next next same-left
+          (λ i k. refl)
           crosses in
           let kept : (k : ℕ) → k < a .heavy .n → next k ≡ found k = λ k h. same k h ∙ same-left k h in
           let read = firsts-same (λ k. getD (a .readings .now) (entryAt k (found k)) 0) (weightOf x) (a .heavy .n)
-          (λ k h. t .read k (found k) h (left-is d k h .1) (kept-legible x k h (kept k h)) ∙ sym (kept-read x k h (kept k h))) in
-          let all : getD (a .known .now) (a .j) 0 + u .all .result ≡ getD (a .known .now) (a .j) 0 + firsts (weightOf x) (a .heavy .n) =
+          (λ k h. t .read k (found k) h (left-is d k h .1) (kept-legible x k h (kept k h))
+          ∙ sym (kept-read x k h (kept k h))) in
+          let all : getD (a .known .now) (a .j) 0 + u .all .result
+          ≡ getD (a .known .now) (a .j) 0 + firsts (weightOf x) (a .heavy .n) =
           omega (arith, part, read)
           in
           let sum = ap (λ (n : ℕ). n % modulus (a .l)) all ∙ weights-sum x (t .fit) (t .column) (a .known .now) light in
           absurd (false≢true (sym (c .before .before .if1 .left) ∙ g .stays .ensures sum m));
       one = λ row vs next k h light crosses one low v m.
           absurd (false≢true (sym (c .if2 .left) ∙ c .before .loses .ensures row vs (a .known .now) next k h light part
-          (crosses-same (a .l) (a .y .now) (a .numbers .now) (a .heavy) row (a .j) vs left found next next same-left (λ i k. refl) crosses)
+          (crosses-same (a .l) (a .y .now) (a .numbers .now) (a .heavy) row (a .j) vs left found next next same-left
+          (λ i k. refl) crosses)
           (one .0 ∙ same-left k h, λ i k o. one .1 i k o ∙ same-left i k) low m));
     }
 

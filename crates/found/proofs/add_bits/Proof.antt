@@ -1,4 +1,5 @@
--- `found::add_bits` meets its contract: a row that fails the test is not consistent, one that passes is added. Assumes nothing.
+-- `found::add_bits` meets its contract: a row that fails the test is not consistent, one that passes is added. Assumes
+-- nothing.
 use borrow.Author.Needs.{needs}
 use borrow.Author.Tests.{not-true, not-false}
 use mathlib.Core.Path.{sym, _∙_}

@@ -1,5 +1,5 @@
--- `found::add_row` meets its contract: the bits spread from the chunks in hand are the only row with these chunks. Assumes
--- nothing.
+-- `found::add_row` meets its contract: the bits spread from the chunks in hand are the only row with these chunks.
+-- Assumes nothing.
 use borrow.Author.Needs.{needs}
 use Prim.Native.Nat.{ℕ, _+_, _-_, _*_}
 use mathlib.Core.Path.{_≡_, _∙_, sym, subst}
@@ -77,7 +77,8 @@ bits-are : (c : tie.After-add-bits-arg2) → bits c ≡ handBits (start c .args 
 bits-are c =
     let a = start c .args in
     let k = c .before .before .before .before .spread in
-    front-part (handBits (a .l) (a .t4)) (drop (0 + rowBits (a .l)) _) (k .last .1 .1 .1 .1 .1 .0) (rowBits (a .l)) (hand-row (a .l) (a .t4) .0) (k .ensures)
+    front-part (handBits (a .l) (a .t4)) (drop (0 + rowBits (a .l)) _) (k .last .1 .1 .1 .1 .1 .0) (rowBits (a .l))
+    (hand-row (a .l) (a .t4) .0) (k .ensures)
 
 add-bits-requires : tie.Need-add-bits-requires
 add-bits-requires c κs =

@@ -65,7 +65,8 @@ returns c =
     let k = c .before .before in
     let i = k .before in
     let s = start i in
-    grown-packed (s .pre .0) (s .args .x .now) (s .pre .1 .0 .0) (bytes i) (bytes-are i) (s .pre .1 .1) (s .pre .1 .0) (k .insert .ensures)
+    grown-packed (s .pre .0) (s .args .x .now) (s .pre .1 .0 .0) (bytes i) (bytes-are i) (s .pre .1 .1) (s .pre .1 .0)
+    (k .insert .ensures)
 
 pub add-sent-spec : {M : Type 1} → statement M
 add-sent-spec =

@@ -61,8 +61,8 @@ called t = (
   next-try-reads.Learnt,
 )
 
--- places of the code: the entry, after the blocks that are read, the test whether these are all, the loop, and a turn in which a block
--- was tried
+-- places of the code: the entry, after the blocks that are read, the test whether these are all, the loop, and a turn
+-- in which a block was tried
 abbrev Start : ℕ → Type 0
 Start t = prolong-lts.Start (called t) (prolong-at t) prolong.Post prolong-Inv-loop prolong-μ-loop
 

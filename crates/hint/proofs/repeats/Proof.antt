@@ -37,7 +37,8 @@ loop-less c = search needs
 loop-again : tie.Need-loop-again Inv-loop μ-loop
 loop-again c =
     let p = c .before .before .before .before .loop in
-    let few : (c .if1 .unlike ≤ p .unlike + 1) = ⊎-elim (λ w. omega (arith, w .1)) (λ w. omega (arith, w .1)) (c .if1 .came) in
+    let few : (c .if1 .unlike ≤ p .unlike + 1) =
+    ⊎-elim (λ w. omega (arith, w .1)) (λ w. omega (arith, w .1)) (c .if1 .came) in
     (omega (arith, p .inv, few), omega (arith, p .inv, few))
 
 mul-result : tie.Need-mul-result Inv-loop μ-loop

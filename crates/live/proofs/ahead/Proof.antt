@@ -123,7 +123,8 @@ remake-requires c κs =
     (p .0, (t .loop-test .taken, (p .1 .0, (p .1 .1 .0, (omega arith, (omega arith, f .floors-of .ensures .low))))))
 
 -- a row that is not near counts no less than the floor of its state in the next column
-floor : (c : tie.After-floors-of Inv-loop μ-loop) → let i = c .before .before .before in let s = begin i in let a = s .args in
+floor : (c : tie.After-floors-of Inv-loop μ-loop) → let i = c .before .before .before in let s = begin i in
+    let a = s .args in
     let j = i .loop .j in (row vs : List ℕ) (own : ℕ → ℕ → ℕ)
     → Path (a .l) (a .y .now) (a .numbers .now) (a .heavy) row (each (a .shape .size)) vs own
     → a .room ≤ apartFrom (a .l) (a .heavy) (a .z .now) vs 0
@@ -138,7 +139,8 @@ floor c row vs own path far =
     let kept = s .pre .1 .0 in
     let inside : j + 1 ≤ a .l .l2 = omega (arith, t .loop-test .taken) in
     let next = before-next (a .l) (a .heavy) (a .z .now) vs j in
-    let some : a .room ≤ apartBefore (a .l) (a .heavy) (a .z .now) vs j + apartIn (a .l) (a .heavy) (a .z .now) vs j (a .heavy .n)
+    let some : a .room ≤ apartBefore (a .l) (a .heavy) (a .z .now) vs j + apartIn (a .l) (a .heavy) (a .z .now) vs j
+    (a .heavy .n)
     + mostAfter (a .l .l2) (a .after .now) (own (j + 1)) (j + 1) (a .shape .n) =
     ⊎-elim
     (λ far-some.
@@ -146,7 +148,8 @@ floor c row vs own path far =
       arith,
       far,
       next,
-      after-covers (a .l) (a .y .now) (a .numbers .now) (a .heavy) row (a .shape) vs own kept path (a .z .now) (a .after .now)
+      after-covers (a .l) (a .y .now) (a .numbers .now) (a .heavy) row (a .shape) vs own kept path (a .z .now)
+          (a .after .now)
           (s .pre .1 .1 .1 .0 .1 far-some) (j + 1) inside,
     ))
     (λ none. omega (arith, none))
@@ -159,8 +162,10 @@ floor c row vs own path far =
 turned : (c : tie.After-floors-of Inv-loop μ-loop) (marks : List ℕ)
     → let i = c .before .before .before in let s = begin i in let a = s .args in let j = i .loop .j in
     Remade (a .shape .states) ((j + 1) * a .shape .states) (i .loop .marks) marks
-    → ((left : ℕ → ℕ) → Within (a .shape) left → 0 < getD (i .loop .marks) ((j + 1) * a .shape .states + stateOf (a .shape) left) 0
-    → Regained (a .l) (a .y .now) (a .numbers .now) (a .heavy) (a .known .now) (a .z .now) (a .shape) j true (i .loop .marks)
+    → ((left : ℕ → ℕ) → Within (a .shape) left
+    → 0 < getD (i .loop .marks) ((j + 1) * a .shape .states + stateOf (a .shape) left) 0
+    → Regained (a .l) (a .y .now) (a .numbers .now) (a .heavy) (a .known .now) (a .z .now) (a .shape) j true
+    (i .loop .marks)
     (j * a .shape .states) (getD (c .floors-of .result) (stateOf (a .shape) left) 0) left
     (getD marks ((j + 1) * a .shape .states + stateOf (a .shape) left) 0))
     → (row vs : List ℕ) (own : ℕ → ℕ → ℕ) → Light (a .l) (a .heavy) row (a .known .now)
@@ -175,11 +180,14 @@ turned c marks remade regained row vs own light path far passing =
     let a = s .args in
     let k = t .loop-test .taken in
     let j = i .loop .j in
-    passing-next (a .l) (a .y .now) (a .numbers .now) (a .heavy) row (a .shape) vs own (s .pre .1 .0) path (a .known .now) (a .z .now)
-    j true (j + 1) j (i .loop .marks) marks (c .floors-of .result) (apartBefore (a .l) (a .heavy) (a .z .now) vs) (λ u. u ≤ j)
+    passing-next (a .l) (a .y .now) (a .numbers .now) (a .heavy) row (a .shape) vs own (s .pre .1 .0) path
+    (a .known .now) (a .z .now)
+    j true (j + 1) j (i .loop .marks) marks (c .floors-of .result) (apartBefore (a .l) (a .heavy) (a .z .now) vs)
+    (λ u. u ≤ j)
     (λ u. u ≤ j + 1) (omega (arith, k)) (omega (arith, k)) remade regained
     record { row = row; light = light; forth = λ e. path .crosses j k; back = λ e. absurd (true≢false e) }
-    (omega (arith, before-next (a .l) (a .heavy) (a .z .now) vs j)) (floor c row vs own path far) (omega arith) (split-up j) passing
+    (omega (arith, before-next (a .l) (a .heavy) (a .z .now) vs j)) (floor c row vs own path far) (omega arith)
+    (split-up j) passing
 
 -- the marks at entry let a row through, and so they do where the loop starts
 lets-in : (c : tie.At-loop Inv-loop μ-loop) → let s = begin c in let a = s .args in
@@ -194,7 +202,8 @@ lets-in c row vs own light path far through =
     let kept = s .pre .1 .0 in
     let first = own-first (a .l) (a .y .now) (a .numbers .now) (a .heavy) row (a .shape) vs own kept path in
     let q : stateOf (a .shape) (own 0) ≡ a .shape .states - 1 = omega arith in
-    let lets = through-lets (a .l) (a .y .now) (a .numbers .now) (a .heavy) row (a .shape) vs own kept path (a .marks .now)
+    let lets =
+    through-lets (a .l) (a .y .now) (a .numbers .now) (a .heavy) row (a .shape) vs own kept path (a .marks .now)
     (s .pre .1 .1 .1 .1) through in
     c .loop .inv .1 row vs own light path far
     (only-lets (a .l) (a .y .now) (a .numbers .now) (a .heavy) row (a .shape) vs own kept path 0 0 (a .shape .states - 1)
@@ -226,7 +235,8 @@ none-left c row vs own light path far through =
       arith,
       c .if1 .taken,
       m .1 .0 (stateOf (a .shape) (own (j + 1)))
-          (own-low (a .l) (a .y .now) (a .numbers .now) (a .heavy) row (a .shape) vs own (s .pre .1 .0) path (j + 1) inside),
+          (own-low (a .l) (a .y .now) (a .numbers .now) (a .heavy) row (a .shape) vs own (s .pre .1 .0) path (j + 1)
+          inside),
       passed .lets (j + 1) inside,
     )
 

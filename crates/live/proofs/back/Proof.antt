@@ -118,12 +118,14 @@ loop-again c =
           omega (
             arith,
             s .pre .1 .0 .few,
-            own-low (a .l) (a .y .now) (a .numbers .now) (a .heavy) row (a .shape) vs own (s .pre .1 .0) path j (omega (arith, k, h)),
+            own-low (a .l) (a .y .now) (a .numbers .now) (a .heavy) row (a .shape) vs own (s .pre .1 .0) path j
+                (omega (arith, k, h)),
           )
           in
           passing-next (a .l) (a .y .now) (a .numbers .now) (a .heavy) row (a .shape) vs own (s .pre .1 .0) path (a
           .known .now) (a .z .now)
-          j false j (j + 1) (i .loop .marks) _ (replicate mostStates 0) (apartFrom (a .l) (a .heavy) (a .z .now) vs) (λ t. j + 1 ≤ t) (λ t. j ≤
+          j false j (j + 1) (i .loop .marks) _ (replicate mostStates 0) (apartFrom (a .l) (a .heavy) (a .z .now) vs)
+          (λ t. j + 1 ≤ t) (λ t. j ≤
           t)
           (omega (arith, k, h)) (omega (arith, k, h)) (r .remake .ensures .0) (r .remake .ensures .1 .1)
           record {

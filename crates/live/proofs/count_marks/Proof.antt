@@ -47,10 +47,14 @@ returns-2 c =
     let h = b .before .before .before .before .before in
     let a = begin h .args in
     let p = pass-then (a .l) (a .y .now) (a .numbers .now) (a .heavy) (a .known .now) (a .z .now) (a .shape) (a .room)
-    (apartBefore (a .l) (a .heavy) (a .z .now)) (a .marks .now) _ (h .ahead .ensures .0) (apartFrom (a .l) (a .heavy) (a .z .now)) _
+    (apartBefore (a .l) (a .heavy) (a .z .now)) (a .marks .now) _ (h .ahead .ensures .0)
+    (apartFrom (a .l) (a .heavy) (a .z .now)) _
     (b .back .ensures) in (
       refl,
-      λ row vs own light path far through. (λ e. absurd (false≢true e), λ e. p .through row vs own light path far through),
+      λ row vs own light path far through. (
+        λ e. absurd (false≢true e),
+        λ e. p .through row vs own light path far through,
+      ),
     )
 
 pub count-marks-spec : {M : Type 1} → statement M

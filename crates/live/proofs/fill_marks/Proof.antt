@@ -77,7 +77,10 @@ count-blocks-requires c κs =
     let blocks = s .pre .1 .0 .blocks in
     let room = c .before .before .before .if2 .left in (
       (s .pre .0 .fit, s .pre .0 .all),
-      (λ k h. small c k (omega (arith, blocks, h)), (rw (← blocks) (omega (arith, room)), rw (← blocks) (omega (arith, room)))),
+      (
+        λ k h. small c k (omega (arith, blocks, h)),
+        (rw (← blocks) (omega (arith, room)), rw (← blocks) (omega (arith, room))),
+      ),
     )
 
 slice-aggregate-make-marks : tie.Need-slice-aggregate-make-marks
@@ -98,8 +101,18 @@ make-marks-requires c κs =
         s .pre .1 .0,
         (
           (
-            record { narrow = narrow s; few = few; small = small b; long = omega (arith, room, t .count-blocks .ensures .0 .0) },
-            record { narrow = narrow s; few = few; small = small b; long = omega (arith, room, t .count-blocks .ensures .0 .1) },
+            record {
+              narrow = narrow s;
+              few = few;
+              small = small b;
+              long = omega (arith, room, t .count-blocks .ensures .0 .0);
+            },
+            record {
+              narrow = narrow s;
+              few = few;
+              small = small b;
+              long = omega (arith, room, t .count-blocks .ensures .0 .1);
+            },
           ),
           (t .count-blocks .ensures .1, s .pre .1 .1),
         ),

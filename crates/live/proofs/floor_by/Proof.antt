@@ -23,7 +23,8 @@ cast-result : tie.Need-cast-result
 cast-result c = record { fits = omega (arith, c .if2 .left, c .before .wide .ensures) }
 
 returns-3 : tie.Need-returns-3
-returns-3 c = (omega (arith, c .if2 .left, c .before .wide .ensures), λ n h. omega (arith, h, c .before .before .if1 .left))
+returns-3 c =
+    (omega (arith, c .if2 .left, c .before .wide .ensures), λ n h. omega (arith, h, c .before .before .if1 .left))
 
 pub floor-by-spec : {M : Type 1} → statement M
 floor-by-spec =

@@ -28,7 +28,9 @@ returns-2 c =
     let d = m .before in
     let s = d .before .before .before .before in
     let a = s .args in
-    let same = after-same (a .columns) (a .after .now) (each (d .digits-of .result)) (entryOf (a .digits .now) (a .q)) (a .j) (a .shape .n)
+    let same =
+    after-same (a .columns) (a .after .now) (each (d .digits-of .result)) (entryOf (a .digits .now) (a .q)) (a .j)
+    (a .shape .n)
     (λ k h. d .digits-of .ensures k (omega (arith, s .pre .0 .few))) in
     (c .floor-by .ensures .0, λ n h. c .floor-by .ensures .1 n (omega (arith, h, same, m .most-after .ensures)))
 

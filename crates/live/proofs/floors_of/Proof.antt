@@ -64,8 +64,10 @@ loop-again : tie.Need-loop-again Inv-loop μ-loop
 loop-again c =
     let t = c .before .before in
     let i = t .before .loop in
-    let v = c .floor-of in
-    (omega (arith, t .loop-test .taken), flooring-next _ _ _ _ _ _ (i .floors) (i .q) (v .result) (low c) (v .ensures .0) (v .ensures .1) (i .inv .1))
+    let v = c .floor-of in (
+      omega (arith, t .loop-test .taken),
+      flooring-next _ _ _ _ _ _ (i .floors) (i .q) (v .result) (low c) (v .ensures .0) (v .ensures .1) (i .inv .1),
+    )
 
 returns : tie.Need-returns Inv-loop μ-loop
 returns c =

@@ -27,7 +27,8 @@ begin c = start (c .before .before)
 
 -- a row that is not near is wide at each of its states
 wide : (s : tie.Start) → let a = s .args in
-    (row vs : List ℕ) (own : ℕ → ℕ → ℕ) → Path (a .l) (a .y .now) (a .numbers .now) (a .heavy) row (each (a .shape .size)) vs own
+    (row vs : List ℕ) (own : ℕ → ℕ → ℕ)
+    → Path (a .l) (a .y .now) (a .numbers .now) (a .heavy) row (each (a .shape .size)) vs own
     → a .room ≤ apartFrom (a .l) (a .heavy) (a .z .now) vs 0 → (i : ℕ) → i ≤ a .l .l2
     → a .room ≤ most (a .l .l2) (a .before .now) (a .after .now) (each (a .shape .size)) (own i) i (a .shape .n)
 wide s row vs own path far i h =

@@ -57,7 +57,8 @@ loop-again c =
     let v = f .result in
     let long : a .at + p .p < length (p .marks) = omega (arith, p .inv .0 .1 .long) in
     let here = getD-set-same (p .marks) (a .at + p .p) v 0 long in
-    let other : (t : ℕ) → t < p .p → getD (set (p .marks) (a .at + p .p) v) (a .at + t) 0 ≡ getD (p .marks) (a .at + t) 0 =
+    let other : (t : ℕ) → t < p .p
+    → getD (set (p .marks) (a .at + p .p) v) (a .at + t) 0 ≡ getD (p .marks) (a .at + t) 0 =
     λ t h. getD-set-other (p .marks) (a .at + p .p) (a .at + t) v 0 (λ e. omega arith)
     in (
       (omega arith, remade-set _ _ _ _ (p .inv .0 .1) (p .p) v (omega arith)),

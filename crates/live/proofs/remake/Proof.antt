@@ -17,7 +17,8 @@ Inv-loop l y totals counts numbers heavy known z shape digits j ahead at base ma
     ((p ≤ states) × (length fresh ≡ mostStates)) × Remaking l y numbers heavy known z shape j ahead at base marks fresh p
 
 abbrev μ-loop : tie.MeasureT-loop
-μ-loop l y totals counts numbers heavy known z shape digits j ahead at base marks floors states fresh₀ some p₀ fresh p = states - p
+μ-loop l y totals counts numbers heavy known z shape digits j ahead at base marks floors states fresh₀ some p₀ fresh p =
+    states - p
 
 -- where the counts are made, and the arguments
 abbrev counted : tie.At-loop Inv-loop μ-loop → tie.After-count-marked Inv-loop μ-loop
@@ -42,7 +43,10 @@ count-marked-requires c κs =
     (p .1 .1 .1 .1 .0, (omega (arith, p .1 .1 .0 .few), p .1 .1 .0 .few))
 
 loop-holds : tie.Need-loop-holds Inv-loop μ-loop
-loop-holds c = ((omega arith, long (lent (c .before .before) .before .before .before .before .before)), remaking-starts _ _ _ _ _ _ _ _ _ _ _ _ _)
+loop-holds c = (
+  (omega arith, long (lent (c .before .before) .before .before .before .before .before)),
+  remaking-starts _ _ _ _ _ _ _ _ _ _ _ _ _,
+)
 
 add-spread : tie.Need-add-spread Inv-loop μ-loop
 add-spread c =
@@ -105,8 +109,10 @@ loop-again c =
     let a = s .args in
     let f = r .spread .ensures in (
       (omega (arith, t .loop-test .taken), f .long ∙ i .loop .inv .0 .1),
-      remaking-next (a .l) (a .y .now) (a .numbers .now) (a .heavy) (a .known .now) (a .z .now) (a .shape) (a .j) (a .ahead) (a .at)
-          (a .base) (a .marks .now) (s .pre .1 .1 .0) (a .digits .now) (s .pre .1 .1 .1 .0) (i .loop .fresh) _ (i .loop .p) f
+      remaking-next (a .l) (a .y .now) (a .numbers .now) (a .heavy) (a .known .now) (a .z .now) (a .shape) (a .j)
+          (a .ahead) (a .at)
+          (a .base) (a .marks .now) (s .pre .1 .1 .0) (a .digits .now) (s .pre .1 .1 .1 .0) (i .loop .fresh) _
+          (i .loop .p) f
           (i .loop .inv .1),
     )
 
@@ -119,8 +125,10 @@ slice-aggregate-put-column-2 c = sym (c .before .before .before .loop .inv .0 .1
 put-column-requires : tie.Need-put-column-requires Inv-loop μ-loop
 put-column-requires c κs =
     let i = c .before .before .before .before in
-    let p = begin i .pre in
-    (omega (arith, long (begin i), p .1 .1 .0 .few), (omega (arith, i .loop .inv .0 .1, p .1 .1 .0 .few), p .1 .1 .1 .1 .0))
+    let p = begin i .pre in (
+      omega (arith, long (begin i), p .1 .1 .0 .few),
+      (omega (arith, i .loop .inv .0 .1, p .1 .1 .0 .few), p .1 .1 .1 .1 .0),
+    )
 
 same-length : tie.Need-same-length Inv-loop μ-loop
 same-length c = c .before .before .put-column .ensures .0 .long
@@ -137,8 +145,10 @@ returns c =
         r .put-column .ensures .1 .0,
         λ own w m other w' vs n k there floor.
             let q = number-low kept own w in
-            covers-kept _ _ _ _ (s .pre .1 .1 .1 .1 .1 .1 _ (omega (arith, q, kept .few))) (r .put-column .ensures .1 .1 _ q) floor
-            (i .loop .inv .1 .gained own w m other w' (omega (arith, number-low kept other w', e .loop-test .left)) vs n k there),
+            covers-kept _ _ _ _ (s .pre .1 .1 .1 .1 .1 .1 _ (omega (arith, q, kept .few)))
+            (r .put-column .ensures .1 .1 _ q) floor
+            (i .loop .inv .1 .gained own w m other w' (omega (arith, number-low kept other w', e .loop-test .left)) vs n
+            k there),
       ),
     )
 

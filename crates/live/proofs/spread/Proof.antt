@@ -1,5 +1,5 @@
--- `live::spread` meets its contract: ahead, a row crosses the column from the state p to its own, and its mark is raised as the sweep says.
--- Assumes nothing.
+-- `live::spread` meets its contract: ahead, a row crosses the column from the state p to its own, and its mark is
+-- raised as the sweep says. Assumes nothing.
 use Prim.Native.Nat.{ℕ, _<_}
 use mathlib.Core.Path.{_≡_, refl, sym, subst}
 use mathlib.Core.Bool.{Bool, false}
@@ -87,7 +87,9 @@ returns-2 c =
       long = e .0 .long;
       grows = e .0 .grows;
       gains = λ own w down m vs n k v.
-          let x = crosses-same (a .l) (a .y .now) (a .numbers .now) (a .heavy) (k .row) (a .j) vs (entryOf (a .digits .now) (a .p))
+          let x =
+          crosses-same (a .l) (a .y .now) (a .numbers .now) (a .heavy) (k .row) (a .j) vs
+          (entryOf (a .digits .now) (a .p))
           (each (d .digits-of .result)) own own (other-is d) (λ t h. refl) (k .forth (r .before .before .if2 .taken)) in
           above-covers (a .there) (apartIn (a .l) (a .heavy) (a .z .now) vs (a .j) (a .heavy .n)) _ n
           (e .1 (k .row) vs own (k .light) x m) v;
@@ -118,11 +120,13 @@ returns-3 c =
           let q = stateOf (a .shape) own in
           subst
           (λ (b : Bool). Gains (a .l) (a .y .now) (a .numbers .now) (a .heavy) (a .known .now) (a .z .now) (a .j) b own
-          (entryOf (a .digits .now) (a .p)) (a .there) (getD (r .spread-over .last .1 .1 .1 .1 .1 .1 .1 .1 .1 .1 .1 .1 .1 .1 .1 .1 .1 .0) q 0))
+          (entryOf (a .digits .now) (a .p)) (a .there)
+          (getD (r .spread-over .last .1 .1 .1 .1 .1 .1 .1 .1 .1 .1 .1 .1 .1 .1 .1 .1 .1 .0) q 0))
           (sym back)
           (gains-same (a .l) (a .y .now) (a .numbers .now) (a .heavy) (a .known .now) (a .z .now) (a .j) false
           (entryOf (a .digits .now) q) own (each (d .digits-of .result)) (entryOf (a .digits .now) (a .p)) (a .there) _
-          (entry-is kept (s .pre .1 .1 .0 .1) own w q refl) (other-is d) (e .gains q (down back) (number-low kept own w) m));
+          (entry-is kept (s .pre .1 .1 .0 .1) own w q refl) (other-is d)
+          (e .gains q (down back) (number-low kept own w) m));
     }
 
 pub spread-spec : {M : Type 1} → statement M

@@ -1,5 +1,5 @@
--- `marks::fill_digits` meets its contract. The loop's invariant: the table is right for the states passed, and the losses left are those of
--- the next state. The measure is what is left of the states. Assumes nothing.
+-- `marks::fill_digits` meets its contract. The loop's invariant: the table is right for the states passed, and the
+-- losses left are those of the next state. The measure is what is left of the states. Assumes nothing.
 use Prim.Native.Nat.{ℕ, _+_, _-_, _<_, _≤_}
 use mathlib.Core.Path.{_≡_, refl, sym, _∙_}
 use mathlib.Core.List.{List}
@@ -88,7 +88,12 @@ returns c =
     record {
       long = omega (arith, i .loop .inv .0 .1, s .pre .1 .1);
       entry = λ left w t h. i .loop .inv .1 .0 .entry left w
-          (omega (arith, c .if1 .left, state-low (each (s .args .shape .size)) left (s .args .shape .n) w, s .pre .1 .0 .all)) t h;
+          (omega (
+            arith,
+            c .if1 .left,
+            state-low (each (s .args .shape .size)) left (s .args .shape .n) w,
+            s .pre .1 .0 .all,
+          )) t h;
     }
 
 pub fill-digits-spec : {M : Type 1} → statement M

@@ -37,8 +37,10 @@ loop-less c = search needs
 loop-again : tie.Need-loop-again Inv-loop μ-loop
 loop-again c =
     let w = c .before in
-    let p = w .before .before .loop in
-    (omega (arith, w .before .loop-test .taken), below-more _ _ (p .inv .1) (omega (arith, c .if1 .left, w .wide .ensures)))
+    let p = w .before .before .loop in (
+      omega (arith, w .before .loop-test .taken),
+      below-more _ _ (p .inv .1) (omega (arith, c .if1 .left, w .wide .ensures)),
+    )
 
 returns-2 : tie.Need-returns-2 Inv-loop μ-loop
 returns-2 c e k h = c .before .loop .inv .1 k (omega (arith, h, c .loop-test .left))

@@ -37,7 +37,8 @@ unfolding mostAfter
 loop-holds c = ((omega arith, omega arith), refl)
 
 -- the entry of a block stands in the table
-stands : (c : tie.In-loop Inv-loop μ-loop) → let s = c .before .before .before in let a = s .args in let b = c .before .loop .s in
+stands : (c : tie.In-loop Inv-loop μ-loop) → let s = c .before .before .before in let a = s .args in
+    let b = c .before .loop .s in
     (b * ((a .columns + 1) * 13) + (a .columns - a .j) * 13 + getD (a .t5) b 0 < length (a .after .now))
     × (b * ((a .columns + 1) * 13) + (a .columns - a .j) * 13 + getD (a .t5) b 0 ≤ 24000)
 stands c =
@@ -72,9 +73,11 @@ wide-requires-2 : tie.Need-wide-requires-2 Inv-loop μ-loop
 wide-requires-2 c κs = search needs
 
 -- what is read is the entry, a byte
-entry : (c : tie.After-wide2 Inv-loop μ-loop) → let t = c .before .before .before in let a = t .before .before .before .args in
+entry : (c : tie.After-wide2 Inv-loop μ-loop) → let t = c .before .before .before in
+    let a = t .before .before .before .args in
     let b = t .before .loop .s in
-    (c .wide2 .result ≡ getD (a .after .now) (b * ((a .columns + 1) * 13) + (a .columns - a .j) * 13 + getD (a .t5) b 0) 0)
+    (c .wide2 .result ≡ getD (a .after .now) (b * ((a .columns + 1) * 13) + (a .columns - a .j) * 13 + getD (a .t5) b 0)
+    0)
     × (c .wide2 .result ≤ 255)
 entry c =
     let w = c .before .before in

@@ -66,7 +66,8 @@ returns c h =
     let s = c .before .before .before .before .before in
     let e : p .s ≡ s .args .shape .n = omega (arith, p .inv .0 .0, c .loop-test .left) in
     p .inv .1 (λ k r. h k (omega arith))
-    ∙ ap (most (s .args .columns) (s .args .before .now) (s .args .after .now) (each (s .args .shape .size)) (each (s .args .t6)) (s .args .j)) e
+    ∙ ap (most (s .args .columns) (s .args .before .now) (s .args .after .now) (each (s .args .shape .size))
+    (each (s .args .t6)) (s .args .j)) e
 
 pub most-apart-spec : {M : Type 1} → statement M
 most-apart-spec =

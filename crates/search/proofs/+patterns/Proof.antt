@@ -1,6 +1,6 @@
--- `search::patterns` meets its contract. The measure of the recursion is the number of later blocks. The loop's invariant: the rows
--- under the first counts whose block i loses fewer than a bits are known, the blocks before block i stay in the row in hand, and the
--- desk's anchor is known. Rests on the laws of Counts.antt. Assumes nothing.
+-- `search::patterns` meets its contract. The measure of the recursion is the number of later blocks. The loop's
+-- invariant: the rows under the first counts whose block i loses fewer than a bits are known, the blocks before block i
+-- stay in the row in hand, and the desk's anchor is known. Rests on the laws of Counts.antt. Assumes nothing.
 use borrow.Author.Needs.{needs}
 use Prim.Native.Nat.{ℕ, _+_, _-_, _*_, _<_, _≤_}
 use mathlib.Core.Path.{_≡_, refl, _∙_}
@@ -42,13 +42,16 @@ abbrev patterns-below : ℕ → In 10 patterns-kinds.ps
 patterns-below t = and 10 patterns-kinds.ps (falls 10 patterns-kinds.ps _<_ μ-patterns t) patterns.Pre
 
 abbrev patterns-Inv-loop : patterns-lts.InvT-loop
-patterns-Inv-loop l y ytotals ycounts numbers rest totals counts later pattern row₀ desk₀ cap list₀ i nb p most first k₀ a₀ row desk list k a =
+patterns-Inv-loop l y ytotals ycounts numbers rest totals counts later pattern row₀ desk₀ cap list₀ i nb p most first k₀
+    a₀ row desk list k a =
     (a ≤ most)
-    × (Tries l numbers y cap (pattern .counts) i (pattern .total) row₀ list₀ (k₀ .count) (k₀ .more) row list (k .count) (k .more) a
+    × (Tries l numbers y cap (pattern .counts) i (pattern .total) row₀ list₀ (k₀ .count) (k₀ .more) row list (k .count)
+    (k .more) a
     × ((length desk ≡ length desk₀) × Anchored l numbers y (rowsIn (rowBits l) list (k .count) (k .more)) desk))
 
 abbrev patterns-μ-loop : patterns-lts.MeasureT-loop
-patterns-μ-loop l y ytotals ycounts numbers rest totals counts later pattern row₀ desk₀ cap list₀ i nb p most first k₀ a₀ row desk list k a = most - a
+patterns-μ-loop l y ytotals ycounts numbers rest totals counts later pattern row₀ desk₀ cap list₀ i nb p most first k₀
+    a₀ row desk list k a = most - a
 
 -- what the functions that are called promise, this one below its measure
 abbrev called : ℕ → patterns-lts.Claims
@@ -67,14 +70,15 @@ called t = (
   set-anchor-reads.Learnt,
 )
 
--- places of the code: the entry, where the slices that are read are known, where i is, after the test of the anchor, after that of the
--- floor, where blocks are left, before the loop, the loop, a turn in which block i was tried, one in which it can lose a bits, the call for
--- the blocks after it, and the end of a turn
+-- places of the code: the entry, where the slices that are read are known, where i is, after the test of the anchor,
+-- after that of the floor, where blocks are left, before the loop, the loop, a turn in which block i was tried, one in
+-- which it can lose a bits, the call for the blocks after it, and the end of a turn
 abbrev Start : ℕ → Type 0
 Start t = patterns-lts.Start (called t) (patterns-at t) patterns.Post patterns-Inv-loop patterns-μ-loop
 
 abbrev Known : ℕ → Type 0
-Known t = patterns-lts.After-shared-slice-known6 (called t) (patterns-at t) patterns.Post patterns-Inv-loop patterns-μ-loop
+Known t =
+    patterns-lts.After-shared-slice-known6 (called t) (patterns-at t) patterns.Post patterns-Inv-loop patterns-μ-loop
 
 abbrev Block : ℕ → Type 0
 Block t = patterns-lts.After-struct-known (called t) (patterns-at t) patterns.Post patterns-Inv-loop patterns-μ-loop
@@ -154,11 +158,17 @@ next t c =
     let some = ongoing t c .if3 .left in
     let few = s .pre .1 .1 .0 in
     let counted = length-counts t s in
-    record { given = s .pre .1 .0 .0; inside = omega arith; room = omega (arith, high t s .l1-high); sums = s .pre .1 .1 .1 .0 .sums }
+    record {
+      given = s .pre .1 .0 .0;
+      inside = omega arith;
+      room = omega (arith, high t s .l1-high);
+      sums = s .pre .1 .1 .1 .0 .sums;
+    }
 
 -- the most that it can lose is what is left of all losses, at most twelve
 left-over : (t : ℕ) (s : Start t) → let a = s .args in
-    (a .pattern .total + (a .l .l1 * blockBits (a .l) - length (a .y .now) - a .pattern .total) ≡ rowBits (a .l) - length (a .y .now))
+    (a .pattern .total + (a .l .l1 * blockBits (a .l) - length (a .y .now) - a .pattern .total)
+    ≡ rowBits (a .l) - length (a .y .now))
     × (rowBits (a .l) - length (a .y .now) ≤ 12)
 left-over t s =
     let few = s .pre .1 .0 .0 .few in
@@ -179,7 +189,8 @@ tabled-within t c =
     let h = within t c .1 in
     (omega (arith, w .totals-long), omega (arith, w .counts-long))
 
-patterns-sub-i : (t : ℕ) → patterns-lts.Need-sub-i (called t) (patterns-at t) patterns.Post patterns-Inv-loop patterns-μ-loop
+patterns-sub-i : (t : ℕ)
+    → patterns-lts.Need-sub-i (called t) (patterns-at t) patterns.Post patterns-Inv-loop patterns-μ-loop
 patterns-sub-i t c = begin t c .pre .1 .1 .0
 
 patterns-near-anchor-requires : (t : ℕ)
@@ -199,11 +210,14 @@ patterns-same-length-2 : (t : ℕ)
 patterns-same-length-2 t c = search needs
 
 -- no row but the anchor is under the first counts
-patterns-returns : (t : ℕ) → patterns-lts.Need-returns (called t) (patterns-at t) patterns.Post patterns-Inv-loop patterns-μ-loop
+patterns-returns : (t : ℕ)
+    → patterns-lts.Need-returns (called t) (patterns-at t) patterns.Post patterns-Inv-loop patterns-μ-loop
 patterns-returns t c =
     let s = first t (c .before) in
-    let known = c .before .near-anchor .ensures (c .if1 .taken) _ in
-    (grown-none (s .pre .1 .0 .1) (λ x r u. known x (s .pre .1 .1 .1 .1 .1) r (u .own) (u .light)), (refl, s .pre .1 .1 .1 .1 .1))
+    let known = c .before .near-anchor .ensures (c .if1 .taken) _ in (
+      grown-none (s .pre .1 .0 .1) (λ x r u. known x (s .pre .1 .1 .1 .1 .1) r (u .own) (u .light)),
+      (refl, s .pre .1 .1 .1 .1 .1),
+    )
 
 patterns-above-requires : (t : ℕ)
     → patterns-lts.Need-above-requires (called t) (patterns-at t) patterns.Post patterns-Inv-loop patterns-μ-loop
@@ -239,8 +253,10 @@ patterns-one-pattern-requires t c κs =
     let s = entry t (o .before .before) in
     let last = o .if3 .taken in
     let e : s .args .l .l1 - s .args .later ≡ s .args .l .l1 = omega arith in
-    let b = s .pre .1 .1 .1 .0 in
-    (s .pre .1 .0 .0, (s .pre .1 .0 .1, ((b .hand, rw e at (b .sums)), (s .pre .1 .1 .1 .1 .0 .0, s .pre .1 .1 .1 .1 .1))))
+    let b = s .pre .1 .1 .1 .0 in (
+      s .pre .1 .0 .0,
+      (s .pre .1 .0 .1, ((b .hand, rw e at (b .sums)), (s .pre .1 .1 .1 .1 .0 .0, s .pre .1 .1 .1 .1 .1))),
+    )
 
 patterns-same-length-6 : (t : ℕ)
     → patterns-lts.Need-same-length-6 (called t) (patterns-at t) patterns.Post patterns-Inv-loop patterns-μ-loop
@@ -265,7 +281,8 @@ patterns-returns-3 t c =
     let g = o .one-pattern .ensures in
     (rw e g, (refl, anchored-stays (s .pre .1 .0 .1) g (s .pre .1 .1 .1 .1 .1)))
 
-patterns-mul-nb : (t : ℕ) → patterns-lts.Need-mul-nb (called t) (patterns-at t) patterns.Post patterns-Inv-loop patterns-μ-loop
+patterns-mul-nb : (t : ℕ)
+    → patterns-lts.Need-mul-nb (called t) (patterns-at t) patterns.Post patterns-Inv-loop patterns-μ-loop
 patterns-mul-nb t c = omega (arith, high t (entry t (c .before .before .before)) .block)
 
 patterns-mul-p : (t : ℕ)
@@ -298,13 +315,15 @@ patterns-sub-most-2 t c =
     let s = entry t (c .before .before .before .before .before .before) in
     omega (arith, high t s .l1-block, s .pre .1 .1 .1 .0 .most)
 
--- the first count that is tried: it is not above the most, and above 0 only for the last block, which loses all that is left
+-- the first count that is tried: it is not above the most, and above 0 only for the last block, which loses all that is
+-- left
 first-most : (t : ℕ) (c : Ready t) → let a = start t c .args in
     c .if4 .first ≤ a .l .l1 * blockBits (a .l) - length (a .y .now) - a .pattern .total
 first-most t c = ⊎-elim (λ w. omega (arith, w .1)) (λ w. omega (arith, w .1)) (c .if4 .came)
 
 first-all : (t : ℕ) (c : Ready t) → let a = start t c .args in
-    0 < c .if4 .first → (a .l .l1 - a .later + 1 ≡ a .l .l1) × (a .pattern .total + c .if4 .first ≡ rowBits (a .l) - length (a .y .now))
+    0 < c .if4 .first
+    → (a .l .l1 - a .later + 1 ≡ a .l .l1) × (a .pattern .total + c .if4 .first ≡ rowBits (a .l) - length (a .y .now))
 first-all t c z =
     let few = start t c .pre .1 .1 .0 in
     let o = left-over t (start t c) in
@@ -316,8 +335,10 @@ first-all t c z =
 patterns-loop-holds : (t : ℕ)
     → patterns-lts.Need-loop-holds (called t) (patterns-at t) patterns.Post patterns-Inv-loop patterns-μ-loop
 patterns-loop-holds t c =
-    let s = start t c in
-    (first-most t c, (tries-start (next t c) (s .pre .1 .0 .1) (c .if4 .first) (first-all t c), (refl, s .pre .1 .1 .1 .1 .1)))
+    let s = start t c in (
+      first-most t c,
+      (tries-start (next t c) (s .pre .1 .0 .1) (c .if4 .first) (first-all t c), (refl, s .pre .1 .1 .1 .1 .1)),
+    )
 
 patterns-try-block-requires : (t : ℕ)
     → patterns-lts.Need-try-block-requires (called t) (patterns-at t) patterns.Post patterns-Inv-loop patterns-μ-loop
@@ -330,11 +351,13 @@ patterns-try-block-requires t c κs =
     let i : ℕ = a .l .l1 - a .later in
     let h = next t (p .before) .inside in
     let room : i * a .l .l2 + a .l .l2 ≤ a .l .l1 * a .l .l2 = field-room (a .l .l1) (a .l .l2) i h in
-    let hand : i * a .l .l2 + a .l .l2 ≤ length (p .loop .row) = omega (arith, high t s .chunks, b .hand, p .loop .inv .1 .0 .places) in
+    let hand : i * a .l .l2 + a .l .l2 ≤ length (p .loop .row) =
+    omega (arith, high t s .chunks, b .hand, p .loop .inv .1 .0 .places) in
     let bits = bits-drop (i * blockBits (a .l) - a .pattern .total) (a .y .now) (g .bits) in
     (g .is-legal, (rw (b .reads) bits, (s .pre .1 .1 .1 .1 .0 .1, (omega (arith, g .count), (g .blocks i h, hand)))))
 
-patterns-cast-next : (t : ℕ) → patterns-lts.Need-cast-next (called t) (patterns-at t) patterns.Post patterns-Inv-loop patterns-μ-loop
+patterns-cast-next : (t : ℕ)
+    → patterns-lts.Need-cast-next (called t) (patterns-at t) patterns.Post patterns-Inv-loop patterns-μ-loop
 patterns-cast-next t c =
     let p = loop t (c .before) in
     let o = left-over t (start t (p .before)) in
@@ -346,7 +369,8 @@ patterns-element-write-next t c =
     let r = loop t (c .before) .before in
     omega (arith, next t r .inside, high t (start t r) .l1-high)
 
-patterns-add-next : (t : ℕ) → patterns-lts.Need-add-next (called t) (patterns-at t) patterns.Post patterns-Inv-loop patterns-μ-loop
+patterns-add-next : (t : ℕ)
+    → patterns-lts.Need-add-next (called t) (patterns-at t) patterns.Post patterns-Inv-loop patterns-μ-loop
 patterns-add-next t c =
     let p = loop t (c .before .before) in
     let o = left-over t (start t (p .before)) in
@@ -417,20 +441,27 @@ patterns-patterns-requires t c κs =
     let n = next t (p .before) in
     let h = n .inside in
     let o = left-over t s in
-    let most : a .pattern .total + p .loop .a + length (a .y .now) ≤ rowBits (a .l) = omega (arith, p .loop .inv .0, s .pre .1 .0 .0 .short) in
+    let most : a .pattern .total + p .loop .a + length (a .y .now) ≤ rowBits (a .l) =
+    omega (arith, p .loop .inv .0, s .pre .1 .0 .0 .short) in
     let row : List ℕ = q .try-block .last .1 .1 .1 .1 .1 .1 .1 .1 .0 in
-    let same : length row ≡ length (a .row .now) = omega (arith, q .try-block .kept .1 .1 .1 .1 .1 .1 .1 .1 .0, p .loop .inv .1 .0 .places) in
+    let same : length row ≡ length (a .row .now) =
+    omega (arith, q .try-block .kept .1 .1 .1 .1 .1 .1 .1 .1 .0, p .loop .inv .1 .0 .places) in
     let w = within t e in
     let j : ℕ = a .l .l1 - (a .later - 1) in
     let b = begun-next n (s .pre .1 .1 .1 .0) (p .loop .a) most (w .0) row same j (omega arith) in
-    let tabled = tabled-next n (s .pre .1 .1 .1 .0) (p .loop .a) (w .0) (w .1) (s .pre .1 .1 .1 .1 .0 .1) j (omega arith) in
+    let tabled =
+    tabled-next n (s .pre .1 .1 .1 .0) (p .loop .a) (w .0) (w .1) (s .pre .1 .1 .1 .1 .0 .1) j (omega arith) in
     let d : ℕ = blockBits (a .l) - p .loop .a in
     let held = grown-holding (s .pre .1 .0 .1) (p .loop .inv .1 .0 .known) in
     let falls : a .later - 1 < t = omega (arith, s .pre .0) in (
       falls,
       (
         (s .pre .1 .0 .0, held),
-        (omega arith, rw (part-to-end (a .rest .now) d, part-to-end (a .totals .now) d, part-to-end (a .counts .now) d) (b, ((s .pre .1 .1 .1 .1 .0 .0, tabled), p .loop .inv .1 .1 .1))),
+        (
+          omega arith,
+          rw (part-to-end (a .rest .now) d, part-to-end (a .totals .now) d, part-to-end (a .counts .now) d)
+              (b, ((s .pre .1 .1 .1 .1 .0 .0, tabled), p .loop .inv .1 .1 .1)),
+        ),
       ),
     )
 
@@ -445,7 +476,8 @@ patterns-set-anchor-requires t c κs =
     let held = grown-holding (s .pre .1 .0 .1) (p .loop .inv .1 .0 .known) in
     (s .pre .1 .0 .0, (grown-holding held (g .0), g .1 .1))
 
-patterns-add-a : (t : ℕ) → patterns-lts.Need-add-a (called t) (patterns-at t) patterns.Post patterns-Inv-loop patterns-μ-loop
+patterns-add-a : (t : ℕ)
+    → patterns-lts.Need-add-a (called t) (patterns-at t) patterns.Post patterns-Inv-loop patterns-μ-loop
 patterns-add-a t c =
     let p = turn t (c .before .before) in
     let o = left-over t (start t (p .before)) in
@@ -461,10 +493,12 @@ patterns-loop-less t c =
 -- after a turn the rows whose block i loses at most a bits are known, and the desk's anchor is
 after-turn : (t : ℕ) (c : Turned t) → let p = turn t c in let a = start t (p .before) .args in
     Tries (a .l) (a .numbers .now) (a .y .now) (a .cap) (a .pattern .counts) (a .l .l1 - a .later) (a .pattern .total)
-    (a .row .now) (a .list .now) (a .kept .count) (a .kept .more) (c .if5 .row) (c .if5 .list) (c .if5 .k .count) (c .if5 .k .more)
+    (a .row .now) (a .list .now) (a .kept .count) (a .kept .more) (c .if5 .row) (c .if5 .list) (c .if5 .k .count)
+    (c .if5 .k .more)
     (p .loop .a + 1)
     × ((length (c .if5 .desk) ≡ length (a .desk .now))
-    × Anchored (a .l) (a .numbers .now) (a .y .now) (rowsIn (rowBits (a .l)) (c .if5 .list) (c .if5 .k .count) (c .if5 .k .more)) (c .if5 .desk))
+    × Anchored (a .l) (a .numbers .now) (a .y .now)
+    (rowsIn (rowBits (a .l)) (c .if5 .list) (c .if5 .k .count) (c .if5 .k .more)) (c .if5 .desk))
 after-turn t c =
     let q = c .before .before .before in
     let p = q .before .before .before in

@@ -1,5 +1,5 @@
--- `search::finish` meets its contract: every row under the whole pattern is the row in hand, or it is under the table that starts with
--- the heavy blocks. Assumes nothing.
+-- `search::finish` meets its contract: every row under the whole pattern is the row in hand, or it is under the table
+-- that starts with the heavy blocks. Assumes nothing.
 use borrow.Author.Needs.{needs}
 use Prim.Native.Nat.{ℕ, _+_, _*_, _<_, _≤_}
 use mathlib.Core.Path.{_≡_, refl, sym, _∙_}
@@ -109,7 +109,9 @@ tables-requires c κs =
     let s = start h in
     let a = s .args in
     let f = h .heavy-of in
-    let sound = starts-sound (a .l) (a .pattern .counts) (f .result .heavy) _ (f .ensures) refl (zeros 12) (length (a .y .now)) (s .pre .1 .1 .0) in
+    let sound =
+    starts-sound (a .l) (a .pattern .counts) (f .result .heavy) _ (f .ensures) refl (zeros 12) (length (a .y .now))
+    (s .pre .1 .1 .0) in
     let set = is-anchored (c .before .before .before) in
     let part = anchor-part (a .desk .now) set in (
       (s .pre .0, s .pre .1 .0),
@@ -119,7 +121,8 @@ tables-requires c κs =
           s .pre .1 .1 .1 .0,
           (
             omega (arith, part, chunks s),
-            anchor-near (a .l) (a .numbers .now) (a .y .now) _ (a .desk .now) (s .pre .0) (chunks s) (s .pre .1 .1 .1 .1) set,
+            anchor-near (a .l) (a .numbers .now) (a .y .now) _ (a .desk .now) (s .pre .0) (chunks s)
+                (s .pre .1 .1 .1 .1) set,
           ),
         ),
       ),
@@ -136,7 +139,8 @@ returns-2 c =
     let a = s .args in
     let f = h .heavy-of in
     grown-weaken
-    (λ x k u. starts-under (a .l) (a .pattern .counts) (f .result .heavy) _ (f .ensures) refl (zeros 12) (a .y .now) (counted s) x u)
+    (λ x k u. starts-under (a .l) (a .pattern .counts) (f .result .heavy) _ (f .ensures) refl (zeros 12) (a .y .now)
+    (counted s) x u)
     (q .tables .ensures)
 
 slice-aggregate-tables : tie.Need-slice-aggregate-tables
@@ -148,8 +152,15 @@ tables-requires-2 c κs =
     let s = start h in
     let a = s .args in
     let f = h .heavy-of in
-    let sound = starts-sound (a .l) (a .pattern .counts) (f .result .heavy) _ (f .ensures) refl (zeros 12) (length (a .y .now)) (s .pre .1 .1 .0) in
-    ((s .pre .0, s .pre .1 .0), ((sound, refl), (s .pre .1 .1 .1 .0, (omega (arith, long s, chunks s), λ x sent near. absurd (omega (arith, near))))))
+    let sound =
+    starts-sound (a .l) (a .pattern .counts) (f .result .heavy) _ (f .ensures) refl (zeros 12) (length (a .y .now))
+    (s .pre .1 .1 .0) in (
+      (s .pre .0, s .pre .1 .0),
+      (
+        (sound, refl),
+        (s .pre .1 .1 .1 .0, (omega (arith, long s, chunks s), λ x sent near. absurd (omega (arith, near)))),
+      ),
+    )
 
 same-length-3 : tie.Need-same-length-3
 same-length-3 c = search needs
@@ -162,7 +173,8 @@ returns-3 c =
     let a = s .args in
     let f = h .heavy-of in
     grown-weaken
-    (λ x k u. starts-under (a .l) (a .pattern .counts) (f .result .heavy) _ (f .ensures) refl (zeros 12) (a .y .now) (counted s) x u)
+    (λ x k u. starts-under (a .l) (a .pattern .counts) (f .result .heavy) _ (f .ensures) refl (zeros 12) (a .y .now)
+    (counted s) x u)
     (q .tables2 .ensures)
 
 pub finish-spec : {M : Type 1} → statement M

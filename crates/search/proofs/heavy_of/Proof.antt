@@ -1,5 +1,5 @@
--- `search::heavy_of` meets its contract. The loop's invariant: the heavy blocks among the first i are gathered, and end is the total of
--- the first i counts. Assumes nothing.
+-- `search::heavy_of` meets its contract. The loop's invariant: the heavy blocks among the first i are gathered, and end
+-- is the total of the first i counts. Assumes nothing.
 use borrow.Author.Needs.{needs}
 use Prim.Native.Nat.{_+_, _-_, _<_, _≤_}
 use mathlib.Core.Path.{_≡_, refl}

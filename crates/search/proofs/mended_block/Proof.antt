@@ -1,4 +1,5 @@
--- `search::mended_block` meets its contract: a block with one loss is the mended string of the next nb - 1 bits. Assumes nothing.
+-- `search::mended_block` meets its contract: a block with one loss is the mended string of the next nb - 1 bits.
+-- Assumes nothing.
 use borrow.Author.Needs.{needs}
 use Prim.Native.Nat.{_+_, _-_, _*_, _≤_}
 use mathlib.Core.Path.{_≡_, sym, _∙_}
@@ -96,7 +97,8 @@ block c =
     let n = blockBits (a .l) in
     let z : n - 0 ≡ n = omega arith in
     let y : n - 1 - 0 ≡ n - 1 = omega arith in
-    rw z (starts-mended n (a .s) (a .rest .now) (mended e) (c .mend-bits .last .1 .1 .0) _ (rw y at (c .mend-bits .ensures)))
+    rw z (starts-mended n (a .s) (a .rest .now) (mended e) (c .mend-bits .last .1 .1 .0) _
+    (rw y at (c .mend-bits .ensures)))
 
 sub-put-block : tie.Need-sub-put-block
 sub-put-block c = search needs
@@ -126,7 +128,8 @@ returns-3 c =
     let e = enough m in
     let s = start (e .before) in
     let a = s .args in
-    one-put (a .l) (a .s) (a .i) (a .rest .now) (a .row .now) (p .put-block .last .1 .1 .1 .0) (low s) (omega arith) (s .pre .1 .1 .1 .1)
+    one-put (a .l) (a .s) (a .i) (a .rest .now) (a .row .now) (p .put-block .last .1 .1 .1 .0) (low s) (omega arith)
+    (s .pre .1 .1 .1 .1)
     (rw (block m) at (p .put-block .ensures))
 
 pub mended-block-spec : {M : Type 1} → statement M

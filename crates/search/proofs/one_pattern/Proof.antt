@@ -1,5 +1,5 @@
--- `search::one_pattern` meets its contract: a consistent row loses all that is deleted, so a pattern with another total has none.
--- Assumes nothing.
+-- `search::one_pattern` meets its contract: a consistent row loses all that is deleted, so a pattern with another total
+-- has none. Assumes nothing.
 use borrow.Author.Needs.{needs}
 use mathlib.Core.Path.{_∙_}
 use native.Mathlib.Omega.{arith}

@@ -1,5 +1,5 @@
--- `search::put_block` meets its contract. The loop's invariant: the row is what it was, with the first j numbers pasted in. Assumes
--- nothing.
+-- `search::put_block` meets its contract. The loop's invariant: the row is what it was, with the first j numbers pasted
+-- in. Assumes nothing.
 use borrow.Author.Needs.{needs}
 use Prim.Native.Nat.{ℕ, _+_, _-_, _*_, _<_, _≤_}
 use mathlib.Core.Path.{_≡_, sym, ap, _∙_}
@@ -14,7 +14,8 @@ use Rattle.search.proofs.put_block.Statement.{statement}
 use Rattle.search.proofs.put_block.Tie as tie
 
 abbrev Inv-loop : tie.InvT-loop
-Inv-loop nc l2 bits row₀ i at j₀ row j = (j ≤ l2) × ((length row ≡ length row₀) × (row ≡ paste row₀ (i * l2) (fields l2 nc bits) j))
+Inv-loop nc l2 bits row₀ i at j₀ row j =
+    (j ≤ l2) × ((length row ≡ length row₀) × (row ≡ paste row₀ (i * l2) (fields l2 nc bits) j))
 
 abbrev μ-loop : tie.MeasureT-loop
 μ-loop nc l2 bits row₀ i at j₀ row j = l2 - j
@@ -61,7 +62,8 @@ loop-again c =
     let p = c .before .before .loop in
     let f : List ℕ = fields (a .l2) (a .nc) (a .bits .now) in
     let h : p .j < a .l2 = omega arith in
-    let v : c .number-at .result ≡ getD f (p .j) 0 = c .number-at .ensures ∙ sym (fields-at (a .l2) (a .nc) (p .j) (a .bits .now) h) in
+    let v : c .number-at .result ≡ getD f (p .j) 0 =
+    c .number-at .ensures ∙ sym (fields-at (a .l2) (a .nc) (p .j) (a .bits .now) h) in
     let n : length f ≡ a .l2 = length-fields (a .l2) (a .nc) (a .bits .now) in
     let next = paste-next (a .row .now) (a .i * a .l2) f (p .j) (omega arith) (omega arith) in
     (omega arith, (simp length-set (p .inv .1 .0), rw (p .inv .1 .1, v) next))

@@ -1,5 +1,5 @@
--- `search::search` meets its contract: where no bit is lost, the received row is the only one that can be consistent. Assumes
--- nothing.
+-- `search::search` meets its contract: where no bit is lost, the received row is the only one that can be consistent.
+-- Assumes nothing.
 use borrow.Author.Needs.{needs}
 use mathlib.Core.Path.{_≡_}
 use native.Mathlib.Omega.{arith}

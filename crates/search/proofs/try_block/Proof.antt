@@ -1,5 +1,5 @@
--- `search::try_block` meets its contract: none and one loss are settled by the block's bits, two or more by how many bits remain.
--- Assumes nothing.
+-- `search::try_block` meets its contract: none and one loss are settled by the block's bits, two or more by how many
+-- bits remain. Assumes nothing.
 use borrow.Author.Needs.{needs}
 use native.Mathlib.Omega.{arith}
 use Rattle.message.proofs.Legal.{legal-bounds, sizes}

@@ -1,5 +1,5 @@
--- `search::whole_block` meets its contract: a block without a loss is the next nb bits, so these have its sum. Rests on Blocks.antt.
--- Assumes nothing.
+-- `search::whole_block` meets its contract: a block without a loss is the next nb bits, so these have its sum. Rests on
+-- Blocks.antt. Assumes nothing.
 use borrow.Author.Needs.{needs}
 use Prim.Native.Nat.{_-_, _≤_}
 use mathlib.Core.Path.{_≡_, sym, _∙_}
@@ -48,7 +48,8 @@ within : (c : tie.Else1) → let a = start (c .before) .args in blockBits (a .l)
 within c =
     let h = c .before in
     let a = start h .args in
-    sum-within (blockBits (a .l)) (a .s) (a .rest .now) (sym (h .has-sum .ensures) ∙ not-false (h .has-sum .result) (c .if1 .left))
+    sum-within (blockBits (a .l)) (a .s) (a .rest .now)
+    (sym (h .has-sum .ensures) ∙ not-false (h .has-sum .result) (c .if1 .left))
 
 part-put-block-end : tie.Need-part-put-block-end
 part-put-block-end c = within c
@@ -59,7 +60,8 @@ put-block-requires c κs =
     let s = start (e .before) in
     let a = s .args in
     let n = blockBits (a .l) in
-    let size : length (take (n - 0) (a .rest .now)) ≡ n = length-take-le (n - 0) (a .rest .now) (omega (arith, within e)) ∙ omega arith in
+    let size : length (take (n - 0) (a .rest .now)) ≡ n =
+    length-take-le (n - 0) (a .rest .now) (omega (arith, within e)) ∙ omega arith in
     (bits-take (n - 0) (a .rest .now) (s .pre .1 .0), (bounds s .nc-high, (size, s .pre .1 .1 .1)))
 
 same-length : tie.Need-same-length

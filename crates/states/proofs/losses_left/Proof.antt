@@ -1,5 +1,5 @@
--- `states::losses_left` meets its contract. The loop's invariant: the losses left of the blocks passed are digits of the state's
--- number. The measure is what is left of the blocks. Assumes nothing.
+-- `states::losses_left` meets its contract. The loop's invariant: the losses left of the blocks passed are digits of
+-- the state's number. The measure is what is left of the blocks. Assumes nothing.
 use Prim.Native.Nat.{ℕ, _+_, _-_, _/_, _%_, _<_, _≤_}
 use mathlib.Core.Path.{_≡_, ap, ap₂, _∙_}
 use native.Mathlib.Nat.{mod-lt}
@@ -77,7 +77,8 @@ loop-again c =
     let size = each (a .t1 .size) in
     let e = p .before .pre .1 .counts (p .loop .s) (omega arith) in (
       (omega arith, length-set (p .loop .left) (p .loop .s) _ ∙ p .loop .inv .0 .1),
-      one-more (λ t v. v ≡ a .q / stride size t % (size t + 1)) (p .loop .left) (p .loop .s) _ (omega arith) (p .loop .inv .1)
+      one-more (λ t v. v ≡ a .q / stride size t % (size t + 1)) (p .loop .left) (p .loop .s) _ (omega arith)
+          (p .loop .inv .1)
           (ap₂ (λ (u v : ℕ). a .q / u % (v + 1)) e (c .wide .ensures)),
     )
 

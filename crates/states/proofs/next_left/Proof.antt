@@ -1,5 +1,5 @@
--- `states::next_left` meets its contract. The loop's invariant: one loss more in block s would make the number of the state after the one at
--- the start. The measure is what is left of the blocks. Assumes nothing.
+-- `states::next_left` meets its contract. The loop's invariant: one loss more in block s would make the number of the
+-- state after the one at the start. The measure is what is left of the blocks. Assumes nothing.
 use Prim.Native.Nat.{ℕ, _+_, _-_, _*_, _<_, _≤_}
 use mathlib.Core.Path.{_≡_, refl, ap, _∙_}
 use mathlib.Core.List.{List}
@@ -82,7 +82,8 @@ returns c =
     let one : (v + 1) * stride (each (a .t2)) (p .s) ≡ v * stride (each (a .t2)) (p .s) + stride (each (a .t2)) (p .s) =
     omega arith
     in (
-      set-within (a .t2) (p .next) (a .n) (p .s) (v + 1) (i .loop-test .taken) long (p .inv .1 .0) (omega (arith, c .if1 .taken)),
+      set-within (a .t2) (p .next) (a .n) (p .s) (v + 1) (i .loop-test .taken) long (p .inv .1 .0)
+          (omega (arith, c .if1 .taken)),
       λ low. omega (arith, number, one, p .inv .1 .1),
     )
 
@@ -104,7 +105,8 @@ loop-again c =
     let size = each (a .t2) in
     let long = in-row i in
     let number = set-number (a .t2) (p .next) (a .n) (p .s) 0 (i .loop-test .taken) long in
-    let all : getD (p .next) (p .s) 0 ≡ size (p .s) = omega (arith, c .if1 .left, p .inv .1 .0 (p .s) (i .loop-test .taken)) in
+    let all : getD (p .next) (p .s) 0 ≡ size (p .s) =
+    omega (arith, c .if1 .left, p .inv .1 .0 (p .s) (i .loop-test .taken)) in
     let more : stride size (p .s + 1) ≡ size (p .s) * stride size (p .s) + stride size (p .s) =
     rw (add-one (p .s)) (omega (arith, mul-comm (stride size (p .s)) (size (p .s) + 1)))
     in (

@@ -1,5 +1,5 @@
--- `states::number_of` meets its contract. The loop's invariant: the number so far is that of the losses left in the blocks passed.
--- The measure is what is left of the blocks. Assumes nothing.
+-- `states::number_of` meets its contract. The loop's invariant: the number so far is that of the losses left in the
+-- blocks passed. The measure is what is left of the blocks. Assumes nothing.
 use Prim.Native.Nat.{ℕ, _+_, _-_, _*_, _<_, _≤_}
 use mathlib.Core.Path.{_≡_, refl, ap, ap₂, _∙_}
 use native.Mathlib.Nat.{mul-le-mul}

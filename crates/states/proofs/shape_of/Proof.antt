@@ -1,5 +1,6 @@
--- `states::shape_of` meets its contract. The loop's invariant: the strides of the blocks passed are as the shape of the states says,
--- and so is the number of states of these blocks. The measure is what is left of the blocks. Assumes nothing.
+-- `states::shape_of` meets its contract. The loop's invariant: the strides of the blocks passed are as the shape of the
+-- states says, and so is the number of states of these blocks. The measure is what is left of the blocks. Assumes
+-- nothing.
 use Prim.Native.Nat.{ℕ, _+_, _-_, _*_, _^_, _<_, _≤_}
 use mathlib.Core.Path.{_≡_, refl, ap, ap₂, sym, _∙_}
 use native.Mathlib.Numerals.{add-one}
@@ -67,7 +68,8 @@ unfolding stride
 loop-again c =
     let p = c .before .before in
     let a = p .before .args in
-    let g : stride (each (a .t2)) (p .loop .s + 1) ≡ stride (each (a .t2)) (p .loop .s) * (each (a .t2) (p .loop .s) + 1) =
+    let g : stride (each (a .t2)) (p .loop .s + 1)
+    ≡ stride (each (a .t2)) (p .loop .s) * (each (a .t2) (p .loop .s) + 1) =
     ap (stride (each (a .t2))) (add-one (p .loop .s))
     in
     let e : p .loop .states * (c .wide .result + 1) ≡ stride (each (a .t2)) (p .loop .s + 1) =

@@ -1,6 +1,6 @@
--- `steps::sweep` and `steps::share` meet their contracts. The measure is twice the blocks that are left, and one more with a share chosen. The
--- loops' invariants: the marks are raised for all rows whose own share, or whose ones in the chunk, were tried. Rests on Sweeping.antt.
--- Assumes nothing.
+-- `steps::sweep` and `steps::share` meet their contracts. The measure is twice the blocks that are left, and one more
+-- with a share chosen. The loops' invariants: the marks are raised for all rows whose own share, or whose ones in the
+-- chunk, were tried. Rests on Sweeping.antt. Assumes nothing.
 use borrow.Author.Needs.{needs}
 use Prim.Native.Nat.{ℕ, suc, _+_, _-_, _*_, _<_, _≤_}
 use mathlib.Core.Path.{_≡_, refl, sym, subst, _∙_}
@@ -63,23 +63,27 @@ abbrev sweep-below : ℕ → In 7 sweep-kinds.ps
 sweep-below t = and 7 sweep-kinds.ps (falls 7 sweep-kinds.ps _<_ μ-sweep t) sweep.Pre
 
 abbrev share-Inv-loop : share-lts.InvT-loop
-share-Inv-loop l y totals counts z j modulus need there marks at some b a q span apart fresh₀ heavy shape left i more seen last g₀ fresh g =
+share-Inv-loop l y totals counts z j modulus need there marks at some b a q span apart fresh₀ heavy shape left i more
+    seen last g₀ fresh g =
     Raised l y heavy z shape j (each left) modulus need there marks at
     (λ next vs. Sharing l heavy z shape j (each left) b a q span apart next vs
     × (ones (digits (l .nc) (getD vs (chunkAt l heavy j b) 0)) < seen .ones + g))
     fresh₀ fresh
 
 abbrev share-μ-loop : share-lts.MeasureT-loop
-share-μ-loop l y totals counts z j modulus need there marks at some b a q span apart fresh₀ heavy shape left i more seen last g₀ fresh g =
+share-μ-loop l y totals counts z j modulus need there marks at some b a q span apart fresh₀ heavy shape left i more seen
+    last g₀ fresh g =
     last + 1 - g
 
 abbrev sweep-Inv-loop : sweep-lts.InvT-loop
-sweep-Inv-loop l y totals counts heavy z j modulus need there marks at some s q span apart fresh₀ shape left b most one a₀ fresh a =
+sweep-Inv-loop l y totals counts heavy z j modulus need there marks at some s q span apart fresh₀ shape left b most one
+    a₀ fresh a =
     Raised l y heavy z shape j (each left) modulus need there marks at
     (λ next vs. Chosen l heavy z shape j s q span apart next vs × (each left b < next b + a)) fresh₀ fresh
 
 abbrev sweep-μ-loop : sweep-lts.MeasureT-loop
-sweep-μ-loop l y totals counts heavy z j modulus need there marks at some s q span apart fresh₀ shape left b most one a₀ fresh a =
+sweep-μ-loop l y totals counts heavy z j modulus need there marks at some s q span apart fresh₀ shape left b most one a₀
+    fresh a =
     most + 1 - a
 
 -- what the functions that are called promise, those of the cycle below the measure
@@ -116,15 +120,18 @@ sweep-claims t = (
 abbrev Share-start : ℕ → Type 0
 Share-start t = share-lts.Start (share-claims t) (share-at t) share.Post share-Inv-loop share-μ-loop
 
-abbrev share-half : (t : ℕ) → share-lts.After-shared-slice-known4 (share-claims t) (share-at t) share.Post share-Inv-loop share-μ-loop
+abbrev share-half : (t : ℕ)
+    → share-lts.After-shared-slice-known4 (share-claims t) (share-at t) share.Post share-Inv-loop share-μ-loop
     → Share-start t
 share-half t c = c .before .before .before .before
 
-abbrev share-known : (t : ℕ) → share-lts.After-slice-known (share-claims t) (share-at t) share.Post share-Inv-loop share-μ-loop
+abbrev share-known : (t : ℕ)
+    → share-lts.After-slice-known (share-claims t) (share-at t) share.Post share-Inv-loop share-μ-loop
     → Share-start t
 share-known t c = share-half t (c .before .before .before)
 
-abbrev share-asked : (t : ℕ) → share-lts.After-none-marked (share-claims t) (share-at t) share.Post share-Inv-loop share-μ-loop
+abbrev share-asked : (t : ℕ)
+    → share-lts.After-none-marked (share-claims t) (share-at t) share.Post share-Inv-loop share-μ-loop
     → Share-start t
 share-asked t c = share-known t (c .before .before)
 
@@ -308,7 +315,8 @@ share-widen-requires t c κs =
     let i = v .seen in
     let lost = c .wide2 .ensures in
     let keeps : s .args .l .nc - s .args .a ≤ 8 = omega (arith, legal-bounds (s .args .l) (g .allowed) .nc-high) in
-    let low : e .before .before .look-at .result .seen .total ≤ 64 = omega (arith, i .positions-small, mul-le-mul keeps keeps) in (
+    let low : e .before .before .look-at .result .seen .total ≤ 64 =
+    omega (arith, i .positions-small, mul-le-mul keeps keeps) in (
       (legal-bounds (s .args .l) (g .allowed) .nc-high, stands t (block t o) .in-string),
       (
         (
@@ -340,7 +348,14 @@ share-add-raise-one : (t : ℕ)
 share-add-raise-one t c =
     let w = c .before in
     let s = share-begin t (seen t (other t (turn t w))) in
-    record { fits = omega (arith, number-low t w, s .pre .1 .0 .counted .marked, s .good .1 .1 .1 .1 .1 .1 .1 .1 .1 .1 .1 .1 .0) }
+    record {
+      fits = omega (
+        arith,
+        number-low t w,
+        s .pre .1 .0 .counted .marked,
+        s .good .1 .1 .1 .1 .1 .1 .1 .1 .1 .1 .1 .1 .0,
+      );
+    }
 
 share-shared-slice-read-raise-one : (t : ℕ)
     → share-lts.Need-shared-slice-read-raise-one (share-claims t) (share-at t) share.Post share-Inv-loop share-μ-loop
@@ -372,7 +387,8 @@ share-sweep-requires t c κs =
 -- the marks after a turn of the loop: with no block left the state's own mark is raised, otherwise the sweep goes on
 swept : (t : ℕ) (c : share-lts.Joined3 (share-claims t) (share-at t) share.Post share-Inv-loop share-μ-loop)
     → let w = c .before in let o = other t (turn t w) in let a = share-begin t (seen t o) .args in
-    Raised (a .l) (a .y .now) (a .t5) (a .z .now) (a .t7) (a .j) (each (a .t9)) (a .modulus) (a .need) (a .there) (a .marks .now) (a .at)
+    Raised (a .l) (a .y .now) (a .t5) (a .z .now) (a .t7) (a .j) (each (a .t9)) (a .modulus) (a .need) (a .there)
+    (a .marks .now) (a .at)
     (Chosen (a .l) (a .t5) (a .z .now) (a .t7) (a .j) (a .b) (a .q) (w .widen .result) (a .apart + o .other .result))
     (turn t w .before .loop .fresh) (c .if3 .fresh)
 swept t c =
@@ -451,11 +467,13 @@ share-returns-3 t c =
 abbrev Sweep-start : ℕ → Type 0
 Sweep-start t = sweep-lts.Start (sweep-claims t) (sweep-at t) sweep.Post sweep-Inv-loop sweep-μ-loop
 
-abbrev sweep-half : (t : ℕ) → sweep-lts.After-shared-slice-known4 (sweep-claims t) (sweep-at t) sweep.Post sweep-Inv-loop sweep-μ-loop
+abbrev sweep-half : (t : ℕ)
+    → sweep-lts.After-shared-slice-known4 (sweep-claims t) (sweep-at t) sweep.Post sweep-Inv-loop sweep-μ-loop
     → Sweep-start t
 sweep-half t c = c .before .before .before .before
 
-abbrev sweep-known : (t : ℕ) → sweep-lts.After-slice-known (sweep-claims t) (sweep-at t) sweep.Post sweep-Inv-loop sweep-μ-loop
+abbrev sweep-known : (t : ℕ)
+    → sweep-lts.After-slice-known (sweep-claims t) (sweep-at t) sweep.Post sweep-Inv-loop sweep-μ-loop
     → Sweep-start t
 sweep-known t c = sweep-half t (c .before .before .before)
 
@@ -491,7 +509,8 @@ own-one t c =
     sym (g .shaped .counts _ (omega (arith, g .blocks, below-n t c)))
 
 -- the number of the state with a share, and that it stays low
-number-is : (t : ℕ) (c : sweep-lts.After-wide (sweep-claims t) (sweep-at t) sweep.Post sweep-Inv-loop sweep-μ-loop) (a : ℕ)
+number-is : (t : ℕ) (c : sweep-lts.After-wide (sweep-claims t) (sweep-at t) sweep.Post sweep-Inv-loop sweep-μ-loop)
+    (a : ℕ)
     → let g = sweep-begin t (c .before) .args in
     g .q + (getD (g .t9) (g .s - 1) 0 - a) * stride (each (g .t7 .size)) (g .s - 1)
     ≡ g .q + (c .wide .result - a) * getD (g .t7 .stride) (g .s - 1) 0
@@ -499,7 +518,8 @@ number-is t c a = rw (own-one t (c .before), c .wide .ensures) refl
 
 in-room : (t : ℕ) (c : sweep-lts.In-loop (sweep-claims t) (sweep-at t) sweep.Post sweep-Inv-loop sweep-μ-loop)
     → let p = c .before in let w = p .before .before in let a = sweep-begin t (w .before) .args in
-    (a .q + (w .wide .result - p .loop .a) * getD (a .t7 .stride) (a .s - 1) 0 ≤ a .t7 .states) × (a .t7 .states ≤ mostStates)
+    (a .q + (w .wide .result - p .loop .a) * getD (a .t7 .stride) (a .s - 1) 0 ≤ a .t7 .states)
+    × (a .t7 .states ≤ mostStates)
 in-room t c =
     let p = c .before in
     let w = p .before .before in
@@ -652,9 +672,12 @@ sweep-loop-again t c =
     (λ u. inl (r .0, u))
     (λ u.
     let own : each (a .t9) b ≡ next b + p .loop .a = omega (arith, r .1, u) in
-    let chosen = subst (λ (v : ℕ). Chosen (a .l) (a .heavy) (a .z .now) (a .t7) (a .j) v (a .q) (a .span) (a .apart) next vs) (up t e) (r .0) in
+    let chosen =
+    subst (λ (v : ℕ). Chosen (a .l) (a .heavy) (a .z .now) (a .t7) (a .j) v (a .q) (a .span) (a .apart) next vs)
+    (up t e) (r .0) in
     inr (subst
-    (λ (v : ℕ). Sharing (a .l) (a .heavy) (a .z .now) (a .t7) (a .j) (each (a .t9)) b (p .loop .a) v (a .span) (a .apart) next vs)
+    (λ (v : ℕ). Sharing (a .l) (a .heavy) (a .z .now) (a .t7) (a .j) (each (a .t9)) b (p .loop .a) v (a .span)
+    (a .apart) next vs)
     (number-is t w (p .loop .a)) (chosen-share x (p .loop .a) own chosen)))
     (lt-or-ge (each (a .t9) b) (next b + p .loop .a)))
 
@@ -670,7 +693,8 @@ sweep-returns-2 t c =
     record {
       raises = i .raises;
       gains = λ numbers row vs next x r is m.
-          i .gains numbers row vs next x (r, omega (arith, c .loop-test .left, c .before .before .before .wide .ensures)) is m;
+          i .gains numbers row vs next x
+          (r, omega (arith, c .loop-test .left, c .before .before .before .wide .ensures)) is m;
     }
 
 pub +share+sweep-spec : {M : Type 1} → statement M

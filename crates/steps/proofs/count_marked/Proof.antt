@@ -1,5 +1,5 @@
--- `steps::count_marked` meets its contract. The loop's invariant: the counts up to a state are made. The measure is what is left of the
--- states. Rests on Sweeping.antt. Assumes nothing.
+-- `steps::count_marked` meets its contract. The loop's invariant: the counts up to a state are made. The measure is
+-- what is left of the states. Rests on Sweeping.antt. Assumes nothing.
 use borrow.Author.Needs.{needs}
 use Prim.Native.Nat.{suc, _+_, _-_, _<_, _≤_}
 use mathlib.Core.Path.{_≡_, refl, _∙_}

@@ -140,8 +140,12 @@ returns-3 c =
             few = f .1 .1;
             place = f .0;
             there = f .1 .0;
-            seen = subst (λ (k : ℕ). SeenIn (take (a .l .nc - k) (drop at (a .y .now))) (a .l .nc - k) (c .before .look .result)) lost l;
-            more = subst (λ (k : ℕ). MoreOnes (a .y .now) at (a .l .nc - k) k (c .more-ones .result .first) (c .more-ones .result .last)) lost
+            seen =
+                subst (λ (k : ℕ). SeenIn (take (a .l .nc - k) (drop at (a .y .now))) (a .l .nc - k)
+                (c .before .look .result)) lost l;
+            more =
+                subst (λ (k : ℕ). MoreOnes (a .y .now) at (a .l .nc - k) k (c .more-ones .result .first)
+                (c .more-ones .result .last)) lost
                 (c .more-ones .ensures);
           },
       λ r. refl,

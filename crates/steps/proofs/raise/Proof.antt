@@ -1,5 +1,5 @@
--- `steps::raise` meets its contract: what the heavy blocks must bring is what the sum of the chunks in hand lacks. Rests on Sweeping.antt.
--- Assumes nothing.
+-- `steps::raise` meets its contract: what the heavy blocks must bring is what the sum of the chunks in hand lacks.
+-- Rests on Sweeping.antt. Assumes nothing.
 use Prim.Native.Nat.{_≤_}
 use mathlib.Core.Path.{refl, ap}
 use native.Mathlib.Omega.{arith}

@@ -165,8 +165,8 @@ high t c =
     let size = sizes (s .args .l) (legal-bounds (s .args .l) (s .pre .1 .0 .is-legal)) in
     (omega (arith, size .l2-high, g .inside), omega (arith, size .l2-high, g .inside, g .looked .small))
 
--- the place where those that lose a bit in the column are found; from there, where the mark leaves hope, and the turn of the
--- loop; and that place, seen from where the step is made
+-- the place where those that lose a bit in the column are found; from there, where the mark leaves hope, and the turn
+-- of the loop; and that place, seen from where the step is made
 abbrev Found : ℕ → Type 0
 Found t = columns-lts.After-slice-known2 (columns-claims t) (columns-at t) columns.Post columns-Inv-loop
     columns-μ-loop
@@ -503,7 +503,8 @@ losses-here-returns t c =
     let n = c .before .before .number-of .ensures in
     grown-weaken (λ x sent u. (u .0, omega (arith, u .1, n, c .loop-test .left))) (c .before .loop .inv)
 
--- where `losses_to` starts: the place where all is at hand, and from there, where half of the slices are known, and the start
+-- where `losses_to` starts: the place where all is at hand, and from there, where half of the slices are known, and the
+-- start
 abbrev To-known : ℕ → Type 0
 To-known t = losses-to-lts.After-left (losses-to-claims t) (losses-to-at t) losses-to.Post
 
@@ -514,8 +515,8 @@ to-half t c = c .before .before .before .before .before
 abbrev begun : (t : ℕ) → To-known t → losses-to-lts.Start (losses-to-claims t) (losses-to-at t) losses-to.Post
 begun t c = to-half t c .before .before .before .before
 
--- the place where what is left in the lower state is known, the function's start seen from there, and that place seen from
--- where the step is made
+-- the place where what is left in the lower state is known, the function's start seen from there, and that place seen
+-- from where the step is made
 abbrev Lower : ℕ → Type 0
 Lower t = losses-to-lts.After-losses-left (losses-to-claims t) (losses-to-at t) losses-to.Post
 

@@ -1,5 +1,5 @@
--- `tables::apart_light` meets its contract. The loop's invariant: the blocks passed are counted. The measure is what is left of the
--- blocks. Assumes nothing.
+-- `tables::apart_light` meets its contract. The loop's invariant: the blocks passed are counted. The measure is what is
+-- left of the blocks. Assumes nothing.
 use Prim.Native.Nat.{ℕ, _+_, _-_, _*_, _<_, _≤_}
 use mathlib.Core.Path.{_≡_}
 use mathlib.Core.Bool.{true}
@@ -83,12 +83,14 @@ loop-again c =
     (λ w.
     let e = q .0 (w .0 .taken) in
     rw (w .1, w .2)
-    (counted-heavy (a .l) (a .heavy) (a .t3) (a .z .now) (s .pre .1 .0) (p .loop .count) (p .loop .h) (p .loop .i) (p .loop .inv)
+    (counted-heavy (a .l) (a .heavy) (a .t3) (a .z .now) (s .pre .1 .0) (p .loop .count) (p .loop .h) (p .loop .i)
+    (p .loop .inv)
     less (e .0) (e .1)))
     (λ w.
     let n = w .3 .ensures in
     rw (w .4, w .5)
-    (counted-light (a .l) (a .heavy) (a .t3) (a .z .now) (s .pre .1 .0) (p .loop .count) (p .loop .h) (p .loop .i) (p .loop .inv)
+    (counted-light (a .l) (a .heavy) (a .t3) (a .z .now) (s .pre .1 .0) (p .loop .count) (p .loop .h) (p .loop .i)
+    (p .loop .inv)
     less (q .1 (w .0 .left)) (w .3 .result) (n .1) (n .0)))
     (c .if2 .came)
 
@@ -100,7 +102,8 @@ returns c =
     let all = sizes (a .l) (legal-bounds (a .l) (s .pre .0)) .chunks in
     let done : p .loop .i ≡ a .l .l1 = omega (arith, c .if1 .left, p .loop .inv .blocks) in
     let low : p .loop .count ≤ a .l .l1 * a .l .l2 = rw done at (p .loop .inv .low) in (
-      counted-all (a .l) (a .heavy) (a .t3) (a .z .now) (s .pre .1 .0) (p .loop .count) (p .loop .h) (p .loop .i) (p .loop .inv)
+      counted-all (a .l) (a .heavy) (a .t3) (a .z .now) (s .pre .1 .0) (p .loop .count) (p .loop .h) (p .loop .i)
+          (p .loop .inv)
           (omega (arith, done)),
       omega (arith, low, all),
     )

@@ -1,5 +1,5 @@
--- `tables::ends` meets its contract: where the block's losses ended, a row under the table has a block that can have its sum. Rests on
--- Ending.antt. Assumes nothing.
+-- `tables::ends` meets its contract: where the block's losses ended, a row under the table has a block that can have
+-- its sum. Rests on Ending.antt. Assumes nothing.
 use borrow.Author.Needs.{needs}
 use mathlib.Core.Path.{_≡_, refl, sym, ap, subst, _∙_}
 use mathlib.Core.List.{List}
@@ -42,7 +42,13 @@ element-copy-out-can-end c = search needs
 add-can-end : tie.Need-add-can-end
 add-can-end c =
     let s = begin (c .before) in
-    record { fits = omega (arith, s .pre .1 .1 .1 .0, sizes (s .args .l) (legal-bounds (s .args .l) (s .pre .0 .is-legal)) .l2-high) }
+    record {
+      fits = omega (
+        arith,
+        s .pre .1 .1 .1 .0,
+        sizes (s .args .l) (legal-bounds (s .args .l) (s .pre .0 .is-legal)) .l2-high,
+      );
+    }
 
 can-end-requires : tie.Need-can-end-requires
 can-end-requires c κs =
@@ -79,7 +85,8 @@ returns-3 c =
     λ x sent u.
     c .can-end .ensures (values (a .l) x)
     (subst
-    (λ (k : ℕ). Ended (a .l) (a .y .now) (a .numbers .now) (a .t10 .cells) (a .t10 .row) k (getD (a .t6 .end) (a .h) 0) (a .j + 1)
+    (λ (k : ℕ). Ended (a .l) (a .y .now) (a .numbers .now) (a .t10 .cells) (a .t10 .row) k (getD (a .t6 .end) (a .h) 0)
+    (a .j + 1)
     (values (a .l) x))
     (sym (w .wide .ensures))
     (ended (s .pre .0) sent (s .pre .1 .1 .0) u (a .h) (s .pre .1 .1 .1 .1) none))

@@ -41,7 +41,8 @@ returns-2 c =
     let a = c .before .before .args in
     let n : length (a .t1) ≡ 6 = search needs in
     let none : NoneLeft (a .t1) = λ s.
-    ⊎-elim (λ h. c .before .loop .inv .1 s (omega arith)) (λ h. List·getD-eq-default (a .t1) 0 (omega arith)) (lt-or-ge s 6)
+    ⊎-elim (λ h. c .before .loop .inv .1 s (omega arith)) (λ h. List·getD-eq-default (a .t1) 0 (omega arith))
+    (lt-or-ge s 6)
     in
     (λ _. none, λ _. refl)
 

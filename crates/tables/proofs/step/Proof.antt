@@ -125,7 +125,8 @@ returns c =
     let i = c .before .before .before in
     let q = begin i .pre .1 .1 .1 in
     let n = c .not-shared .ensures in
-    stepped-none (n .0) (rw (n .1) (q .0)) (too-few (i .before .loop .inv .1) (i .loop-test .taken) (q .1) (c .before .if1 .taken))
+    stepped-none (n .0) (rw (n .1) (q .0))
+    (too-few (i .before .loop .inv .1) (i .loop-test .taken) (q .1) (c .before .if1 .taken))
 
 array-read-a : tie.Need-array-read-a Inv-loop μ-loop
 array-read-a c = at-block (turn c)
@@ -139,7 +140,8 @@ element-copy-out-i c = at-block (turn c)
 cast-c : tie.Need-cast-c Inv-loop μ-loop
 cast-c c =
     let s = begin (turn (c .before)) in
-    let b : Fits w8 (getD (s .args .t3 .block) (turn (c .before) .before .loop .h) 0) = search (needs, s .good .1 .1 .0) in
+    let b : Fits w8 (getD (s .args .t3 .block) (turn (c .before) .before .loop .h) 0) =
+    search (needs, s .good .1 .1 .0) in
     omega (arith, b)
 
 mul-c : tie.Need-mul-c Inv-loop μ-loop
@@ -172,8 +174,11 @@ returns-2 c =
     let i = turn e in
     let q = begin i .pre .1 .1 .1 in
     let n = c .not-shared2 .ensures in
-    let shared = shared-short (sharable e) (f .place-of .result) (f .place-of .ensures .1) (c .before .before .if2 .taken) (c .before .if3 .taken) in
-    stepped-none (n .0) (rw (n .1) (q .0)) (share-failed (i .before .loop .inv .1) (i .loop-test .taken) (q .1) (less e) shared refl)
+    let shared =
+    shared-short (sharable e) (f .place-of .result) (f .place-of .ensures .1) (c .before .before .if2 .taken)
+    (c .before .if3 .taken) in
+    stepped-none (n .0) (rw (n .1) (q .0))
+    (share-failed (i .before .loop .inv .1) (i .loop-test .taken) (q .1) (less e) shared refl)
 
 number-at-requires : tie.Need-number-at-requires Inv-loop μ-loop
 number-at-requires c κs =
@@ -194,10 +199,12 @@ returns-3 c =
     let q = begin i .pre .1 .1 .1 in
     let n = c .not-shared3 .ensures in
     let shared = shared-beyond (sharable e) (f .place-of .result) (f .place-of .ensures .1) (c .before .if4 .taken) in
-    stepped-none (n .0) (rw (n .1) (q .0)) (share-failed (i .before .loop .inv .1) (i .loop-test .taken) (q .1) (less e) shared refl)
+    stepped-none (n .0) (rw (n .1) (q .0))
+    (share-failed (i .before .loop .inv .1) (i .loop-test .taken) (q .1) (less e) shared refl)
 
 -- what holds where the chunk becomes a cell: there is room for it, and the table with it
-cell : (f : tie.After-place-of Inv-loop μ-loop) → let e = enough f in let a = begin (turn e) .args in let p = turn e .before .loop in
+cell : (f : tie.After-place-of Inv-loop μ-loop) → let e = enough f in let a = begin (turn e) .args in
+    let p = turn e .before .loop in
     let lost = getD (p .table .left) (p .h) 0 - getD (a .t5) (p .h) 0 in
     (lost ≡ 0 → ⊥) → f .place-of .result ≤ length (a .y .now) → (p .table .cells .n < 12)
     × Shared (a .l) (a .y .now) (a .t3) (a .j) (p .h) lost (p .table) true
@@ -245,11 +252,15 @@ Turned f new =
 turned : (f : tie.After-place-of Inv-loop μ-loop) {new : Table} → let i = turn (enough f) in let a = begin i .args in
     let p = i .before .loop in
     Full new
-    → Shared (a .l) (a .y .now) (a .t3) (a .j) (p .h) (getD (p .table .left) (p .h) 0 - getD (a .t5) (p .h) 0) (p .table) true new
+    → Shared (a .l) (a .y .now) (a .t3) (a .j) (p .h) (getD (p .table .left) (p .h) 0 - getD (a .t5) (p .h) 0)
+    (p .table) true new
     → Turned f new
 turned f full shared =
-    let i = turn (enough f) in
-    (full, halfway-next (i .before .loop .inv .1) (i .loop-test .taken) (begin i .pre .1 .1 .1 .1) (less (enough f)) shared refl)
+    let i = turn (enough f) in (
+      full,
+      halfway-next (i .before .loop .inv .1) (i .loop-test .taken) (begin i .pre .1 .1 .1 .1) (less (enough f))
+          shared refl,
+    )
 
 loop-again : tie.Need-loop-again Inv-loop μ-loop
 loop-again c =
@@ -267,7 +278,8 @@ loop-again c =
     (turned f (full-read full chunk _)
     (shared-read (sharable e) (f .place-of .result) (f .place-of .ensures .1) (w .0 .taken) (full .row))))
     (λ w.
-    subst (Turned f) (sym (w .4 ∙ ap (λ (x : Cells). record { left = left; cells = x; row = p .table .row }) (w .3 .ensures)))
+    subst (Turned f)
+    (sym (w .4 ∙ ap (λ (x : Cells). record { left = left; cells = x; row = p .table .row }) (w .3 .ensures)))
     (turned f (full-cell full (p .h) _ (a .j) lost _) (cell f (w .0 .left) (w .1 .left) .1)))
     (c .if2 .came)
 

@@ -1,5 +1,5 @@
--- `tables::tables` meets its contract: every row under the table with which the columns begin comes through marked states. Assumes
--- nothing.
+-- `tables::tables` meets its contract: every row under the table with which the columns begin comes through marked
+-- states. Assumes nothing.
 use Prim.Native.Nat.{ℕ, _+_, _*_, _<_, _≤_}
 use mathlib.Core.Path.{_≡_, sym, ap, subst, _∙_}
 use mathlib.Core.Bool.{false≢true}
@@ -25,7 +25,8 @@ use Rattle.tables.proofs.Own.{in-hand, own-path}
 use Rattle.tables.proofs.tables.Statement.{statement}
 use Rattle.tables.proofs.tables.Tie as tie
 
--- the function's entry, seen from where all slices are known, from where the sums are asked for, and from where they are known
+-- the function's entry, seen from where all slices are known, from where the sums are asked for, and from where they
+-- are known
 abbrev begin : tie.After-slice-known → tie.Start
 begin c = c .before .before .before .before .before .before
 
@@ -35,7 +36,8 @@ asked c = begin (c .before .before .before)
 abbrev entry : tie.After-light-sums → tie.Start
 entry c = asked (c .before)
 
--- where the sums are known, seen from where the light chunks are compared; that place, and the entry, seen from where the marks are made
+-- where the sums are known, seen from where the light chunks are compared; that place, and the entry, seen from where
+-- the marks are made
 abbrev sums-at : tie.After-apart-light → tie.After-light-sums
 sums-at c = c .before .before .before .before .before
 
@@ -92,8 +94,10 @@ returns c =
 apart-light-requires : tie.Need-apart-light-requires
 apart-light-requires c κs =
     let s = entry (c .before .before .before .before) in
-    let sound = s .pre .1 .0 .0 in
-    (s .pre .0 .0 .is-legal, (record { few = sound .few; inside = sound .inside; ascending = sound .ascending }, s .pre .1 .1 .1 .0))
+    let sound = s .pre .1 .0 .0 in (
+      s .pre .0 .0 .is-legal,
+      (record { few = sound .few; inside = sound .inside; ascending = sound .ascending }, s .pre .1 .1 .1 .0),
+    )
 
 sub-rest : tie.Need-sub-rest
 sub-rest c = search needs
@@ -114,7 +118,8 @@ prepare-requires c κs =
 -- and it differs from z in at most so many chunks beside those of the heavy blocks
 within : (c : tie.After-prepare) → let a = start c .args in
     (x : List ℕ) → Sent (a .l) (a .numbers .now) (a .y .now) x → Under (a .l) (a .y .now) (a .heavy) 0 0 (a .t) x
-    → apart (a .l) (a .z .now) x ≤ compared c .apart-light .result + apartFrom (a .l) (a .heavy) (a .z .now) (values (a .l) x) 0
+    → apart (a .l) (a .z .now) x ≤ compared c .apart-light .result + apartFrom (a .l) (a .heavy) (a .z .now)
+    (values (a .l) x) 0
 within c x sent u =
     let p = start c .pre in
     compared c .apart-light .ensures .0 (values (start c .args .l) x) (in-hand (p .0 .0) sent (p .1 .0 .0) u (p .1 .0 .1))
@@ -187,7 +192,11 @@ comes c marks x sent u t =
 shape-of : (c : tie.After-prepare) → ShapeOf (start c .args .heavy) (c .prepare .result .shape) (start c .args .t .left)
 shape-of c =
     let g = c .prepare .ensures in
-    record { blocks = g .0 .0; shaped = g .1 .0; within = λ s h. omega (arith, ap (λ (v : List ℕ). getD v s 0) (g .0 .1)) }
+    record {
+      blocks = g .0 .0;
+      shaped = g .1 .0;
+      within = λ s h. omega (arith, ap (λ (v : List ℕ). getD v s 0) (g .0 .1));
+    }
 
 slice-aggregate-columns : tie.Need-slice-aggregate-columns
 slice-aggregate-columns c = search needs
@@ -224,7 +233,8 @@ returns-3 c =
     (λ far.
     inr (u, comes q _ x sent u (g _ _ _ (summed q .light-sums .ensures) (path (start q) x sent u) far .1 kept)))
     (lt-or-ge (apartFrom (a .l) (a .heavy) (a .z .now) (values (a .l) x) 0) _))
-    (grown-then h (grown-none h {P = Near q} (λ x sent p. near-known q x sent (p .0) (p .1))) (c .before .before .columns .ensures))
+    (grown-then h (grown-none h {P = Near q} (λ x sent p. near-known q x sent (p .0) (p .1)))
+    (c .before .before .columns .ensures))
 
 slice-aggregate-columns-3 : tie.Need-slice-aggregate-columns-3
 slice-aggregate-columns-3 c = search needs
@@ -251,7 +261,8 @@ returns-4 : tie.Need-returns-4
 returns-4 c =
     let m = c .before .before .before in
     let q = unmarked (m .before .before .before) in
-    grown-weaken (λ x sent u. (u, comes q _ x sent u (λ j h k. absurd (omega (arith, k))))) (c .before .before .columns2 .ensures)
+    grown-weaken (λ x sent u. (u, comes q _ x sent u (λ j h k. absurd (omega (arith, k)))))
+    (c .before .before .columns2 .ensures)
 
 pub tables-spec : {M : Type 1} → statement M
 tables-spec =

@@ -1,5 +1,5 @@
--- `turns::mend_blocks` and `turns::mend_strings` meet their contracts, by one induction on the losses that are open: each calls
--- the other only after a cell was found. Assumes nothing.
+-- `turns::mend_blocks` and `turns::mend_strings` meet their contracts, by one induction on the losses that are open:
+-- each calls the other only after a cell was found. Assumes nothing.
 use mathlib.Core.Bool.{true, false}
 use native.Mathlib.Omega.{arith}
 use borrow.Author.Needs.{needs}

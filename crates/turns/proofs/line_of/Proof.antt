@@ -17,7 +17,12 @@ returns c = rw (c .before .if1 .taken) refl
 mul-t7 : tie.Need-mul-t7
 mul-t7 c =
     let s = c .before .before in
-    record { fits = omega (arith, chunk-low (s .args .l) (s .pre .0) (s .args .i) (s .args .j) (s .pre .1 .0) (s .pre .1 .1)) }
+    record {
+      fits = omega (
+        arith,
+        chunk-low (s .args .l) (s .pre .0) (s .args .i) (s .args .j) (s .pre .1 .0) (s .pre .1 .1),
+      );
+    }
 
 returns-2 : tie.Need-returns-2
 returns-2 c = rw (c .before .if1 .left) refl

@@ -66,7 +66,10 @@ mend-line-requires c κs =
       (
         s .pre .marked,
         (
-          (omega (arith, n, s .pre .some-bits), bits-take (a .nc - 1) z (bits-drop (a .place) (a .y .now) (s .pre .bits))),
+          (
+            omega (arith, n, s .pre .some-bits),
+            bits-take (a .nc - 1) z (bits-drop (a .place) (a .y .now) (s .pre .bits)),
+          ),
           s .pre .sum-low,
         ),
       ),

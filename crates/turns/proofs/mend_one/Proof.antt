@@ -1,5 +1,5 @@
--- `turns::mend_one` meets its contract: a consistent row under the state has the line's sum and lost one bit in the cell, so the
--- cell is mended to its chunk. Assumes nothing.
+-- `turns::mend_one` meets its contract: a consistent row under the state has the line's sum and lost one bit in the
+-- cell, so the cell is mended to its chunk. Assumes nothing.
 use Prim.Native.Nat.{ℕ, _+_, _*_, _<_, _≤_}
 use mathlib.Core.Path.{_≡_, refl, sym, ap, ap₂, _∙_, subst}
 use native.Mathlib.Omega.{arith}
@@ -67,7 +67,8 @@ start c = entry (c .before)
 line-here : (c : tie.After-line-of) → c .line-of .result ≡ its-line (start c)
 line-here c =
     let a = start c .args in
-    c .line-of .ensures ∙ ap₂ (lineOf (a .strings) (a .l)) (c .before .before .before .wide .ensures) (c .before .wide2 .ensures)
+    c .line-of .ensures
+    ∙ ap₂ (lineOf (a .strings) (a .l)) (c .before .before .before .wide .ensures) (c .before .wide2 .ensures)
 
 -- its sum is one of the few numbers
 number-here : (c : tie.After-line-of) →
@@ -100,7 +101,8 @@ mend-cell-requires c κs =
     let s = start (c .before .before) in
     let a = s .args in
     let p = s .pre .1 in
-    subst (λ (n : Line). Ready (a .l .nc) (a .y .now) (getD (a .t5 .place) (a .z) 0) n (getD (a .numbers .now) (n .number) 0))
+    subst (λ (n : Line). Ready (a .l .nc) (a .y .now) (getD (a .t5 .place) (a .z) 0) n
+    (getD (a .numbers .now) (n .number) 0))
     (sym (line-here (c .before .before)))
     (single-ready (s .pre .0) (a .t5) (p .0) (a .strings) (p .1 .0) (p .1 .1))
 

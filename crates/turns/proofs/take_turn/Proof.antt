@@ -1,5 +1,6 @@
--- `turns::take_turn` meets its contract. The loop's invariant: the cells found so far are found rightly, and z is a cell that
--- has the only open loss of its line, or there is none. The measure is the losses that are open. Assumes nothing.
+-- `turns::take_turn` meets its contract. The loop's invariant: the cells found so far are found rightly, and z is a
+-- cell that has the only open loss of its line, or there is none. The measure is the losses that are open. Assumes
+-- nothing.
 use Prim.Native.Nat.{_<_, _≤_}
 use mathlib.Core.Path.{_≡_, sym, _∙_}
 use mathlib.Core.Bool.{false≢true}

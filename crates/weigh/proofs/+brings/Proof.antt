@@ -63,8 +63,8 @@ called t = (
   brings.Post,
 )
 
--- places of the code: the entry, where it is asked whether the bits of chunk s are there, where they are, where they were looked at, where
--- it is known how many ones more it can have, a turn, and its end
+-- places of the code: the entry, where it is asked whether the bits of chunk s are there, where they are, where they
+-- were looked at, where it is known how many ones more it can have, a turn, and its end
 abbrev Start : ℕ → Type 0
 Start t = brings-lts.Start (called t) (brings-at t) brings.Post brings-Inv-loop brings-μ-loop
 
@@ -183,7 +183,8 @@ between t c vs can =
     let v = digits (a .nc) (vs (a .s)) in
     let g = c .more-ones .ensures in
     let few = is-there t (found t (c .before)) .0 in
-    let n : length v ≡ a .nc - getD (a .t6 .lost) (a .s) 0 + getD (a .t6 .lost) (a .s) 0 = length-digits (a .nc) (vs (a .s)) ∙ omega arith in
+    let n : length v ≡ a .nc - getD (a .t6 .lost) (a .s) 0 + getD (a .t6 .lost) (a .s) 0 =
+    length-digits (a .nc) (vs (a .s)) ∙ omega arith in
     let b = bits-digits (a .nc) (vs (a .s)) in
     let e = can .loses (a .s) (s .pre .1 .1 .0) in
     let i = c .before .before .look .ensures .count in
@@ -206,7 +207,10 @@ brings-widen-requires t c κs =
     let low : r .before .look .result .total ≤ 64 = omega (arith, i .positions-small, mul-le-mul keeps keeps) in (
       (w .short, before-small t r),
       (
-        (omega (arith, i .count-small), (low, omega (arith, c .loop-test .taken, c .before .before .more-ones .ensures .few))),
+        (
+          omega (arith, i .count-small),
+          (low, omega (arith, c .loop-test .taken, c .before .before .more-ones .ensures .few)),
+        ),
         (omega (arith, w .most, p), omega (arith, w .most, p)),
       ),
     )

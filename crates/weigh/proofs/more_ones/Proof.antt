@@ -27,7 +27,8 @@ add-look : tie.Need-add-look
 add-look c = search needs
 
 -- the next bit is there
-next-there : (c : tie.Else2) → let a = c .before .before .before .before .before .args in a .place + a .w < length (a .y .now)
+next-there : (c : tie.Else2) → let a = c .before .before .before .before .before .args in
+    a .place + a .w < length (a .y .now)
 next-there c = omega (arith, c .if2 .left)
 
 look-requires : tie.Need-look-requires

@@ -51,7 +51,8 @@ shared-slice-read-sum : tie.Need-shared-slice-read-sum Inv-loop μ-loop
 shared-slice-read-sum c = omega (arith, stands (c .before .before) .0, c .before .wide .ensures)
 
 -- what is read is the entry, of sixteen bits
-entry : (c : tie.After-shared-slice-known2 Inv-loop μ-loop) → let t = c .before .before in let a = t .before .before .before .args in
+entry : (c : tie.After-shared-slice-known2 Inv-loop μ-loop) → let t = c .before .before in
+    let a = t .before .before .before .args in
     let s = t .before .loop .s in
     (getD (a .table .now) (s * 13 + c .before .wide .result) 0 ≡ getD (a .table .now) (s * 13 + getD (a .t2) s 0) 0)
     × (getD (a .table .now) (s * 13 + c .before .wide .result) 0 ≤ unread)
@@ -69,7 +70,15 @@ cast-sum c = record { fits = omega (arith, entry c .1) }
 add-sum-2 : tie.Need-add-sum-2 Inv-loop μ-loop
 add-sum-2 c =
     let t = c .before .before in
-    record { fits = omega (arith, entry c .1, t .before .loop .inv .0 .1, t .loop-test .taken, t .before .before .before .pre .0) }
+    record {
+      fits = omega (
+        arith,
+        entry c .1,
+        t .before .loop .inv .0 .1,
+        t .loop-test .taken,
+        t .before .before .before .pre .0,
+      );
+    }
 
 add-s : tie.Need-add-s Inv-loop μ-loop
 add-s c = search needs

@@ -75,7 +75,8 @@ place-of-requires c κs =
 
 -- what the place of the chunk is read from is what is meant
 from-is : (c : tie.After-wide2) → let a = begin (c .before .before .before) .args in
-    (c .before .before .wide .result * a .l .l2 + a .j) * a .l .nc + c .wide2 .result ≡ startAt (a .l) (a .block) (a .j) (a .left)
+    (c .before .before .wide .result * a .l .l2 + a .j) * a .l .nc + c .wide2 .result
+    ≡ startAt (a .l) (a .block) (a .j) (a .left)
 from-is c = omega (arith, start-is (c .before) .0, c .wide2 .ensures)
 
 returns : tie.Need-returns
@@ -113,7 +114,8 @@ can-bring-requires c κs =
     )
 
 -- what one chunk brings
-brought-one : (nc : ℕ) (block : List ℕ) (v : ℕ) → brought nc block (λ k. v) 1 ≡ total (getD block 0 0 * nc + 1) (digits nc v)
+brought-one : (nc : ℕ) (block : List ℕ) (v : ℕ)
+    → brought nc block (λ k. v) 1 ≡ total (getD block 0 0 * nc + 1) (digits nc v)
 unfolding brought
 brought-one nc block v = omega arith
 
@@ -125,7 +127,8 @@ returns-2 c v small readable loses sum =
     let s = start p in
     let a = s .args in
     let place = p .place-of .ensures .1 (not-false _ (e .if1 .left)) in
-    let at : p .place-of .result .at ≡ startAt (a .l) (a .block) (a .j) (a .left) - a .end = omega (arith, place .0, from-is (p .before)) in
+    let at : p .place-of .result .at ≡ startAt (a .l) (a .block) (a .j) (a .left) - a .end =
+    omega (arith, place .0, from-is (p .before)) in
     let one : p .place-of .result .lost ≡ 1 = omega (arith, place .1 .0, s .pre .1 .0) in
     let b = total (a .block * a .l .nc + 1) (digits (a .l .nc) v) in
     let modulus = a .l .l1 * a .l .nc + 1 in

@@ -1,5 +1,5 @@
--- `whole::fill` meets its contract. The loop's invariant: the blocks passed have their entries. The measure is what is left
--- of the blocks. Assumes nothing.
+-- `whole::fill` meets its contract. The loop's invariant: the blocks passed have their entries. The measure is what is
+-- left of the blocks. Assumes nothing.
 use Prim.Native.Nat.{ℕ, _+_, _-_, _*_, _<_, _≤_}
 use mathlib.Core.Path.{_≡_, refl, _∙_}
 use native.Mathlib.Nat.{mul-le-mul-right}
@@ -72,7 +72,12 @@ loop-again c =
       below-more _ _
           (λ k h e i r.
           b .1 .0 (entryAt k e)
-          (omega (arith, low k (omega (arith, h, t .loop-test .taken)), i, mul-le-mul-right {m = k + 1} {n = p .s} 13 (omega (arith, h))))
+          (omega (
+            arith,
+            low k (omega (arith, h, t .loop-test .taken)),
+            i,
+            mul-le-mul-right {m = k + 1} {n = p .s} 13 (omega (arith, h)),
+          ))
           ∙ p .inv .1 k h e i r)
           (λ e i r. b .1 .1 e i r),
     )

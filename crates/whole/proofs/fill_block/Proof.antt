@@ -1,5 +1,5 @@
--- `whole::fill_block` meets its contract. The loop's invariant: the entries passed have what the chunk brings. The measure is
--- what is left of the losses. Assumes nothing.
+-- `whole::fill_block` meets its contract. The loop's invariant: the entries passed have what the chunk brings. The
+-- measure is what is left of the losses. Assumes nothing.
 use Prim.Native.Nat.{ℕ, _+_, _-_, _*_, _<_, _≤_}
 use mathlib.Core.Path.{_≡_, refl, _∙_}
 use native.Mathlib.Omega.{arith}
@@ -49,7 +49,8 @@ reading-requires c κs =
 
 -- the entry of the turn stands in the table
 stands : (c : tie.After-reading Inv-loop μ-loop) → let i = c .before .before in let s = start i in
-    (i .loop .e ≤ s .args .size) × ((s .args .s * 13 + i .loop .e < length (s .args .table .now)) × (s .args .s * 13 + i .loop .e ≤ 100))
+    (i .loop .e ≤ s .args .size)
+    × ((s .args .s * 13 + i .loop .e < length (s .args .table .now)) × (s .args .s * 13 + i .loop .e ≤ 100))
 stands c =
     let i = c .before .before in
     let p = start i .pre .1 in

@@ -107,12 +107,15 @@ returns-3 c =
     omega (arith, start-is (b .before) .0, b .wide2 .ensures)
     in
     let bounds = legal-bounds (a .l) (s .pre .0 .allowed) in
-    let few = mul-le-mul {n₁ = i * a .l .nc} {m₁ = a .l .nc} {n₂ = 2040} {m₂ = 8} (before-low (c .before)) (bounds .nc-high) in
-    let small : c .weight .result < unread = omega (arith, c .weight .ensures .1, few, mul-le-mul (bounds .nc-high) (bounds .nc-high)) in (
+    let few =
+    mul-le-mul {n₁ = i * a .l .nc} {m₁ = a .l .nc} {n₂ = 2040} {m₂ = 8} (before-low (c .before)) (bounds .nc-high) in
+    let small : c .weight .result < unread =
+    omega (arith, c .weight .ensures .1, few, mul-le-mul (bounds .nc-high) (bounds .nc-high)) in (
       λ r. (
         c .weight .ensures .0
             ∙ ap (λ (p : ℕ). total (i * a .l .nc + 1) (take (a .l .nc) (drop p (a .y .now)))) at
-            ∙ ap (λ (k : ℕ). total (k * a .l .nc + 1) (take (a .l .nc) (drop place (a .y .now)))) (b .before .before .wide .ensures),
+            ∙ ap (λ (k : ℕ). total (k * a .l .nc + 1) (take (a .l .nc) (drop place (a .y .now))))
+            (b .before .before .wide .ensures),
         small,
       ),
       omega (arith, small),

@@ -16,7 +16,8 @@ abbrev begin : tie.After-look → tie.Start
 begin m = m .before .before .before .before
 
 -- the window is not longer than the longest row, so the ones weigh little with the positions before them
-short : (m : tie.After-look) → let a = begin m .args in (a .w ≤ longest) × (a .before * m .look .result .ones ≤ longest * longest)
+short : (m : tie.After-look) → let a = begin m .args in
+    (a .w ≤ longest) × (a .before * m .look .result .ones ≤ longest * longest)
 short m =
     let a = begin m .args in
     let w : a .w ≤ longest = omega (arith, begin m .pre) in
@@ -42,7 +43,9 @@ returns c =
     let a = begin m .args in
     let seen = m .look .ensures in
     let x = take (a .w) (drop (a .p) (a .y .now)) in
-    let few = mul-le-mul {n₁ = a .before} {m₁ = m .look .result .ones} {n₂ = a .before} {m₂ = a .w} (omega arith) (seen .count-small) in (
+    let few =
+    mul-le-mul {n₁ = a .before} {m₁ = m .look .result .ones} {n₂ = a .before} {m₂ = a .w} (omega arith)
+    (seen .count-small) in (
       omega (arith, seen .positions, ap (λ (n : ℕ). a .before * n) (seen .count), total-on (a .before) x),
       omega (arith, few, seen .positions-small),
     )

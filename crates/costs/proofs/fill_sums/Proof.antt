@@ -1,0 +1,194 @@
+-- `costs::fill_sums` meets its contract. The loop's invariant: the residue of the sum of the chunks in hand and of what
+-- the chunks of the blocks passed bring, but that one, is in the set, with whatever losses left they are read. The
+-- measure is what is left of the blocks. Assumes nothing.
+use Prim.Native.Nat.{ℕ, _+_, _-_, _*_, _%_, _<_, _≤_}
+use mathlib.Core.Path.{_≡_, refl, sym, ap, _∙_, subst}
+use mathlib.Core.Logic.{⊎-elim}
+use mathlib.Core.List.{List}
+use native.Mathlib.Nat.{mod-lt}
+use native.Mathlib.Numerals.{add-one}
+use native.Mathlib.Omega.{arith}
+use borrow.Author.Needs.{needs}
+use lib.ListN.{length, getD, length-set}
+use lib.Seq.{getD-set-same}
+use Rattle.column.proofs.Rows.{string-high}
+use Rattle.whole.specs.Whole.{modulus, firsts, bringsIn}
+use Rattle.costs.specs.Costs.{In, ReadBut, bringsBut}
+use Rattle.costs.proofs.Costs.{but-own, but-other}
+use Rattle.costs.proofs.Sets.{next-in}
+use Rattle.costs.proofs.fill_sums.Statement.{statement}
+use Rattle.costs.proofs.fill_sums.Tie as tie
+
+abbrev Inv-loop : tie.InvT-loop
+Inv-loop l y totals counts known j but set₀ other₀ heavy size n m s₀ set other s =
+    ((s ≤ n) × ((length set ≡ length set₀) × (length other ≡ length other₀)))
+    × ((left : ℕ → ℕ) → ReadBut l (length y) heavy size j left but s
+    → In set ((getD known j 0 + firsts (bringsBut l y heavy j left but) s) % modulus l))
+
+abbrev μ-loop : tie.MeasureT-loop
+μ-loop l y totals counts known j but set₀ other₀ heavy size n m s₀ set other s = n - s
+
+-- where the function starts, seen from where the layout is known
+abbrev entry : tie.After-struct-known Inv-loop μ-loop → tie.Start Inv-loop μ-loop
+entry c = c .before .before .before .before .before .before .before
+
+-- the first call, which empties the set, seen from where the loop begins, and the arguments, seen from there
+abbrev first : tie.After-shared-slice-known5 Inv-loop μ-loop → tie.After-take-over Inv-loop μ-loop
+first c = c .before .before .before .before .before
+
+abbrev begin : tie.After-shared-slice-known5 Inv-loop μ-loop → tie.Start Inv-loop μ-loop
+begin c = entry (first c .before .before .before)
+
+-- the modulus is small
+high : (s : tie.Start Inv-loop μ-loop) → s .args .l .l1 * s .args .l .nc ≤ 2040
+high s = string-high (s .args .l) (s .pre .0 .0)
+
+-- the sets are as long as at the start
+long : (c : tie.At-loop Inv-loop μ-loop) → let a = begin (c .before) .args in
+    (length (c .loop .set) ≡ length (a .set .now)) × (length (c .loop .other) ≡ length (a .other .now))
+long c =
+    let f = first (c .before) .take-over in
+    let i = c .loop .inv .0 .1 in
+    (i .0 ∙ length-set (f .last .1 .0) _ _ ∙ f .kept .1 .0, i .1 ∙ f .kept .1 .1 .0)
+
+mul-m : tie.Need-mul-m Inv-loop μ-loop
+mul-m c = omega (arith, high (entry c))
+
+add-m : tie.Need-add-m Inv-loop μ-loop
+add-m c = omega (arith, high (entry c))
+
+take-over-requires : tie.Need-take-over-requires Inv-loop μ-loop
+take-over-requires c κs = search needs
+
+mul-set : tie.Need-mul-set Inv-loop μ-loop
+mul-set c = search needs
+
+shared-slice-read-set : tie.Need-shared-slice-read-set Inv-loop μ-loop
+shared-slice-read-set c = search needs
+
+cast-set : tie.Need-cast-set Inv-loop μ-loop
+cast-set c = record { fits = omega (arith, c .shared-slice-known5 .given (begin c .args .j)) }
+
+rem-set : tie.Need-rem-set Inv-loop μ-loop
+rem-set c = search needs
+
+slice-write-set : tie.Need-slice-write-set Inv-loop μ-loop
+slice-write-set c =
+    let s = begin c in
+    omega (
+      arith,
+      first c .take-over .kept .1 .0,
+      s .pre .1 .1 .0,
+      mod-lt (getD (s .args .known .now) (s .args .j) 0) {m = modulus (s .args .l)} (omega arith),
+    )
+
+loop-holds : tie.Need-loop-holds Inv-loop μ-loop
+unfolding firsts
+loop-holds c =
+    let a = begin c .args in
+    let v : ℕ = getD (a .known .now) (a .j) 0 % modulus (a .l) in (
+      (omega arith, (refl, refl)),
+      λ left read.
+          let z : getD (a .known .now) (a .j) 0 + 0 ≡ getD (a .known .now) (a .j) 0 = omega arith in
+          rw (z, getD-set-same (first c .take-over .last .1 .0) v 1 0 (slice-write-set c)) (omega arith),
+    )
+
+element-copy-out-take-block : tie.Need-element-copy-out-take-block Inv-loop μ-loop
+element-copy-out-take-block c = search needs
+
+element-copy-out-take-block-2 : tie.Need-element-copy-out-take-block-2 Inv-loop μ-loop
+element-copy-out-take-block-2 c = search needs
+
+array-read-take-block : tie.Need-array-read-take-block Inv-loop μ-loop
+array-read-take-block c = search needs
+
+take-block-requires : tie.Need-take-block-requires Inv-loop μ-loop
+take-block-requires c κs =
+    let t = c .before .before .before .before .before in
+    let p = t .before in
+    let s = begin (p .before) in (
+      s .pre .1 .0 (p .loop .s) (t .loop-test .taken),
+      (omega (arith, s .pre .1 .1 .0, long p .0), omega (arith, s .pre .1 .1 .1, long p .1)),
+    )
+
+add-s : tie.Need-add-s Inv-loop μ-loop
+add-s c = let t = c .before in omega (arith, t .loop-test .taken, begin (t .before .before) .pre .0 .1 .0)
+
+loop-less : tie.Need-loop-less Inv-loop μ-loop
+loop-less c = omega (arith, c .before .loop-test .taken)
+
+loop-again : tie.Need-loop-again Inv-loop μ-loop
+unfolding firsts
+loop-again c =
+    let t = c .before in
+    let p = t .before in
+    let a = begin (p .before) .args in
+    let known : ℕ = getD (a .known .now) (a .j) 0 in
+    let m : ℕ = modulus (a .l) in
+    let s : ℕ = p .loop .s in
+    let i = p .loop .inv in
+    let gain : (ℕ → ℕ) → ℕ → ℕ = λ left. bringsBut (a .l) (a .y .now) (a .t5) (a .j) left (a .but) in (
+      (
+        omega (arith, t .loop-test .taken),
+        (
+          ⊎-elim (λ w. ap length (w .10) ∙ search needs) (λ w. ap length (w .1) ∙ i .0 .1 .0) (c .if1 .came),
+          ⊎-elim (λ w. ap length (w .11) ∙ search needs) (λ w. ap length (w .2) ∙ i .0 .1 .1) (c .if1 .came),
+        ),
+      ),
+      λ left read.
+          let was = i .1 left (λ t k d. read t (omega arith) d) in
+          let Holds : List ℕ → Type 0 = λ set. In set ((known + (firsts (gain left) s + gain left s)) % m) in
+          rw (add-one s)
+          (⊎-elim
+          (λ w. let own = read s (omega arith) (w .0 .taken) in
+          let moved = w .5 .ensures (left s) (own .0) (own .1) in
+          let e = but-other (a .l) (a .y .now) (a .t5) (a .j) left (a .but) s (w .0 .taken) in
+          subst Holds (sym (w .10))
+          (rw e
+          (next-in m known (firsts (gain left) s) (bringsIn (a .l) (a .y .now) (a .t5) (a .j) left s) (p .loop .set)
+          (w .5 .last .1 .1 .1 .1 .1 .1 .1 .1 .0) (omega arith) moved was)))
+          (λ w. let e : gain left s ≡ 0 = rw (w .0 .left) (but-own (a .l) (a .y .now) (a .t5) (a .j) left (a .but)) in
+          let z : known + (firsts (gain left) s + 0) ≡ known + firsts (gain left) s = omega arith in
+          subst Holds (sym (w .1)) (rw (e, z) was))
+          (c .if1 .came)),
+    )
+
+same-length : tie.Need-same-length Inv-loop μ-loop
+same-length c = long (c .before) .0
+
+same-length-2 : tie.Need-same-length-2 Inv-loop μ-loop
+same-length-2 c = long (c .before) .1
+
+returns : tie.Need-returns Inv-loop μ-loop
+returns c left read =
+    let p = c .before in
+    let a = begin (p .before) .args in
+    let k : p .loop .s ≡ a .t5 .n = omega (arith, p .loop .inv .0 .0, c .loop-test .left) in
+    let was = p .loop .inv .1 left (λ t h d. read t (omega arith) d) in
+    rw k at was
+
+pub fill-sums-spec : {M : Type 1} → statement M
+fill-sums-spec =
+    tie.close
+    (tie.spec
+    Inv-loop
+    μ-loop
+    mul-m
+    add-m
+    take-over-requires
+    mul-set
+    shared-slice-read-set
+    cast-set
+    rem-set
+    slice-write-set
+    loop-holds
+    element-copy-out-take-block
+    element-copy-out-take-block-2
+    array-read-take-block
+    take-block-requires
+    add-s
+    loop-less
+    loop-again
+    same-length
+    same-length-2
+    returns)
