@@ -53,7 +53,7 @@ log-of-requires : tie.Need-log-of-requires Inv-loop μ-loop
 log-of-requires c κs =
     let t = turn (c .before) in
     let s = start t in
-    (s .pre .0 .2, s .pre .0 .3 (t .loop .c), omega arith)
+    (s .pre .0 .2, s .pre .0 .3 _, omega arith)
 
 cast-es : tie.Need-cast-es Inv-loop μ-loop
 cast-es c =

@@ -39,7 +39,7 @@ raise-requires : tie.Need-raise-requires Inv-loop μ-loop
 raise-requires c κs =
     let t = c .before .before .before in
     let s = start t in
-    (s .pre .0 .0, s .pre .0 .1, t .loop .inv .2 (t .loop .k), s .pre .1 .0 (t .loop .k))
+    (s .pre .0 .0, s .pre .0 .1, t .loop .inv .2 _, s .pre .1 .0 _)
 
 slice-write-es : tie.Need-slice-write-es Inv-loop μ-loop
 slice-write-es c = search needs
