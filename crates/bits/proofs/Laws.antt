@@ -10,7 +10,7 @@ use native.Mathlib.Omega.{arith}
 use borrow.Author.Tests.{ltb-true, ltb-false, eq-eqb, ne-eqb, eqb-true}
 use lib.Arith.{digits-lt, digits-div, mod-mul}
 use lib.Dec.{ltb, eqb}
-use lib.ListN.{length, getD, set, take, drop, length-append, List·getD-eq-default, drop-of-length-le}
+use lib.ListN.{length, getD, set, take, drop, replicate, length-append, List·getD-eq-default, drop-of-length-le}
 use lib.Pow.{pow-pos, pow-mono}
 use lib.Seq.{drop-cons}
 use Rattle.bits.specs.Bits.{AllBits, number, digits, unpack, same}
@@ -22,6 +22,21 @@ lt-or-ge a b = go (ltb a b) refl
     go true e = inl (ltb-true a b e)
     go false e = inr (ltb-false a b e)
 
+-- ---- entries of lists of numbers
+-- an array of zeros
+pub zeros-at : (n i : ℕ) → _≡_ {A = ℕ} (getD (replicate n 0) i 0) 0
+zeros-at zero i = refl
+zeros-at (suc n) zero = refl
+zeros-at (suc n) (suc i) = zeros-at n i
+
+-- what holds of each entry, and so of the 0 past the end, holds of each entry of the first n
+pub entries-take : (P : ℕ → Type 0) (n : ℕ) (xs : List ℕ) → ((k : ℕ) → P (getD xs k 0)) → (k : ℕ) → P (getD (take n xs) k 0)
+entries-take P zero xs h k = rw (List·getD-eq-default xs 0 {n = length xs} (omega arith)) at (h (length xs))
+entries-take P (suc n) [] h k = h k
+entries-take P (suc n) (x ∷ xs) h zero = h 0
+entries-take P (suc n) (x ∷ xs) h (suc k) = entries-take P n xs (λ i. h (suc i)) k
+
+-- ---- tests of two
 pub both-left : (a b : Bool) → (a && b) ≡ true → a ≡ true
 both-left true b e = refl
 both-left false b e = e

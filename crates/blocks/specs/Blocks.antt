@@ -18,9 +18,13 @@ use Rattle.cells.specs.declared.Cells.{Cells}
 use Rattle.weigh.specs.Weigh.{Can, brought}
 use Rattle.blocks.specs.declared.Cut.{Cut}
 
--- cell z is open and stands in block i
+-- a cell that lost so many bits in a block is open and stands in block i
+abbrev pub standsIn : (lost block i : ℕ) → Bool
+standsIn lost block i = cond (eqb lost 0) false (eqb block i)
+
+-- so it is with cell z
 abbrev pub isIn : Cells → (i z : ℕ) → Bool
-isIn cells i z = cond (eqb (getD (cells .lost) z 0) 0) false (eqb (getD (cells .block) z 0) i)
+isIn cells i z = standsIn (getD (cells .lost) z 0) (getD (cells .block) z 0) i
 
 -- numbers of chunks with a zero for each of the first k cells that is open and stands in block i
 unfoldable pub bare : Layout → Cells → (i k : ℕ) → List ℕ → List ℕ
@@ -82,8 +86,8 @@ pub record ReadOn (l : Layout) (y : List ℕ) (i end j : ℕ) (entry exit : List
 
 -- the numbers vs are those of a row whose block i loses no bit from column j on: before it the chunks are those in hand
 -- but for the open cells, which lose just their counts, and the block has its sum
-pub record Ended (l : Layout) (y numbers : List ℕ) (cells : Cells) (row : List ℕ) (i end j : ℕ) (vs : List ℕ) : Type
-    0 where
+pub record Ended (l : Layout) (y numbers : List ℕ) (cells : Cells) (row : List ℕ) (i end j : ℕ) (vs : List ℕ)
+    : Type 0 where
   pub decided : (c : ℕ) → c < j → c < l .l2 → OpenAt cells i c ⊎ (getD vs (i * l .l2 + c) 0 ≡ getD row (i * l .l2 + c) 0)
   pub lose : Lose l y cells i vs
   pub later : (c : ℕ) → j ≤ c → c < l .l2 → Later l y i end c vs

@@ -3,16 +3,15 @@
 use cells::Cells;
 use message::Layout;
 ghost use mathlib.Core.Path.{_≡_};
-ghost use mathlib.Core.Bool.{true, false, cond};
+ghost use mathlib.Core.Bool.{true, false};
 ghost use mathlib.Core.List.{List};
 ghost use Prim.Native.Nat.{ℕ, _+_, _*_, _<_, _≤_};
-ghost use lib.Dec.{eqb};
 ghost use lib.ListN.{length, getD};
 ghost use Rattle.bits.specs.Bits.{AllBits, longest};
 ghost use Rattle.message.specs.Layout.{legal};
 ghost use Rattle.windows.specs.Windows.{Tables};
 ghost use Rattle.cells.specs.Cells.{Placed};
-ghost use Rattle.blocks.specs.Blocks.{isIn, bare, Longer, CutOut, Later, ReadOn, Ended};
+ghost use Rattle.blocks.specs.Blocks.{standsIn, isIn, bare, Longer, CutOut, Later, ReadOn, Ended};
 
 // Short chunks of one block, cut out of the row: whether they can be weighed, and a column behind all of theirs.
 pub struct Cut {
@@ -23,7 +22,7 @@ pub struct Cut {
 
 // Whether a cell that lost so many bits in a block is open and stands in block i.
 fn is_in(lost: u8, block: u8, i: usize) -> bool
-    ensures { λ r. ⌜ r ≡ cond (eqb lost 0) false (eqb block i) ⌝ }
+    ensures { λ r. ⌜ r ≡ standsIn lost block i ⌝ }
 {
     if lost == 0 {
         return false;

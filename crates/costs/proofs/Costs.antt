@@ -14,6 +14,7 @@ use Rattle.message.specs.declared.Layout.{Layout}
 use Rattle.states.specs.States.{each}
 use Rattle.column.specs.Column.{Fit, Light, Crosses}
 use Rattle.column.specs.declared.Heavy.{Heavy}
+use Rattle.column.proofs.Rows.{string-high}
 use Rattle.whole.specs.Whole.{modulus, firsts, Source, bringsIn, OneLess}
 use Rattle.whole.proofs.Whole.{firsts-same, firsts-but, weightOf, weights-sum, kept-legible, kept-read}
 use Rattle.costs.specs.Costs.{ReadBut, bringsBut, Asked}
@@ -145,6 +146,11 @@ module _ {l : Layout} {y numbers : List ℕ} {heavy : Heavy} {row : List ℕ} {j
       go (no d) = omega (arith, fewer)
 
 -- ---- what is asked of a column
+-- its sum is low
+pub asked-low : {l : Layout} {y totals counts numbers : List ℕ} {heavy : Heavy} {known : List ℕ} {j : ℕ}
+    → Asked l y totals counts numbers heavy known j → getD numbers (l .l1 + j) 0 ≤ 2040
+asked-low {l} {j = j} q = omega (arith, q .fit .low j (q .column), string-high l (q .fit .allowed))
+
 -- its chunks in the heavy blocks can be read
 pub asked-source : {l : Layout} {y totals counts numbers : List ℕ} {heavy : Heavy} {known : List ℕ} {j : ℕ}
     → Asked l y totals counts numbers heavy known j → (s : ℕ) → s < heavy .n

@@ -10,14 +10,6 @@ use lib.ListN.{length, getD, set}
 use lib.Seq.{getD-set-same, getD-set-other}
 use Rattle.costs.specs.Costs.{In, Grows, Moved}
 
--- what holds of each number below n, and of n
-pub up-to : (P : ℕ → Type 0) (n : ℕ) → ((s : ℕ) → s < n → P s) → P n → (s : ℕ) → s < n + 1 → P s
-up-to P n before last s k = go (ℕ-discrete s n)
-  where
-    go : Dec (s ≡ n) → P s
-    go (yes q) = rw q last
-    go (no q) = before s (omega arith)
-
 -- an entry that is set takes nothing out of a set, where it is not zero or was zero
 pub set-grows : (xs : List ℕ) (i v : ℕ) → i < length xs → (In xs i → 0 < v) → Grows xs (set xs i v)
 set-grows xs i v h k r x = go (ℕ-discrete r i)

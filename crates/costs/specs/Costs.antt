@@ -40,7 +40,7 @@ ReadBut l bits heavy size j left but n =
 abbrev pub bringsBut : Layout → (y : List ℕ) → Heavy → (j : ℕ) (left : ℕ → ℕ) (but s : ℕ) → ℕ
 bringsBut l y heavy j left but s = cond (eqb s but) 0 (bringsIn l y heavy j left s)
 
--- what is asked of column j
+-- column j of a received row, its heavy blocks and the sums that its other chunks have, of which something is asked
 pub record Asked (l : Layout) (y totals counts numbers : List ℕ) (heavy : Heavy) (known : List ℕ) (j : ℕ) : Type 0 where
   pub fit : Fit l y numbers heavy
   pub tables : Tables y 0 totals counts

@@ -281,8 +281,8 @@ fn repairs_some(
     false
 }
 
-// Whether column j can have its sum where the chunk of heavy block at loses one bit there and no other does, whatever losses are
-// left in each.
+// Whether column j can have its sum where the chunk of one heavy block, number at, loses one bit there and no other chunk does,
+// whatever losses are left in each.
 fn can_lose_in(
     l: Layout,
     y: &[u8],
@@ -434,7 +434,7 @@ fn all_losses(n: usize, size: [u8; states::MOST_HEAVY]) -> usize
     all
 }
 
-// What the columns cost together; it looks no further once that is above a limit.
+// What the columns cost together, at most two for each; it looks no further once that is above a limit.
 fn columns_cost(
     l: Layout,
     y: &[u8],

@@ -8,8 +8,9 @@ use native.Mathlib.Nat.{add-comm}
 use native.Mathlib.Numerals.{add-one}
 use native.Mathlib.Omega.{arith}
 use lib.Bits.{bitXor, xor-zero-l, xor-zero-r}
-use lib.ListN.{length, getD, set, take, drop, replicate, List·getD-eq-default}
+use lib.ListN.{length, getD, set, take, drop, replicate}
 use lib.Seq.{drop-cons, drop-length, getD-set-same, getD-set-other, getD-take, length-take-le}
+use Rattle.bits.proofs.Laws.{zeros-at, entries-take}
 use Rattle.field.specs.Exponents.{Exponents, sumTo, term, Terms}
 use Rattle.field.specs.Field.{power, times, checkFrom, check}
 use Rattle.field.proofs.Double.{size-low}
@@ -29,23 +30,12 @@ entries-next P n es q h v e c k = go (decLt c n)
     go (no m) = let s : c ≡ n = omega arith in rw (s, getD-set-same es n v 0 h) e
 
 -- zeros are exponents
-zeros : (n k : ℕ) → _≡_ {A = ℕ} (getD (replicate n 0) k 0) 0
-zeros zero k = refl
-zeros (suc n) zero = refl
-zeros (suc n) (suc k) = zeros n k
-
 pub exponents-none : (nc : ℕ) → 3 ≤ nc → (n : ℕ) → Exponents nc (replicate n 0)
-exponents-none nc lo n k = rw (zeros n k) (omega (arith, size-low nc lo))
+exponents-none nc lo n k = rw (zeros-at n k) (omega (arith, size-low nc lo))
 
 -- the first of them are exponents
-pub exponents-take : (nc n : ℕ) (es : List ℕ) → Exponents nc es → n ≤ length es → Exponents nc (take n es)
-exponents-take nc n es q h k = go (decLt k n)
-  where
-    go : Dec (k < n) → getD (take n es) k 0 + 1 < 2 ^ nc
-    go (yes m) = rw (getD-take n es k 0 m) (q k)
-    go (no m) =
-        let over : length (take n es) ≤ k = omega (arith, length-take-le n es h) in
-        rw (List·getD-eq-default (take n es) 0 over) (omega (arith, q 0))
+pub exponents-take : (nc n : ℕ) (es : List ℕ) → Exponents nc es → Exponents nc (take n es)
+exponents-take nc n es q = entries-take (λ e. e + 1 < 2 ^ nc) n es q
 
 -- an exponent is written
 pub exponents-set : (nc n v : ℕ) (es : List ℕ) → Exponents nc es → n < length es → v + 1 < 2 ^ nc

@@ -19,8 +19,8 @@ sumTo (suc n) f = bitXor (sumTo n f) (f n)
 abbrev pub term : (nc i : ℕ) (cs es : List ℕ) (k : ℕ) → ℕ
 term nc i cs es k = times nc (power nc (i * getD cs k 0)) (power nc (getD es k 0))
 
--- of the first c of the chunks xs, n are listed, those but 0: each one's place in cs and the exponent of its content in
--- es. They bring to each check all that the other chunks leave of it
+-- n terms, given by the places cs and the exponents es of their chunks, bring to each check what the first c of the
+-- chunks xs do: with what the other chunks bring it is the check
 pub record Terms (nc n c : ℕ) (xs cs es : List ℕ) : Type 0 where
   pub few : n ≤ c
   pub places : Exponents nc cs

@@ -102,12 +102,12 @@ module _ (l : Layout) (y numbers : List ℕ) (heavy : Heavy) (known : List ℕ) 
           arith,
           f-is,
           above left w e s (a .1 .0) (omega (arith, a .1 .1 .0 .0)) 1 (omega arith) (omega arith)
-              (c .levelled .own (q - stride size s) (omega (arith, a .1 .1 .1 .0, stride-pos size s)) (rw (a .1 .1 .1
-              .1) at marked)),
+              (c .levelled .own (q - stride size s) (omega (arith, a .1 .1 .1 .0, stride-pos size s))
+              (rw (a .1 .1 .1 .1) at marked)),
         ))
         (rw t (rw (same-next (q - stride size s)) (rw (a .1 .1 .1 .1) at marked)))))
-        (level-or (shape .n) size next-marks (each levels) q (c .levelled) v left next e w falls marked (above left w
-        e))
+        (level-or (shape .n) size next-marks (each levels) q (c .levelled) v left next e w falls marked
+        (above left w e))
       where
         state-same' : (a b : ℕ → ℕ) → ((s : ℕ) → s < shape .n → a s ≡ b s) → stateOf shape a ≡ stateOf shape b
         state-same' a b k = state-same size a b (shape .n) k
@@ -130,8 +130,8 @@ module _ (l : Layout) (y numbers : List ℕ) (heavy : Heavy) (known : List ℕ) 
         }
       where
         most-at : (p : ℕ) → p < q + 1 → Dec (p ≡ q) → getD (set marks (at + q) m) (at + p) 0 ≤ more
-        most-at p i (yes e) = rw (e, getD-set-same marks (at + q) m 0 (omega (arith, c .column .long))) (told
-            .mark-more)
+        most-at p i (yes e) = rw (e, getD-set-same marks (at + q) m 0 (omega (arith, c .column .long)))
+            (told .mark-more)
         most-at p i (no e) =
             rw (getD-set-other marks (at + q) (at + p) m 0 (λ d. e (omega arith)))
             (omega (arith, c .most-of p (omega arith), told .most-more))

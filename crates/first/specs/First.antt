@@ -33,9 +33,8 @@ Goes l y numbers heavy known shape j marks base left mark =
 
 -- the mark of the state left, number q: it is marked if its level is high, and, unless that is zero, if a row crosses
 -- column j from it with no loss or with one to a marked state
-pub record FirstMark (l : Layout) (y numbers : List ℕ) (heavy : Heavy) (known : List ℕ) (shape : Shape) (j : ℕ) (marks
-    : List ℕ)
-    (base : ℕ) (left : ℕ → ℕ) (q level mark : ℕ) : Type 0 where
+pub record FirstMark (l : Layout) (y numbers : List ℕ) (heavy : Heavy) (known : List ℕ) (shape : Shape) (j : ℕ)
+    (marks : List ℕ) (base : ℕ) (left : ℕ → ℕ) (q level mark : ℕ) : Type 0 where
   pub high : 2 < level → 0 < mark
   pub same : (row vs : List ℕ) (next : ℕ → ℕ) → Light l heavy row known → Crosses l y numbers heavy row j left next vs
       → ((s : ℕ) → s < heavy .n → next s ≡ left s) → 0 < level → 0 < getD marks (base + q) 0 → 0 < mark

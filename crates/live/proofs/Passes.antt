@@ -34,8 +34,7 @@ module _ (l : Layout) (y numbers : List ℕ) (heavy : Heavy) (row : List ℕ) (s
 
   -- one column more is passed: column c, by column b, where the row counts no less than the floor of its state
   pub passing-next : (known z : List ℕ) (j : ℕ) (ahead : Bool) (c b : ℕ) (entry marks floors : List ℕ) (f : ℕ → ℕ)
-      (done done'
-      : ℕ → Type 0)
+      (done done' : ℕ → Type 0)
       → c ≤ l .l2 → b ≤ l .l2 → Remade (shape .states) (c * shape .states) entry marks
       → ((left : ℕ → ℕ) → Within shape left → 0 < getD entry (c * shape .states + stateOf shape left) 0
       → Regained l y numbers heavy known z shape j ahead entry (b * shape .states) (getD floors (stateOf shape left) 0)

@@ -22,9 +22,8 @@ pub record Ready (l : Layout) (y totals counts numbers : List ℕ) (heavy : Heav
 
 -- a row with the chunks vs crosses column j between the states own and other: ahead from other to own, otherwise from
 -- own to other
-pub record Joined (l : Layout) (y numbers : List ℕ) (heavy : Heavy) (known : List ℕ) (j : ℕ) (ahead : Bool) (own other
-    : ℕ → ℕ)
-    (vs : List ℕ) : Type 0 where
+pub record Joined (l : Layout) (y numbers : List ℕ) (heavy : Heavy) (known : List ℕ) (j : ℕ) (ahead : Bool)
+    (own other : ℕ → ℕ) (vs : List ℕ) : Type 0 where
   pub row : List ℕ
   pub light : Light l heavy row known
   pub forth : ahead ≡ true → Crosses l y numbers heavy row j other own vs
@@ -32,9 +31,8 @@ pub record Joined (l : Layout) (y numbers : List ℕ) (heavy : Heavy) (known : L
 
 -- a mark of the state own covers what the mark of the state other, there, covers, and the chunks of column j that are
 -- others than in z
-abbrev pub Gains : Layout → (y numbers : List ℕ) → Heavy → (known z : List ℕ) → (j : ℕ) (ahead : Bool) (own other : ℕ →
-    ℕ)
-    (there mark : ℕ) → Type 0
+abbrev pub Gains : Layout → (y numbers : List ℕ) → Heavy → (known z : List ℕ) → (j : ℕ) (ahead : Bool)
+    (own other : ℕ → ℕ) (there mark : ℕ) → Type 0
 Gains l y numbers heavy known z j ahead own other there mark =
     (vs : List ℕ) (m : ℕ) → Joined l y numbers heavy known j ahead own other vs → Covers there m
     → Covers mark (m + apartIn l heavy z vs j (heavy .n))
@@ -61,9 +59,8 @@ pub record SpreadBy (l : Layout) (y numbers : List ℕ) (heavy : Heavy) (known z
       → Gains l y numbers heavy known z j ahead own (entryOf digits p) there (getD exit (stateOf shape own) 0)
 
 -- the mark of the state own gains by the marks of the other states below number p, which stand at base
-abbrev pub Gained : Layout → (y numbers : List ℕ) → Heavy → (known z : List ℕ) → Shape → (j : ℕ) (ahead : Bool) (marks
-    : List ℕ)
-    (base p : ℕ) (own : ℕ → ℕ) (mark : ℕ) → Type 0
+abbrev pub Gained : Layout → (y numbers : List ℕ) → Heavy → (known z : List ℕ) → Shape → (j : ℕ) (ahead : Bool)
+    (marks : List ℕ) (base p : ℕ) (own : ℕ → ℕ) (mark : ℕ) → Type 0
 Gained l y numbers heavy known z shape j ahead marks base p own mark =
     (other : ℕ → ℕ) → Within shape other → stateOf shape other < p
     → Gains l y numbers heavy known z j ahead own other (getD marks (base + stateOf shape other) 0) mark

@@ -36,8 +36,8 @@ module _ (states at : ℕ) (entry : List ℕ) where
   remade-set marks r p v h =
       record {
         long = length-set marks (at + p) v ∙ r .long;
-        others = λ i o. getD-set-other marks (at + p) i v 0 (λ e. ⊎-elim (λ u. omega arith) (λ u. omega arith) o) ∙ r
-            .others i o;
+        others = λ i o.
+            getD-set-other marks (at + p) i v 0 (λ e. ⊎-elim (λ u. omega arith) (λ u. omega arith) o) ∙ r .others i o;
       }
 
 -- the marks of another column are unchanged

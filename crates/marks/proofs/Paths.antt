@@ -93,9 +93,8 @@ path-most path (suc j) s h k =
 abbrev pub Lets : Layout → Shape → (marks : List ℕ) (own : ℕ → ℕ → ℕ) → Type 0
 Lets l shape marks own = (i : ℕ) → i ≤ l .l2 → 0 < getD marks (markAt shape i (own i)) 0
 
-module _ (l : Layout) (y numbers : List ℕ) (heavy : Heavy) (row : List ℕ) (shape : Shape) (vs : List ℕ) (own : ℕ → ℕ →
-    ℕ)
-    (kept : Kept heavy shape) (path : Path l y numbers heavy row (each (shape .size)) vs own) where
+module _ (l : Layout) (y numbers : List ℕ) (heavy : Heavy) (row : List ℕ) (shape : Shape) (vs : List ℕ)
+    (own : ℕ → ℕ → ℕ) (kept : Kept heavy shape) (path : Path l y numbers heavy row (each (shape .size)) vs own) where
   pub own-within : (j : ℕ) → j ≤ l .l2 → Within shape (own j)
   own-within j h s k = path-most path j s h (omega (arith, kept .blocks))
 
@@ -109,11 +108,8 @@ module _ (l : Layout) (y numbers : List ℕ) (heavy : Heavy) (row : List ℕ) (s
       ∙ sym (kept .shaped .all)
 
   pub own-last : stateOf shape (own (l .l2)) ≡ 0
-  own-last = state-none (each (shape .size)) (own (l .l2)) (shape .n) (λ s k. path .ends s (omega (
-    arith,
-    kept
-        .blocks,
-  )))
+  own-last =
+      state-none (each (shape .size)) (own (l .l2)) (shape .n) (λ s k. path .ends s (omega (arith, kept .blocks)))
 
   -- the marks of the states own stand in a slice that has room for all columns
   own-place : (marks : List ℕ) → (l .l2 + 1) * shape .states ≤ length marks → (i : ℕ) → i ≤ l .l2

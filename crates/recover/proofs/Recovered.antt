@@ -7,10 +7,10 @@ use mathlib.Core.List.{List}
 use native.Mathlib.Nat.{mod-eq-of-lt, mod-lt, div-lt-iff-lt-mul, div-add-mod'}
 use native.Mathlib.Omega.{arith}
 use lib.Bits.{bitXor, xor-comm}
-use lib.ListN.{length, getD, take, replicate, length-take, List·getD-eq-default}
+use lib.ListN.{length, getD, take, length-take}
 use lib.Pow.{pow-pos}
 use lib.Seq.{getD-take, getD-drop, length-take-le, ext-getD}
-use Rattle.bits.proofs.Laws.{lt-or-ge}
+use Rattle.bits.proofs.Laws.{entries-take}
 use Rattle.field.specs.Field.{Elements, check}
 use Rattle.field.proofs.Linear.{check-element}
 use Rattle.message.specs.Layout.{legal}
@@ -33,16 +33,7 @@ use Rattle.recover.proofs.Spots.{among-or-not}
 
 -- the front of a list of elements is such a list, and no longer than asked
 pub elements-take : (nc n : ℕ) (xs : List ℕ) → Elements nc xs → Elements nc (take n xs) × (length (take n xs) ≤ n)
-elements-take nc n xs h = (each, short)
-  where
-    short : length (take n xs) ≤ n
-    short = omega (arith, length-take n xs)
-
-    each : Elements nc (take n xs)
-    each k =
-        ⊎-elim (λ l. rw (getD-take n xs k 0 l) (h k))
-        (λ g. rw (List·getD-eq-default (take n xs) 0 {n = k} (omega (arith, short))) (pow-pos nc))
-        (lt-or-ge k n)
+elements-take nc n xs h = (entries-take (λ x. x < 2 ^ nc) n xs h, omega (arith, length-take n xs))
 
 -- a chunk where no cell is open, given by its number in row order, is the one in hand
 chunk-in-hand : (l : Layout) → legal l ≡ true → (y : List ℕ) (cells : Cells) (row x : List ℕ) → Under l y cells row x
@@ -51,12 +42,6 @@ chunk-in-hand l e y cells row x u c h none =
     let low : 0 < l .l2 = legal-bounds l e .l2-low in
     let i : c / l .l2 < l .l1 = div-lt-iff-lt-mul {k = l .l2} {x = c} {y = l .l1} low .1 h in
     rw (div-add-mod' c (l .l2)) at (in-hand l y cells row x u (c / l .l2) (c % l .l2) i (mod-lt c low) none)
-
--- an array of zeros
-pub blank-at : (n w : ℕ) → _≡_ {A = ℕ} (getD (replicate n 0) w 0) 0
-blank-at zero w = refl
-blank-at (suc n) zero = refl
-blank-at (suc n) (suc w) = blank-at n w
 
 -- ---- a row under a state, with n erased chunks at the places of its open cells
 module _ (l : Layout) (ns y x row : List ℕ) (cells : Cells) (n : ℕ) (places : List ℕ) (given : Given l ns y)

@@ -217,7 +217,8 @@ fn sweep(
     }
 }
 
-// The same where heavy block b loses a bits in the column: each number of ones that its chunk can have is tried.
+// The same where heavy block b loses a bits in the column: each number of ones that its chunk can have is tried. Where no block is left
+// the mark is raised here, which spares the last call of each sweep.
 fn share(
     l: Layout,
     y: &[u8],

@@ -6,8 +6,7 @@ use native.Mathlib.Omega.{arith}
 use borrow.Author.Needs.{needs}
 use borrow.Author.Tests.{ne-eqb}
 use lib.ListN.{length, getD}
-use Rattle.column.proofs.Rows.{string-high}
-use Rattle.costs.proofs.Costs.{kept-sum, read-but, asked-source}
+use Rattle.costs.proofs.Costs.{kept-sum, read-but, asked-source, asked-low}
 use Rattle.costs.proofs.can_be_whole.Statement.{statement}
 use Rattle.costs.proofs.can_be_whole.Tie as tie
 
@@ -38,14 +37,8 @@ shared-slice-read-result c =
     let q = start (c .before) .pre .0 in
     omega (arith, q .column, q .fit .sums)
 
--- the sum is low
-low : (s : tie.Start) → getD (s .args .numbers .now) (s .args .l .l1 + s .args .j) 0 ≤ 2040
-low s =
-    let q = s .pre .0 in
-    omega (arith, q .fit .low (s .args .j) (q .column), string-high (s .args .l) (q .fit .allowed))
-
 cast-result : tie.Need-cast-result
-cast-result c = record { fits = omega (arith, low (start (c .before))) }
+cast-result c = record { fits = omega (arith, asked-low (start (c .before) .pre .0)) }
 
 slice-read-result : tie.Need-slice-read-result
 slice-read-result c =

@@ -7,10 +7,10 @@ use native.Mathlib.Omega.{arith}
 use borrow.Author.Needs.{needs}
 use lib.ListN.{length, getD}
 use Rattle.column.specs.Column.{valueAt}
-use Rattle.column.proofs.Rows.{crosses-readable, string-high}
+use Rattle.column.proofs.Rows.{crosses-readable}
 use Rattle.whole.specs.Whole.{modulus, firsts}
 use Rattle.costs.specs.Costs.{bringsBut}
-use Rattle.costs.proofs.Costs.{one-sum, read-but, asked-source}
+use Rattle.costs.proofs.Costs.{one-sum, read-but, asked-source, asked-low}
 use Rattle.costs.proofs.can_lose_in.Statement.{statement}
 use Rattle.costs.proofs.can_lose_in.Tie as tie
 
@@ -41,14 +41,8 @@ shared-slice-read-sum c =
     let q = start c .pre .0 in
     omega (arith, q .column, q .fit .sums)
 
--- the sum is low
-low : (s : tie.Start) → getD (s .args .numbers .now) (s .args .l .l1 + s .args .j) 0 ≤ 2040
-low s =
-    let q = s .pre .0 in
-    omega (arith, q .fit .low (s .args .j) (q .column), string-high (s .args .l) (q .fit .allowed))
-
 cast-sum : tie.Need-cast-sum
-cast-sum c = record { fits = omega (arith, low (start c)) }
+cast-sum c = record { fits = omega (arith, asked-low (start c .pre .0)) }
 
 element-copy-out-repairs-some : tie.Need-element-copy-out-repairs-some
 element-copy-out-repairs-some c = let q = start c .pre in omega (arith, q .1 .0, q .0 .fit .few)

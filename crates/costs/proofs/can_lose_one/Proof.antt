@@ -5,12 +5,12 @@ use mathlib.Core.Path.{_≡_, refl, sym, _∙_}
 use mathlib.Core.Bool.{false≢true}
 use mathlib.Core.List.{List}
 use native.Mathlib.Omega.{arith}
+use borrow.Author.Count.{below-more}
 use borrow.Author.Needs.{needs}
 use lib.ListN.{length}
 use Rattle.states.specs.States.{each}
 use Rattle.column.specs.Column.{Light, Crosses}
 use Rattle.whole.specs.Whole.{OneLess}
-use Rattle.costs.proofs.Sets.{up-to}
 use Rattle.costs.proofs.can_lose_one.Statement.{statement}
 use Rattle.costs.proofs.can_lose_one.Tie as tie
 
@@ -76,7 +76,7 @@ loop-again c =
         (k .1 .1 .1 .1 .1 .1 .1 .1 .1 .1 .0 ∙ p .inv .0 .1 .0, k .1 .1 .1 .1 .1 .1 .1 .1 .1 .1 .1 .0 ∙ p .inv .0 .1 .1),
       ),
       λ row vs left next light less crosses.
-          up-to (λ s. OneLess n left next s → ⊥) (p .s) (p .inv .1 row vs left next light less crosses)
+          below-more (λ s. OneLess n left next s → ⊥) (p .s) (p .inv .1 row vs left next light less crosses)
           (λ one. false≢true (sym (c .if1 .left) ∙ b .can-lose-in .ensures row vs left next light less crosses one)),
     )
 

@@ -6,11 +6,11 @@ use mathlib.Core.Bool.{false≢true}
 use mathlib.Core.Logic.{⊎-elim}
 use mathlib.Core.List.{List}
 use native.Mathlib.Omega.{arith}
+use borrow.Author.Count.{below-more}
 use borrow.Author.Needs.{needs}
 use lib.ListN.{length, getD}
 use Rattle.column.proofs.Rows.{string-high}
 use Rattle.costs.specs.Costs.{Repairs}
-use Rattle.costs.proofs.Sets.{up-to}
 use Rattle.costs.proofs.repairs.Statement.{statement}
 use Rattle.costs.proofs.repairs.Tie as tie
 
@@ -74,7 +74,7 @@ loop-again c =
     (λ w. false≢true (sym (w .2 .left) ∙ w .1 .ensures v (r .small) (r .readable) (r .loses) (r .hits)))
     (λ w. omega (arith, w .left, r .among))
     (c .if1 .came) in
-    (omega (arith, t .loop-test .taken), λ v q k. up-to Fails (p .part) (λ i h v. p .inv .1 v i h) here q k v)
+    (omega (arith, t .loop-test .taken), λ v q k. below-more Fails (p .part) (λ i h v. p .inv .1 v i h) here q k v)
 
 returns-2 : tie.Need-returns-2 Inv-loop μ-loop
 returns-2 c v part r =

@@ -4,9 +4,9 @@ use Prim.Native.Nat.{ℕ, _+_, _-_, _<_, _≤_}
 use mathlib.Core.Path.{_≡_, refl, sym, _∙_}
 use mathlib.Core.Bool.{false≢true}
 use native.Mathlib.Omega.{arith}
+use borrow.Author.Count.{below-more}
 use borrow.Author.Needs.{needs}
 use Rattle.costs.specs.Costs.{Repairs}
-use Rattle.costs.proofs.Sets.{up-to}
 use Rattle.costs.proofs.repairs_some.Statement.{statement}
 use Rattle.costs.proofs.repairs_some.Tie as tie
 
@@ -55,11 +55,11 @@ loop-again c =
     let t = b .before in
     let p = t .before .loop in
     let a = start (t .before) .args in
-    let Fails : ℕ → Type 0 = λ e. 1 ≤ e →
-    (v part : ℕ) → Repairs (a .l) (a .y .now) (a .block) (a .end) (a .j) e (a .sum) (a .set .now) v part → ⊥ in
+    let Fails : ℕ → Type 0 = λ e.
+    1 ≤ e → (v part : ℕ) → Repairs (a .l) (a .y .now) (a .block) (a .end) (a .j) e (a .sum) (a .set .now) v part → ⊥ in
     let here : Fails (p .left) = λ h v part r. false≢true (sym (c .if1 .left) ∙ b .repairs .ensures v part r) in (
       (omega (arith, p .inv .0), omega (arith, t .loop-test .taken)),
-      λ e v part h k. up-to Fails (p .left) (λ d l i v part. p .inv .1 d v part i l) here e k h v part,
+      λ e v part h k. below-more Fails (p .left) (λ d l i v part. p .inv .1 d v part i l) here e k h v part,
     )
 
 returns-2 : tie.Need-returns-2 Inv-loop μ-loop

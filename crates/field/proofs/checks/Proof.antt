@@ -138,10 +138,7 @@ sum-requires c κs =
     let t = j .before in
     let q = begun t .pre .0 in
     let n : ℕ = listed (rounded t .before) .fill-terms .result in
-    let z : n - 0 ≡ n = omega arith in
-    let long : n ≤ length (j .if1 .es) =
-    omega (arith, few (rounded t .before), size-high (begun t .args .nc) (q .2), terms j .0) in
-    (q .0, q .1, q .2, rw z (exponents-take (begun t .args .nc) n (j .if1 .es) (terms j .1) long))
+    (q .0, q .1, q .2, exponents-take (begun t .args .nc) (n - 0) (j .if1 .es) (terms j .1))
 
 slice-write-out : tie.Need-slice-write-out Inv-loop μ-loop
 slice-write-out c = search needs

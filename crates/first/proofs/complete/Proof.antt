@@ -73,9 +73,8 @@ loop-holds c = (
       let o = c .before .before in
       let s = start (o .before .before) in
       let a = s .args in
-      last-let (a .l) (a .y .now) (a .numbers .now) (a .heavy) row (a .shape) vs own (s .pre .1 .0) path (a .marks
-      .now) _ (o .only .ensures .0)
-      (omega (arith, o .only .ensures .1)),
+      last-let (a .l) (a .y .now) (a .numbers .now) (a .heavy) row (a .shape) vs own (s .pre .1 .0) path
+      (a .marks .now) _ (o .only .ensures .0) (omega (arith, o .only .ensures .1)),
 )
 
 sub-j : tie.Need-sub-j Inv-loop μ-loop
@@ -142,9 +141,8 @@ returns c =
             f .1 .0 (stateOf (a .shape) (own j))
                 (own-low (a .l) (a .y .now) (a .numbers .now) (a .heavy) row (a .shape) vs own (s .pre .1 .0) path j
                 (omega (arith, k, h))),
-            first-next (a .l) (a .y .now) (a .numbers .now) (a .heavy) row (a .shape) vs own (s .pre .1 .0) path (a
-                .known .now) light j
-                (i .loop .marks) _ _ (omega (arith, k, h)) (far j (omega (arith, k, h))) (f .0) (f .1 .1)
+            first-next (a .l) (a .y .now) (a .numbers .now) (a .heavy) row (a .shape) vs own (s .pre .1 .0) path
+                (a .known .now) light j (i .loop .marks) _ _ (omega (arith, k, h)) (far j (omega (arith, k, h))) (f .0) (f .1 .1)
                 (rw e (i .loop .inv .1 row vs own light path far)) j (omega arith)
                 (omega (arith, k, h)),
           )),
@@ -166,9 +164,8 @@ loop-again c =
     let f = r .complete-column .ensures in (
       (omega (arith, k, h), f .0 .long ∙ i .loop .inv .0 .1),
       λ row vs own light path far.
-          first-next (a .l) (a .y .now) (a .numbers .now) (a .heavy) row (a .shape) vs own (s .pre .1 .0) path (a
-          .known .now) light j
-          (i .loop .marks) _ _ (omega (arith, k, h)) (far j (omega (arith, k, h))) (f .0) (f .1 .1)
+          first-next (a .l) (a .y .now) (a .numbers .now) (a .heavy) row (a .shape) vs own (s .pre .1 .0) path
+          (a .known .now) light j (i .loop .marks) _ _ (omega (arith, k, h)) (far j (omega (arith, k, h))) (f .0) (f .1 .1)
           (rw e (i .loop .inv .1 row vs own light path far)),
     )
 
@@ -184,8 +181,8 @@ slice-read-result c =
       some-state (s .pre .1 .0),
       long i,
       s .pre .1 .1 .1 .1,
-      mul-le-mul-right {m = 1} {n = s .args .l .l2 + 1} (s .args .shape
-          .states) (omega arith),
+      mul-le-mul-right {m = 1} {n = s .args .l .l2 + 1}
+          (s .args .shape .states) (omega arith),
     )
 
 same-length-2 : tie.Need-same-length-2 Inv-loop μ-loop
@@ -205,8 +202,8 @@ returns-2 c =
           let f = own-first (a .l) (a .y .now) (a .numbers .now) (a .heavy) row (a .shape) vs own (s .pre .1 .0) path in
           let e : markAt (a .shape) 0 (own 0) ≡ a .shape .states - 1 = omega (arith, zero-mul (a .shape .states)) in (
             lt-ltb 0 (getD (i .loop .marks) (a .shape .states - 1) 0) (rw e at (t 0 (omega arith))),
-            lets-through (a .l) (a .y .now) (a .numbers .now) (a .heavy) row (a .shape) vs own (s .pre .1 .0) path (i
-                .loop .marks) t,
+            lets-through (a .l) (a .y .now) (a .numbers .now) (a .heavy) row (a .shape) vs own (s .pre .1 .0) path
+                (i .loop .marks) t,
           ),
     )
 

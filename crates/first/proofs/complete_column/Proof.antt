@@ -73,8 +73,7 @@ level-of-requires c κs =
         omega (arith, p .1 .1 .1 .0 .long, t),
         omega (
           arith,
-          p .1 .1
-              .0 .few,
+          p .1 .1 .0 .few,
           t,
         ),
       ),
@@ -166,9 +165,8 @@ loop-again c =
     let s = begin i in
     let p = s .pre in
     let found = entryOf (s .args .digits .now) (i .loop .q) in
-    completing-next _ _ _ _ _ _ _ _ _ _ _ (p .1 .1 .0) (p .1 .1 .1 .1 .1 .0) (p .1 .1 .1 .1 .1 .1) (i .loop .marks)
-    (i .loop
-    .levels)
+    completing-next _ _ _ _ _ _ _ _ _ _ _ (p .1 .1 .0) (p .1 .1 .1 .1 .1 .0) (p .1 .1 .1 .1 .1 .1)
+    (i .loop .marks) (i .loop .levels)
     (i .loop .highest) (i .loop .q) found (v .level-of .result) (d .far-level .result) (f .first-mark .result)
     (c .higher .result)
     (i .loop .inv) (t .loop-test .taken)

@@ -122,9 +122,9 @@ loop-again c =
                 (omega (arith, k, h)),
           )
           in
-          passing-next (a .l) (a .y .now) (a .numbers .now) (a .heavy) row (a .shape) vs own (s .pre .1 .0) path (a
-          .known .now) (a .z .now)
-          j false j (j + 1) (i .loop .marks) _ (replicate mostStates 0) (apartFrom (a .l) (a .heavy) (a .z .now) vs)
+          passing-next (a .l) (a .y .now) (a .numbers .now) (a .heavy) row (a .shape) vs own (s .pre .1 .0) path
+          (a .known .now) (a .z .now) j false j (j + 1) (i .loop .marks) _ (replicate mostStates 0)
+          (apartFrom (a .l) (a .heavy) (a .z .now) vs)
           (λ t. j + 1 ≤ t) (λ t. j ≤
           t)
           (omega (arith, k, h)) (omega (arith, k, h)) (r .remake .ensures .0) (r .remake .ensures .1 .1)
@@ -160,9 +160,8 @@ returns c =
           passing-through (a .l) (a .shape) _ own (apartFrom (a .l) (a .heavy) (a .z .now) vs) (λ t. i .loop .j ≤ t)
           (λ t h. omega (arith, c .loop-test .left))
           (i .loop .inv .1 row vs own light path
-          (only-lets (a .l) (a .y .now) (a .numbers .now) (a .heavy) row (a .shape) vs own (s .pre .1 .0) path (a .l
-          .l2)
-          (a .l .l2 * a .shape .states) 0 (a .marks .now) _ refl (o .0) (omega (arith, o .1)) last lets));
+          (only-lets (a .l) (a .y .now) (a .numbers .now) (a .heavy) row (a .shape) vs own (s .pre .1 .0) path
+          (a .l .l2) (a .l .l2 * a .shape .states) 0 (a .marks .now) _ refl (o .0) (omega (arith, o .1)) last lets));
     }
 
 pub back-spec : {M : Type 1} → statement M

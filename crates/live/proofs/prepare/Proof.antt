@@ -45,8 +45,8 @@ mul-if2 c =
       fits = omega (
         arith,
         mul-le-mul {n₁ = s .args .l .l2 + 1} {m₁ = h .shape-of .result .states} {n₂ = 256} {m₂ = 729}
-            (omega (arith, sizes (s .args .l) (legal-bounds (s .args .l) (s .pre .0 .allowed)) .l2-high)) (c .before
-            .before .if1 .left),
+            (omega (arith, sizes (s .args .l) (legal-bounds (s .args .l) (s .pre .0 .allowed)) .l2-high))
+            (c .before .before .if1 .left),
       );
     }
 

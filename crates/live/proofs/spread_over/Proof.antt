@@ -95,9 +95,8 @@ loop-again c =
           (each (a .other)) (a .there) (a .marks .now) (a .at) (a .low) _ q (c .higher .result) (i .loop .fresh)
           (omega (arith, i .loop .inv .1 .long, p .0 .1, p .1 .1, t)) (h .0)
           (λ m. gains-more (a .l) (a .y .now) (a .numbers .now) (a .heavy) (a .known .now) (a .z .now) (a .j) false
-          (entryOf (a .digits .now) q) (each (a .other)) (a .there) (c .before .reached .result) (c .higher .result) (h
-          .1)
-          (c .before .reached .ensures m))
+          (entryOf (a .digits .now) q) (each (a .other)) (a .there) (c .before .reached .result) (c .higher .result)
+          (h .1) (c .before .reached .ensures m))
           (i .loop .inv .1),
     )
 

@@ -19,8 +19,8 @@ mul-at c =
     record {
       fits = omega (
         arith,
-        mul-le-mul {n₁ = s .args .j} {m₁ = s .args .shape .states} {n₂ = 255} {m₂ = 4294967295} (s .pre) (c .before
-            .before .if1 .left),
+        mul-le-mul {n₁ = s .args .j} {m₁ = s .args .shape .states} {n₂ = 255} {m₂ = 4294967295}
+            (s .pre) (c .before .before .if1 .left),
       );
     }
 

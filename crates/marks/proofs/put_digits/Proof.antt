@@ -49,8 +49,8 @@ loop-again c =
       (
         λ i h. getD-set-other (p .digits) at i v 0 (λ e. omega arith) ∙ p .inv .1 .0 i h,
         below-more _ _
-            (λ t h. getD-set-other (p .digits) at (c .before .before .args .q * 6 + t) v 0 (λ e. omega arith) ∙ p .inv
-            .1 .1 t h)
+            (λ t h. getD-set-other (p .digits) at (c .before .before .args .q * 6 + t) v 0 (λ e. omega arith)
+            ∙ p .inv .1 .1 t h)
             (getD-set-same (p .digits) at v 0 (omega arith)),
       ),
     )

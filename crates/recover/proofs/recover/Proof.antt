@@ -5,12 +5,13 @@ use Prim.Native.Nat.{_-_, _*_, _≤_}
 use mathlib.Core.Path.{_≡_}
 use native.Mathlib.Omega.{arith}
 use lib.ListN.{length, getD, replicate}
+use Rattle.bits.proofs.Laws.{zeros-at}
 use Rattle.field.specs.Field.{Elements}
 use Rattle.field.proofs.Double.{size-high, size-low}
 use Rattle.message.proofs.Legal.{Bounds, legal-bounds, sizes}
 use Rattle.erasures.specs.Erasures.{Places}
 use Rattle.recover.specs.Recover.{Spots}
-use Rattle.recover.proofs.Recovered.{blank-at, elements-take, solved}
+use Rattle.recover.proofs.Recovered.{elements-take, solved}
 use Rattle.recover.proofs.recover.Statement.{statement}
 use Rattle.recover.proofs.recover.Tie as tie
 
@@ -150,7 +151,7 @@ returns c cells collected y x given sent under =
     let all : a .l .l1 * a .l .l2 - 0 ≡ a .l .l1 * a .l .l2 = omega arith in
     solved (a .l) (a .numbers .now) y x (a .row .now) cells (a .e .n) (a .e .places) given sent under collected
     (replicate 12 0)
-    (p .result) (k .reduce .result) (long k) (blank-at 12) (p .ensures) (k .reduce .ensures .0) (m .missing .result)
+    (p .result) (k .reduce .result) (long k) (zeros-at 12) (p .ensures) (k .reduce .ensures .0) (m .missing .result)
     (v .result) (c .put2 .result) few (rw all at (m .missing .ensures .1)) (v .ensures .1) (c .put2 .ensures)
 
 pub recover-spec : {M : Type 1} → statement M

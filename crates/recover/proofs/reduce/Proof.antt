@@ -8,10 +8,10 @@ use native.Mathlib.Omega.{arith}
 use lib.Bits.{bitAnd, and-mask}
 use lib.ListN.{length, getD, length-set}
 use lib.Pow.{pow-pos}
+use Rattle.bits.proofs.Laws.{zeros-at}
 use Rattle.field.specs.Field.{Element, Elements}
 use Rattle.field.proofs.Double.{size-high}
 use Rattle.erasures.proofs.Erasures.{set-each}
-use Rattle.recover.proofs.Recovered.{blank-at}
 use Rattle.recover.proofs.reduce.Statement.{statement}
 use Rattle.recover.proofs.reduce.Tie as tie
 
@@ -33,7 +33,7 @@ cast-ones c =
 loop-holds : tie.Need-loop-holds Inv-loop μ-loop
 loop-holds c = (
   (omega arith, refl),
-  (λ k h. absurd (omega arith), λ k. rw (blank-at 255 k) (pow-pos (c .before .args .nc))),
+  (λ k h. absurd (omega arith), λ k. rw (zeros-at 255 k) (pow-pos (c .before .args .nc))),
 )
 
 array-read-out : tie.Need-array-read-out Inv-loop μ-loop

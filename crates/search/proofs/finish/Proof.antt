@@ -8,6 +8,7 @@ use mathlib.Core.List.{List}
 use native.Mathlib.Omega.{arith}
 use lib.ListN.{length, getD, take, drop, length-drop}
 use lib.Seq.{length-take-le, getD-take, getD-drop}
+use Rattle.bits.proofs.Laws.{zeros-at}
 use Rattle.rows.specs.Held.{Held}
 use Rattle.message.specs.declared.Layout.{Layout}
 use Rattle.message.proofs.Legal.{legal-bounds, sizes}
@@ -17,7 +18,6 @@ use Rattle.anchor.specs.Anchor.{isSet, Anchored}
 use Rattle.anchor.proofs.Anchor.{set-long, near-known}
 use Rattle.tables.specs.Tables.{NearKnown}
 use Rattle.search.proofs.Leaves.{all-in-hand, starts-sound, starts-under}
-use Rattle.search.proofs.Totals.{zeros}
 use Rattle.search.proofs.finish.Statement.{statement}
 use Rattle.search.proofs.finish.Tie as tie
 
@@ -110,7 +110,7 @@ tables-requires c κs =
     let a = s .args in
     let f = h .heavy-of in
     let sound =
-    starts-sound (a .l) (a .pattern .counts) (f .result .heavy) _ (f .ensures) refl (zeros 12) (length (a .y .now))
+    starts-sound (a .l) (a .pattern .counts) (f .result .heavy) _ (f .ensures) refl (zeros-at 12) (length (a .y .now))
     (s .pre .1 .1 .0) in
     let set = is-anchored (c .before .before .before) in
     let part = anchor-part (a .desk .now) set in (
@@ -139,7 +139,7 @@ returns-2 c =
     let a = s .args in
     let f = h .heavy-of in
     grown-weaken
-    (λ x k u. starts-under (a .l) (a .pattern .counts) (f .result .heavy) _ (f .ensures) refl (zeros 12) (a .y .now)
+    (λ x k u. starts-under (a .l) (a .pattern .counts) (f .result .heavy) _ (f .ensures) refl (zeros-at 12) (a .y .now)
     (counted s) x u)
     (q .tables .ensures)
 
@@ -153,7 +153,7 @@ tables-requires-2 c κs =
     let a = s .args in
     let f = h .heavy-of in
     let sound =
-    starts-sound (a .l) (a .pattern .counts) (f .result .heavy) _ (f .ensures) refl (zeros 12) (length (a .y .now))
+    starts-sound (a .l) (a .pattern .counts) (f .result .heavy) _ (f .ensures) refl (zeros-at 12) (length (a .y .now))
     (s .pre .1 .1 .0) in (
       (s .pre .0, s .pre .1 .0),
       (
@@ -173,7 +173,7 @@ returns-3 c =
     let a = s .args in
     let f = h .heavy-of in
     grown-weaken
-    (λ x k u. starts-under (a .l) (a .pattern .counts) (f .result .heavy) _ (f .ensures) refl (zeros 12) (a .y .now)
+    (λ x k u. starts-under (a .l) (a .pattern .counts) (f .result .heavy) _ (f .ensures) refl (zeros-at 12) (a .y .now)
     (counted s) x u)
     (q .tables2 .ensures)
 

@@ -6,10 +6,10 @@ use mathlib.Core.Path.{_≡_, refl}
 use mathlib.Core.Logic.{⊎-elim}
 use native.Mathlib.Omega.{arith}
 use lib.ListN.{length, take}
+use Rattle.bits.proofs.Laws.{zeros-at}
 use Rattle.consistent.specs.Greedy.{inAll}
 use Rattle.search.specs.Patterns.{HeavyIn}
 use Rattle.anchor.proofs.Totals.{total-next, total-grows}
-use Rattle.search.proofs.Totals.{zeros}
 use Rattle.search.proofs.HeavyBlocks.{heavy-none, heavy-light, heavy-more}
 use Rattle.search.proofs.heavy_of.Statement.{statement}
 use Rattle.search.proofs.heavy_of.Tie as tie
@@ -23,7 +23,7 @@ abbrev μ-loop : tie.MeasureT-loop
 
 loop-holds : tie.Need-loop-holds Inv-loop μ-loop
 unfolding inAll
-loop-holds c = (search needs, (refl, heavy-none (c .args .t2 .counts) _ _ refl refl (zeros 6)))
+loop-holds c = (search needs, (refl, heavy-none (c .args .t2 .counts) _ _ refl refl (zeros-at 6)))
 
 element-copy-out-a : tie.Need-element-copy-out-a Inv-loop μ-loop
 element-copy-out-a c = search needs
