@@ -1,7 +1,8 @@
--- The steps from a loss state, block by block: a row's own share goes on with the choices so far, and what the chunks
--- bring stays in the span. Assumes nothing.
+-- The steps from a loss state: the choices that are listed offer its own to each row, and marks are raised for every pick
+-- of one choice for each block. Assumes nothing.
 use Prim.Native.Nat.{ℕ, zero, suc, _+_, _-_, _*_, _%_, _<_, _≤_}
-use mathlib.Core.Path.{_≡_, refl, sym, ap, ap₂, subst, _∙_}
+use mathlib.Core.Path.{_≡_, refl, sym, subst, ap, ap₂, _∙_}
+use mathlib.Core.Bool.{cond}
 use mathlib.Core.List.{List}
 use mathlib.Core.Logic.{_⊎_, inl, inr, ⊎-elim}
 use native.Mathlib.Decide.{ℕ-discrete}
@@ -17,19 +18,20 @@ use Rattle.bits.proofs.Laws.{bits-digits, length-digits, lt-or-ge}
 use Rattle.vt.specs.Ones.{ones}
 use Rattle.message.specs.declared.Layout.{Layout}
 use Rattle.consistent.specs.Greedy.{losses}
-use Rattle.lines.specs.Lines.{unlike}
 use Rattle.states.specs.States.{state, stride, each}
 use Rattle.states.specs.declared.Shape.{Shape}
-use Rattle.states.proofs.States.{state-low}
-use Rattle.weigh.specs.Weigh.{brought, chunkTop, Wider}
+use Rattle.states.proofs.States.{stride-pos, stride-up}
+use Rattle.weigh.specs.Weigh.{brought, Wider}
 use Rattle.weigh.specs.declared.Span.{Span}
 use Rattle.weigh.proofs.Spans.{one-wider}
-use Rattle.column.specs.Column.{chunkAt, Crosses, apartIn}
+use Rattle.column.specs.Column.{chunkAt, valueAt, Crosses, apartIn}
 use Rattle.column.specs.declared.Heavy.{Heavy}
 use Rattle.column.proofs.Rows.{one-most, chunk-stands, string-high, no-loss}
-use Rattle.steps.specs.Steps.{Above, Raises, oneIf, markedBelow, Counts, broughtIn}
-use Rattle.steps.specs.Steps.{Seeable, Viewed, Ground, Stands, Shares, Chosen, Sharing, Raised}
+use Rattle.steps.specs.Steps.{Above, Raises, oneIf, markedBelow, Counts, Fitted, broughtIn}
+use Rattle.steps.specs.Steps.{Seeable, Viewed, addsOf, leastOf, mostOf, otherOf, Keeps, Put, Small, bringsAt}
+use Rattle.steps.specs.Steps.{Suits, Offers, Listed, Blocks, below, picked, Picks, Ground, Low, Stands, With, Ends, Gains}
 use Rattle.steps.specs.declared.View.{View}
+use Rattle.steps.specs.declared.Stand.{Stand}
 
 -- ---- marked states are counted
 module _ (marks : List ℕ) (at : ℕ) where
@@ -109,6 +111,10 @@ above-less there few more mark h u = ⊎-elim (λ k. inl (omega arith)) (λ k. i
 pub raises-same : (fresh : List ℕ) → Raises fresh fresh
 raises-same fresh = record { long = refl; grows = λ i. omega arith }
 
+pub raises-then : {entry mid exit : List ℕ} → Raises entry mid → Raises mid exit → Raises entry exit
+raises-then a b =
+    record { long = b .long ∙ a .long; grows = λ i. omega (arith, a .grows i, b .grows i) }
+
 -- a mark that is set to a higher one
 pub raises-set : (fresh : List ℕ) (q v : ℕ) → q < length fresh → getD fresh q 0 ≤ v → Raises fresh (set fresh q v)
 raises-set fresh q v h up = record { long = length-set fresh q v; grows = λ i. go i (ℕ-discrete i q) }
@@ -117,188 +123,441 @@ raises-set fresh q v h up = record { long = length-set fresh q v; grows = λ i. 
     go i (yes e) = rw (e, getD-set-same fresh q v 0 h) up
     go i (no e) = rw (getD-set-other fresh q i v 0 e) (omega arith)
 
--- ---- one part of a sweep after another
-module _ {l : Layout} {y : List ℕ} {heavy : Heavy} {z : List ℕ} {shape : Shape} {j : ℕ} {left : ℕ → ℕ}
-    {modulus need there : ℕ}
-    {marks : List ℕ} {at : ℕ} where
-  pub raised-then : {P Q R : (next : ℕ → ℕ) (vs : List ℕ) → Type 0} {entry mid exit : List ℕ}
-      → Raised l y heavy z shape j left modulus need there marks at P entry mid
-      → Raised l y heavy z shape j left modulus need there marks at Q mid exit
-      → ((numbers row vs : List ℕ) (next : ℕ → ℕ) → Crosses l y numbers heavy row j left next vs → R next vs
-      → P next vs ⊎ Q next vs)
-      → Raised l y heavy z shape j left modulus need there marks at R entry exit
-  raised-then p q parts =
+-- ---- choices are listed
+module _ {t : ℕ} {entry exit : List ℕ} (k : Keeps t entry exit) where
+  kept-small : (top u : ℕ) → u < t → Small entry top u → Small exit top u
+  kept-small top u h s =
       record {
-        raises =
-            record {
-              long = q .raises .long ∙ p .raises .long;
-              grows = λ i. omega (arith, p .raises .grows i, q .raises .grows i);
-            };
-        gains = λ numbers row vs next x r e m.
+        adds-small = rw (k .before (4 * u) (omega arith)) (s .adds-small);
+        least-small = rw (k .before (4 * u + 1) (omega arith)) (s .least-small);
+        most-small = rw (k .before (4 * u + 2) (omega arith)) (s .most-small);
+        other-small = rw (k .before (4 * u + 3) (omega arith)) (s .other-small);
+      }
+
+  kept-suits : {l : Layout} {heavy : Heavy} {z vs : List ℕ} {j b adds : ℕ} (u : ℕ) → u < t
+      → Suits l heavy z vs j b entry adds u → Suits l heavy z vs j b exit adds u
+  kept-suits u h s =
+      record {
+        adds-just = k .before (4 * u) (omega arith) ∙ s .adds-just;
+        least = rw (k .before (4 * u + 1) (omega arith)) (s .least);
+        most = rw (k .before (4 * u + 2) (omega arith)) (s .most);
+        other = rw (k .before (4 * u + 3) (omega arith)) (s .other);
+      }
+
+-- the four numbers of choice t, put one after another
+module _ (choices : List ℕ) (t adds : ℕ) (span : Span) (other : ℕ) (long : 4 * t + 4 ≤ length choices) where
+  abbrev one : List ℕ
+  one = set choices (4 * t) adds
+
+  abbrev two : List ℕ
+  two = set one (4 * t + 1) (span .low)
+
+  abbrev three : List ℕ
+  three = set two (4 * t + 2) (span .high)
+
+  abbrev four : List ℕ
+  four = set three (4 * t + 3) other
+
+  pub one-long : length one ≡ length choices
+  one-long = length-set choices (4 * t) adds
+
+  pub two-long : length two ≡ length choices
+  two-long = length-set one (4 * t + 1) (span .low) ∙ one-long
+
+  pub three-long : length three ≡ length choices
+  three-long = length-set two (4 * t + 2) (span .high) ∙ two-long
+
+  pub four-keeps : Keeps t choices four
+  four-keeps =
+      record {
+        long = length-set three (4 * t + 3) other ∙ three-long;
+        before = λ i h.
+            getD-set-other three (4 * t + 3) i other 0 (λ e. omega (arith, e))
+            ∙ getD-set-other two (4 * t + 2) i (span .high) 0 (λ e. omega (arith, e))
+            ∙ getD-set-other one (4 * t + 1) i (span .low) 0 (λ e. omega (arith, e))
+            ∙ getD-set-other choices (4 * t) i adds 0 (λ e. omega (arith, e));
+      }
+
+  pub four-put : Put t adds span other four
+  four-put =
+      record {
+        adds-is =
+            getD-set-other three (4 * t + 3) (4 * t) other 0 (λ e. omega (arith, e))
+            ∙ getD-set-other two (4 * t + 2) (4 * t) (span .high) 0 (λ e. omega (arith, e))
+            ∙ getD-set-other one (4 * t + 1) (4 * t) (span .low) 0 (λ e. omega (arith, e))
+            ∙ getD-set-same choices (4 * t) adds 0 (omega arith);
+        least-is =
+            getD-set-other three (4 * t + 3) (4 * t + 1) other 0 (λ e. omega (arith, e))
+            ∙ getD-set-other two (4 * t + 2) (4 * t + 1) (span .high) 0 (λ e. omega (arith, e))
+            ∙ getD-set-same one (4 * t + 1) (span .low) 0 (omega (arith, one-long));
+        most-is =
+            getD-set-other three (4 * t + 3) (4 * t + 2) other 0 (λ e. omega (arith, e))
+            ∙ getD-set-same two (4 * t + 2) (span .high) 0 (omega (arith, two-long));
+        other-is = getD-set-same three (4 * t + 3) other 0 (omega (arith, three-long));
+      }
+
+pub keeps-same : (t : ℕ) (choices : List ℕ) → Keeps t choices choices
+keeps-same t choices = record { long = refl; before = λ i h. refl }
+
+pub keeps-then : {t u : ℕ} {entry mid exit : List ℕ} → t ≤ u → Keeps t entry mid → Keeps u mid exit → Keeps t entry exit
+keeps-then h a b =
+    record {
+      long = b .long ∙ a .long;
+      before = λ i k. b .before i (omega arith) ∙ a .before i k;
+    }
+
+module _ {l : Layout} {y : List ℕ} {heavy : Heavy} {z : List ℕ} {j b left one : ℕ} where
+  -- choices that are kept are still those of a block
+  pub kept-listed : {t : ℕ} {entry exit : List ℕ} {low high : ℕ} {P : (next : ℕ → ℕ) (vs : List ℕ) → Type 0}
+      → Keeps t entry exit → high ≤ t → Listed l y heavy z j b left one entry low high P
+      → Listed l y heavy z j b left one exit low high P
+  kept-listed k h p =
+      record {
+        order = p .order;
+        small = λ t a c. kept-small k (left * one) t (omega arith) (p .small t a c);
+        offers = λ numbers row vs own next e x w.
+            let o = p .offers numbers row vs own next e x w in
+            (o .0, (o .1 .0, kept-suits k (o .0) (omega (arith, o .1 .0 .1)) (o .1 .1)));
+      }
+
+  -- some choices and others behind them
+  pub listed-then : {P Q R : (next : ℕ → ℕ) (vs : List ℕ) → Type 0} {choices : List ℕ} {low mid high : ℕ}
+      → Listed l y heavy z j b left one choices low mid P → Listed l y heavy z j b left one choices mid high Q
+      → ((numbers row vs : List ℕ) (own next : ℕ → ℕ) → own b ≡ left → Crosses l y numbers heavy row j own next vs
+      → R next vs → P next vs ⊎ Q next vs)
+      → Listed l y heavy z j b left one choices low high R
+  listed-then {low = low} {mid} {high} p q parts =
+      record {
+        order = omega (arith, p .order, q .order);
+        small = λ t a c. ⊎-elim (λ (h : t < mid). p .small t a h) (λ (h : mid ≤ t). q .small t h c) (lt-or-ge t mid);
+        offers = λ numbers row vs own next e x r.
             ⊎-elim
-            (λ u.
-            above-more there (apartIn l heavy z vs j (heavy .n)) _ _
-            (q .raises .grows (state (each (shape .size)) next (shape .n)))
-            (p .gains numbers row vs next x u e m))
-            (λ u. q .gains numbers row vs next x u e m)
-            (parts numbers row vs next x r);
+            (λ u. let o = p .offers numbers row vs own next e x u in
+            (o .0, ((o .1 .0 .0, omega (arith, o .1 .0 .1, q .order)), o .1 .1)))
+            (λ u. let o = q .offers numbers row vs own next e x u in
+            (o .0, ((omega (arith, o .1 .0 .0, p .order), o .1 .0 .1), o .1 .1)))
+            (parts numbers row vs own next e x r);
       }
 
-  -- where no row goes on, nothing is to be raised
-  pub raised-none : {R : (next : ℕ → ℕ) (vs : List ℕ) → Type 0} (fresh : List ℕ)
-      → ((numbers row vs : List ℕ) (next : ℕ → ℕ) → Crosses l y numbers heavy row j left next vs → R next vs
-      → 0 < getD marks (at + state (each (shape .size)) next (shape .n)) 0 → ⊥)
-      → Raised l y heavy z shape j left modulus need there marks at R fresh fresh
-  raised-none fresh never =
+  -- the same choices for fewer rows
+  pub listed-weaken : {P Q : (next : ℕ → ℕ) (vs : List ℕ) → Type 0} {choices : List ℕ} {low high : ℕ}
+      → Listed l y heavy z j b left one choices low high P
+      → ((numbers row vs : List ℕ) (own next : ℕ → ℕ) → own b ≡ left → Crosses l y numbers heavy row j own next vs
+      → Q next vs → P next vs)
+      → Listed l y heavy z j b left one choices low high Q
+  listed-weaken p why =
       record {
-        raises = raises-same fresh;
-        gains = λ numbers row vs next x r e m. absurd (never numbers row vs next x r m);
+        order = p .order;
+        small = p .small;
+        offers = λ numbers row vs own next e x r.
+            p .offers numbers row vs own next e x (why numbers row vs own next e x r);
       }
 
--- what a sweep reads stays as it is while marks are raised
-pub ground-stays : {l : Layout} {y totals counts : List ℕ} {heavy : Heavy} {z : List ℕ} {shape : Shape} {j : ℕ}
-    {left : List ℕ}
-    {modulus need : ℕ} {marks : List ℕ} {at : ℕ} {some fresh : List ℕ} (new : List ℕ) → length new ≡ length fresh
-    → Ground l y totals counts heavy z shape j left modulus need marks at some fresh
-    → Ground l y totals counts heavy z shape j left modulus need marks at some new
-ground-stays new same g =
+  -- no choices, where no row crosses the column so
+  pub listed-none : {P : (next : ℕ → ℕ) (vs : List ℕ) → Type 0} (choices : List ℕ) (t : ℕ)
+      → ((numbers row vs : List ℕ) (own next : ℕ → ℕ) → own b ≡ left → Crosses l y numbers heavy row j own next vs
+      → P next vs → ⊥)
+      → Listed l y heavy z j b left one choices t t P
+  listed-none choices t never =
+      record {
+        order = omega arith;
+        small = λ u a c. absurd (omega arith);
+        offers = λ numbers row vs own next e x r. absurd (never numbers row vs own next e x r);
+      }
+
+-- the choices of one block more, behind those of the blocks before it
+module _ {l : Layout} {y : List ℕ} {heavy : Heavy} {z : List ℕ} {j : ℕ} (left ones : ℕ → ℕ) where
+  pub blocks-next : {choices exit : List ℕ} (from : List ℕ) (b : ℕ) {end : ℕ} → b + 1 < length from
+      → Blocks l y heavy z j left ones choices from b → Keeps (getD from b 0) choices exit
+      → Listed l y heavy z j b (left b) (ones b) exit (getD from b 0) end (λ next vs. next b ≤ left b)
+      → Blocks l y heavy z j left ones exit (set from (b + 1) end) (b + 1)
+  blocks-next {choices} {exit} from b {end} long old keeps new d h =
+      let last : getD (set from (b + 1) end) (b + 1) 0 ≡ end = getD-set-same from (b + 1) end 0 long in
+      let own : getD (set from (b + 1) end) d 0 ≡ getD from d 0 =
+      getD-set-other from (b + 1) d end 0 (λ e. omega (arith, e)) in
+      ⊎-elim
+      (λ (k : d < b).
+      let next : getD (set from (b + 1) end) (d + 1) 0 ≡ getD from (d + 1) 0 =
+      getD-set-other from (b + 1) (d + 1) end 0 (λ e. omega (arith, e)) in
+      let o = old d k in
+      rw (last, own, next) (omega (arith, o .0, new .order), kept-listed keeps (o .0) (o .1)))
+      (λ (k : b ≤ d).
+      let e : d ≡ b = omega arith in
+      let same : getD (set from (b + 1) end) b 0 ≡ getD from b 0 = rw e at own in
+      rw (e, last, same) (omega arith, new))
+      (lt-or-ge d b)
+
+-- what the losses of a block add to the number of a state is small
+pub adds-low : {heavy : Heavy} {shape : Shape} {left : List ℕ} → Fitted heavy shape left → (b : ℕ) → b < heavy .n
+    → getD left b 0 * getD (shape .stride) b 0 ≤ 65535
+unfolding stride
+adds-low {heavy} {shape} {left} f b h =
+    let k : b < shape .n = omega (arith, h, f .blocks) in
+    let top = mul-le-mul-right (stride (each (shape .size)) b) (f .within b k) in
+    let up = stride-up (each (shape .size)) (suc b) (shape .n) k in
+    rw (f .shaped .counts b k) (omega (arith, top, up, f .shaped .all, f .states))
+
+-- a block has few choices
+below-rises : (a b : ℕ) → a ≤ b → below a ≤ below b
+unfolding below
+below-rises a zero h = let e : a ≡ 0 = omega arith in rw e (omega arith)
+below-rises a (suc b) h =
+    ⊎-elim (λ (k : a < suc b). omega (arith, below-rises a b (omega arith)))
+    (λ (k : suc b ≤ a). let e : a ≡ suc b = omega arith in rw e (omega arith))
+    (lt-or-ge a (suc b))
+
+pub below-next : (a : ℕ) → below (a + 1) ≡ below a + (a + 1)
+unfolding below
+below-next a = ap below (add-one a)
+
+pub below-most : (a : ℕ) → a ≤ 9 → below a ≤ 45
+unfolding below
+below-most a h = below-rises a 9 h
+
+-- ---- the chunk of a row
+module _ {l : Layout} {y numbers : List ℕ} {heavy : Heavy} {row : List ℕ} {j : ℕ} {own next : ℕ → ℕ} {vs : List ℕ}
+    (x : Crosses l y numbers heavy row j own next vs) {b left : ℕ} (h : b < heavy .n) (e : own b ≡ left) (a : ℕ)
+    (lost : left ≡ next b + a) {view : View} (see : Viewed l y heavy j b left a view) where
+  -- the number of its chunk in heavy block b
+  abbrev v : ℕ
+  v = valueAt l heavy vs j b
+
+  loses : losses (digits (l .nc) v) (drop (view .at) y) ≡ a
+  loses =
+      ap (λ (p : ℕ). losses (digits (l .nc) v) (drop p y))
+      (see .place ∙ ap (λ (k : ℕ). chunkAt l heavy j b * l .nc + k - getD (heavy .end) b 0) (sym e))
+      ∙ x .loses b h ∙ omega (arith, lost, e)
+
+  -- where it loses no bit it is as it is read
+  pub as-read : a ≡ 0 → v ≡ number (l .nc) (drop (view .at) y)
+  as-read none = no-loss (l .nc) v (drop (view .at) y) (x .small b h) (loses ∙ none)
+
+  -- it has at least the first number of ones more than the bits that it takes, and at most the last
+  pub ones-first : view .seen .ones + view .first ≤ ones (digits (l .nc) v)
+  ones-first =
+      let n : length (digits (l .nc) v) ≡ l .nc - a + a = length-digits (l .nc) v ∙ omega (arith, see .few) in
+      omega (arith, see .seen .count, see .more .least (digits (l .nc) v) (bits-digits (l .nc) v) n loses)
+
+  pub ones-last : ones (digits (l .nc) v) ≤ view .seen .ones + view .last
+  ones-last =
+      let n : length (digits (l .nc) v) ≡ l .nc - a + a = length-digits (l .nc) v ∙ omega (arith, see .few) in
+      omega (arith, see .seen .count, see .more .most (digits (l .nc) v) (bits-digits (l .nc) v) n loses)
+
+  -- with just g of them, what it brings is in the span
+  in-span : (g : ℕ) (none span : Span) → none .low ≡ 0 → none .high ≡ 0 → ones (digits (l .nc) v) ≡ view .seen .ones + g
+      → Wider (l .nc) (getD (heavy .block) b 0 * l .nc) a (view .seen) g none span
+      → (span .low ≤ 2 * bringsAt l heavy vs j b) × (2 * bringsAt l heavy vs j b ≤ span .high)
+  in-span g none span p q just w =
+      let one =
+      one-wider (l .nc) (getD (heavy .block) b 0 * l .nc) a v (drop (view .at) y) loses (view .seen) g none span
+      (see .few) (see .seen) just w in
+      (omega (arith, one, p), omega (arith, one, q))
+
+-- the choice with just g ones more
+pub listed-one : {l : Layout} {y : List ℕ} {heavy : Heavy} {z : List ℕ} {j b left one : ℕ} (h : b < heavy .n) (a g : ℕ)
+    (view : View) (none span : Span) (adds other : ℕ) {exit : List ℕ} {t : ℕ} → none .low ≡ 0 → none .high ≡ 0 → a ≤ left
+    → Viewed l y heavy j b left a view → Wider (l .nc) (getD (heavy .block) b 0 * l .nc) a (view .seen) g none span
+    → ((u : ℕ) → (a ≡ 0 → u ≡ number (l .nc) (drop (view .at) y))
+    → cond (eqb u (getD z (chunkAt l heavy j b) 0)) 0 1 ≤ other)
+    → other ≤ 1 → adds ≡ (left - a) * one → Put t adds span other exit
+    → Listed l y heavy z j b left one exit t (t + 1)
+    (λ next vs. (left ≡ next b + a) × (ones (digits (l .nc) (valueAt l heavy vs j b)) ≡ view .seen .ones + g))
+listed-one {l} {y} {heavy} {z} {j} {b} {left} {one} h a g view none span adds other {exit} {t} p q few see w
+    like low is put =
     record {
-      seeable = g .seeable;
-      others = g .others;
-      counted = g .counted;
-      below = g .below;
-      high = g .high;
-      long-fresh = omega (arith, g .long-fresh, same);
+      order = omega arith;
+      small = λ u d k.
+          let same : u ≡ t = omega arith in
+          let top : (left - a) * one ≤ left * one = mul-le-mul-right one (omega arith) in
+          rw same (record {
+            adds-small = omega (arith, put .adds-is, is, top);
+            least-small = omega (arith, put .least-is, w .low-small, p);
+            most-small = omega (arith, put .most-is, w .high-small, q);
+            other-small = omega (arith, put .other-is, low);
+          });
+      offers = λ numbers row vs own next e x r.
+          let has = in-span x h e a (r .0) see g none span p q (r .1) w in
+          let its : (left - a) * one ≡ next b * one = ap (λ (k : ℕ). k * one) (omega (arith, r .0)) in
+          let like-own = like (valueAt l heavy vs j b) (as-read x h e a (r .0) see) in (
+            t,
+            (
+              (omega arith, omega arith),
+              record {
+                adds-just = put .adds-is ∙ is ∙ its;
+                least = omega (arith, put .least-is, has);
+                most = omega (arith, put .most-is, has);
+                other = omega (arith, put .other-is, like-own);
+              },
+            ),
+          );
     }
 
--- ---- where a sweep stands
-module _ {shape : Shape} {n b q : ℕ} {span : Span} {apart : ℕ} where
-  pub stands-share : (left a : ℕ) → Stands shape n (suc b) q span apart → left ≤ each (shape .size) b → a ≤ left
-      → Shares shape n b (q + (left - a) * stride (each (shape .size)) b) span apart
+-- ---- picks add up
+module _ {choices from : List ℕ} {shape : Shape} {modulus need : ℕ} {marks : List ℕ} {at : ℕ} {some fresh : List ℕ}
+    (g : Ground choices from shape modulus need marks at some fresh) where
+  -- what a sweep reads stays as it is while marks are raised
+  pub ground-stays : (new : List ℕ) → length new ≡ length fresh
+      → Ground choices from shape modulus need marks at some new
+  ground-stays new same =
+      record {
+        few = g .few;
+        shaped = g .shaped;
+        states = g .states;
+        counted = g .counted;
+        long-fresh = omega (arith, g .long-fresh, same);
+        below = g .below;
+        high = g .high;
+        listed = g .listed;
+      }
+
+  -- where a sweep stands its numbers are small
+  pub stands-low : {s : ℕ} {stand : Stand} → Stands shape s stand → Low stand
+  stands-low k =
+      record {
+        q-low = omega (arith, k .room, g .states);
+        least-low = omega (arith, k .least, g .few);
+        most-low = omega (arith, k .most, g .few);
+        apart-low = omega (arith, k .others, g .few);
+      }
+
+  -- and the number that it stands at is that of a state
+  pub stands-inside : {s : ℕ} {stand : Stand} → Stands shape s stand → stand .q < shape .states
+  stands-inside {s} k = omega (arith, k .room, stride-pos (each (shape .size)) s)
+
+  -- with a choice of block b picked it stands one block further
+  pub stands-with : (b t : ℕ) {stand wider : Stand} → getD from b 0 ≤ t → t < getD from (b + 1) 0
+      → Stands shape (suc b) stand → With choices t stand wider → Stands shape b wider
   unfolding stride
-  stands-share left a s few own =
-      let d = stride (each (shape .size)) b in
-      let most : (left - a) * d ≤ each (shape .size) b * d = mul-le-mul-right d (omega arith) in
+  stands-with b t low high k w =
+      let small = g .listed b t (omega (arith, k .inside)) low high .1 in
       record {
-        inside = omega (arith, s .inside);
-        room = omega (arith, s .room, most);
-        low = omega (arith, s .low);
-        high = omega (arith, s .high);
-        apart-low = omega (arith, s .apart-low);
+        inside = omega (arith, k .inside);
+        room = omega (arith, k .room, w .q-is, small .adds-small);
+        least = omega (arith, k .least, w .least-is, small .least-small);
+        most = omega (arith, k .most, w .most-is, small .most-small);
+        others = omega (arith, k .others, w .apart-is, small .other-small);
       }
 
-  pub shares-stands : (wider : Span) (more : ℕ) → Shares shape n b q span apart → wider .low ≤ span .low + chunkTop
-      → wider .high ≤ span .high + chunkTop → more ≤ apart + 1 → Stands shape n b q wider more
-  shares-stands wider more s low high one =
+  -- the choices of the first s blocks add less than a loss of block s
+  picked-low : (pick : ℕ → ℕ) (s : ℕ) → s ≤ shape .n → Picks from pick s
+      → picked (addsOf choices) pick s < stride (each (shape .size)) s
+  unfolding picked stride
+  picked-low pick zero h p = omega arith
+  picked-low pick (suc b) h p =
+      let own = p b (omega arith) in
+      let small = g .listed b (pick b) (omega arith) (own .0) (own .1) .1 .adds-small in
+      omega (arith, small, picked-low pick b (omega arith) (λ c k. p c (omega arith)))
+
+  -- where none of the states is marked that the blocks left can make, nothing is to be raised
+  pub gains-none : (there s : ℕ) (stand : Stand) (pick : ℕ → ℕ) → Stands shape s stand
+      → getD some (stand .q + stride (each (shape .size)) s) 0 ≤ getD some (stand .q) 0 → Picks from pick s
+      → Gains choices modulus need there marks at s stand fresh pick
+  gains-none there s stand pick k same p =
+      let less = picked-low pick s (k .inside) p in
       record {
-        inside = omega (arith, s .inside);
-        room = s .room;
-        low = omega (arith, s .low);
-        high = omega (arith, s .high);
-        apart-low = omega (arith, s .apart-low);
+        above = λ n low high e m.
+            absurd (none-between marks at (shape .states) some (g .counted .counted) (stand .q)
+            (stand .q + stride (each (shape .size)) s) (k .room) same (stand .q + picked (addsOf choices) pick s)
+            (omega arith) (omega (arith, less)) m);
       }
 
--- ---- a row goes on with its own choices
-module _ {l : Layout} {y numbers : List ℕ} {heavy : Heavy} {row z : List ℕ} {shape : Shape} {j : ℕ} {left next : ℕ → ℕ}
-    {vs : List ℕ}
-    (x : Crosses l y numbers heavy row j left next vs) {b q : ℕ} {span : Span} {apart : ℕ} where
-  -- the state that it is at after the column is among those with the shares chosen
-  pub sharing-range : (a : ℕ) → Sharing l heavy z shape j left b a q span apart next vs → b < heavy .n
-      → shape .n ≡ heavy .n
-      → ((s : ℕ) → s < shape .n → left s ≤ each (shape .size) s)
-      → state (each (shape .size)) next (shape .n) < q + stride (each (shape .size)) b
-  sharing-range a c h blocks within =
-      let low = state-low (each (shape .size)) next b
-      (λ t k. omega (arith, x .falls t (omega arith), within t (omega (arith, blocks)))) in
-      omega (arith, c .number, low)
+module _ {choices : List ℕ} {modulus need there : ℕ} {marks : List ℕ} {at : ℕ} where
+  pub gains-more : {s : ℕ} {stand : Stand} {mid exit : List ℕ} {pick : ℕ → ℕ} → Raises mid exit
+      → Gains choices modulus need there marks at s stand mid pick
+      → Gains choices modulus need there marks at s stand exit pick
+  gains-more up r = record { above = λ n low high e m. above-more there _ _ _ (up .grows _) (r .above n low high e m) }
 
-  -- with its own share of block b
-  pub chosen-share : (a : ℕ) → left b ≡ next b + a → Chosen l heavy z shape j (suc b) q span apart next vs
-      → Sharing l heavy z shape j left b a (q + (left b - a) * stride (each (shape .size)) b) span apart next vs
-  unfolding state
-  chosen-share a own c =
-      let d = stride (each (shape .size)) b in
-      let is : (left b - a) * d ≡ next b * d = ap (λ (k : ℕ). k * d) (omega (arith, own)) in
+  -- with no block left the mark of the state itself is raised
+  pub gains-end : {s : ℕ} {stand : Stand} {exit : List ℕ} (pick : ℕ → ℕ) → s ≡ 0
+      → Ends modulus need there marks at stand exit → Gains choices modulus need there marks at s stand exit pick
+  unfolding picked
+  gains-end {s} {stand} {exit} pick none found =
+      let same : stand .q + 0 ≡ stand .q = omega arith in
+      let few : stand .apart + 0 ≡ stand .apart = omega arith in
+      rw none (record {
+        above = λ n low high e m. rw (same, few) (found n (omega arith) (omega arith) e (rw same at m));
+      })
+
+  -- the choice of block b with those of the blocks before it
+  pub gains-pick : (b t : ℕ) {stand wider : Stand} {exit : List ℕ} (pick : ℕ → ℕ) → pick b ≡ t
+      → With choices t stand wider → Gains choices modulus need there marks at b wider exit pick
+      → Gains choices modulus need there marks at (suc b) stand exit pick
+  unfolding picked
+  gains-pick b t {stand} {wider} {exit} pick is w r =
+      let d : ℕ = picked (addsOf choices) pick b in
+      let o : ℕ = picked (otherOf choices) pick b in
+      let adds : addsOf choices (pick b) ≡ addsOf choices t = ap (addsOf choices) is in
+      let other : otherOf choices (pick b) ≡ otherOf choices t = ap (otherOf choices) is in
+      let state : stand .q + (d + addsOf choices (pick b)) ≡ wider .q + d = omega (arith, adds, w .q-is) in
+      let apart-is : stand .apart + (o + otherOf choices (pick b)) ≡ wider .apart + o =
+      omega (arith, other, w .apart-is) in
+      let least : leastOf choices (pick b) ≡ leastOf choices t = ap (leastOf choices) is in
+      let most : mostOf choices (pick b) ≡ mostOf choices t = ap (mostOf choices) is in
       record {
-        own = own;
-        number = omega (arith, is, c .number);
-        low = c .low;
-        high = c .high;
-        differs = c .differs;
+        above = λ n low high e m.
+            rw (state, apart-is)
+            (r .above n (omega (arith, low, w .least-is, least)) (omega (arith, high, w .most-is, most)) e
+            (rw state at m));
       }
 
-  module _ (h : b < heavy .n) (a : ℕ) {view : View} (see : Viewed l y heavy j b (left b) a view)
-      (s : Sharing l heavy z shape j left b a q span apart next vs) where
-    -- the number of its chunk there
-    abbrev v : ℕ
-    v = getD vs (chunkAt l heavy j b) 0
+-- ---- a row's own picks
+module _ {l : Layout} {heavy : Heavy} {z vs : List ℕ} {j : ℕ} {choices : List ℕ} (from : List ℕ) (size next : ℕ → ℕ)
+    (offers : (b : ℕ) → b < heavy .n
+    → Offers l heavy z vs j b choices (next b * stride size b) (getD from b 0) (getD from (b + 1) 0)) where
+  -- the choice of its chunk in block b
+  pub its : ℕ → ℕ
+  its b = ⊎-elim (λ h. offers b h .0) (λ (h : heavy .n ≤ b). 0) (lt-or-ge b (heavy .n))
 
-    loses : losses (digits (l .nc) v) (drop (view .at) y) ≡ a
-    loses =
-        ap (λ (p : ℕ). losses (digits (l .nc) v) (drop p y)) (see .place) ∙ x .loses b h ∙ omega (arith, s .own)
+  its-suits : (b : ℕ) → b < heavy .n
+      → ((getD from b 0 ≤ its b) × (its b < getD from (b + 1) 0))
+      × Suits l heavy z vs j b choices (next b * stride size b) (its b)
+  unfolding its
+  its-suits b h = go (lt-or-ge b (heavy .n))
+    where
+      go : (d : (b < heavy .n) ⊎ (heavy .n ≤ b)) → let t = ⊎-elim (λ h. offers b h .0) (λ (h : heavy .n ≤ b). 0) d in
+          ((getD from b 0 ≤ t) × (t < getD from (b + 1) 0)) × Suits l heavy z vs j b choices (next b * stride size b) t
+      go (inl k) = offers b k .1
+      go (inr k) = absurd (omega arith)
 
-    -- where it loses no bit it is as it is read
-    pub as-read : a ≡ 0 → v ≡ number (l .nc) (drop (view .at) y)
-    as-read none = no-loss (l .nc) v (drop (view .at) y) (x .small b h) (loses ∙ none)
+  pub its-picks : Picks from its (heavy .n)
+  its-picks b h = its-suits b h .0
 
-    -- it has at least the first number of ones more than the bits that it takes, and at most the last
-    pub ones-first : view .seen .ones + view .first ≤ ones (digits (l .nc) v)
-    ones-first =
-        let n : length (digits (l .nc) v) ≡ l .nc - a + a = length-digits (l .nc) v ∙ omega (arith, see .few) in
-        omega (arith, see .seen .count, see .more .least (digits (l .nc) v) (bits-digits (l .nc) v) n loses)
+  -- they add up to the state that it is at after the column, and to what it brings and where it is another
+  pub its-state : (s : ℕ) → s ≤ heavy .n → picked (addsOf choices) its s ≡ state size next s
+  unfolding picked state
+  its-state zero h = refl
+  its-state (suc b) h = ap₂ _+_ (its-state b (omega arith)) (its-suits b (omega arith) .1 .adds-just)
 
-    pub ones-last : ones (digits (l .nc) v) ≤ view .seen .ones + view .last
-    ones-last =
-        let n : length (digits (l .nc) v) ≡ l .nc - a + a = length-digits (l .nc) v ∙ omega (arith, see .few) in
-        omega (arith, see .seen .count, see .more .most (digits (l .nc) v) (bits-digits (l .nc) v) n loses)
+  pub its-least : (s : ℕ) → s ≤ heavy .n → picked (leastOf choices) its s ≤ 2 * broughtIn l heavy vs j s
+  unfolding picked brought
+  its-least zero h = omega arith
+  its-least (suc b) h = omega (arith, its-least b (omega arith), its-suits b (omega arith) .1 .least)
 
-    -- with just g of them, the span with the chunk has what is brought
-    pub sharing-next : (g more : ℕ) (wider : Span) → ones (digits (l .nc) v) ≡ view .seen .ones + g
-        → Wider (l .nc) (getD (heavy .block) b 0 * l .nc) a (view .seen) g span wider
-        → apart + unlike vs z (chunkAt l heavy j b) ≤ more → Chosen l heavy z shape j b q wider more next vs
-    unfolding brought apartIn
-    sharing-next g more wider just w other =
-        let one =
-        one-wider (l .nc) (getD (heavy .block) b 0 * l .nc) a v (drop (view .at) y) loses (view .seen) g span wider
-        (see .few)
-        (see .seen) just w in
-        record {
-          number = s .number;
-          low = omega (arith, one, s .low);
-          high = omega (arith, one, s .high);
-          differs = omega (arith, s .differs, other);
-        }
+  pub its-most : (s : ℕ) → s ≤ heavy .n → 2 * broughtIn l heavy vs j s ≤ picked (mostOf choices) its s
+  unfolding picked brought
+  its-most zero h = omega arith
+  its-most (suc b) h = omega (arith, its-most b (omega arith), its-suits b (omega arith) .1 .most)
 
--- ---- after the first block
-pub raised-end : {l : Layout} {y : List ℕ} {heavy : Heavy} {z : List ℕ} {shape : Shape} {j : ℕ} {left : ℕ → ℕ}
-    {modulus need there : ℕ}
-    {marks : List ℕ} {at s q : ℕ} {span : Span} {apart : ℕ} {entry exit : List ℕ} → s ≡ 0 → Raises entry exit
-    → ((n : ℕ) → span .low ≤ 2 * n → 2 * n ≤ span .high → n % modulus ≡ need → 0 < getD marks (at + q) 0
-    → Above there apart (getD exit q 0))
-    → Raised l y heavy z shape j left modulus need there marks at (Chosen l heavy z shape j s q span apart) entry exit
-unfolding state brought apartIn
-raised-end {l} {y} {heavy} {z} {shape} {j} {there = there} {marks} {at} {q = q} {span} {apart} {exit = exit} e up found =
-    record {
-      raises = up;
-      gains = λ numbers row vs next x c is m.
-          let d = subst (λ (k : ℕ). Chosen l heavy z shape j k q span apart next vs) e c in
-          let number : q ≡ state (each (shape .size)) next (shape .n) = omega (arith, d .number) in
-          let marked = subst (λ (k : ℕ). 0 < getD marks (at + k) 0) (sym number) m in
-          let above =
-          found (broughtIn l heavy vs j (heavy .n)) (omega (arith, d .low)) (omega (arith, d .high)) is marked in
-          subst (λ (k : ℕ). Above there (apartIn l heavy z vs j (heavy .n)) (getD exit k 0)) number
-          (above-less there (apartIn l heavy z vs j (heavy .n)) apart (getD exit q 0) (omega (arith, d .differs)) above);
-    }
+  pub its-others : (s : ℕ) → s ≤ heavy .n → apartIn l heavy z vs j s ≤ picked (otherOf choices) its s
+  unfolding picked apartIn
+  its-others zero h = omega arith
+  its-others (suc b) h = omega (arith, its-others b (omega arith), its-suits b (omega arith) .1 .other)
 
--- ---- before the last block
--- with no share chosen, each row goes on
-pub chosen-none : (l : Layout) (heavy : Heavy) (z : List ℕ) (shape : Shape) (j : ℕ) (span : Span) (next : ℕ → ℕ)
-    (vs : List ℕ)
-    → shape .n ≡ heavy .n → span .low ≡ 0 → Chosen l heavy z shape j (heavy .n) 0 span 0 next vs
-chosen-none l heavy z shape j span next vs e low =
-    record {
-      number = omega (arith, ap (state (each (shape .size)) next) e);
-      low = omega (arith, low);
-      high = omega arith;
-      differs = omega arith;
-    }
+  -- so with all blocks picked the mark of the state that it is at after the column is raised for it
+  pub its-above : {modulus need there : ℕ} {marks : List ℕ} {at : ℕ} {stand : Stand} {fresh : List ℕ}
+      → Gains choices modulus need there marks at (heavy .n) stand fresh its
+      → (stand .q ≡ 0) × ((stand .span .low ≡ 0) × ((stand .span .high ≡ 0) × (stand .apart ≡ 0)))
+      → broughtIn l heavy vs j (heavy .n) % modulus ≡ need → 0 < getD marks (at + state size next (heavy .n)) 0
+      → Above there (apartIn l heavy z vs j (heavy .n)) (getD fresh (state size next (heavy .n)) 0)
+  its-above {there = there} {marks} {at} {stand} {fresh} g none is m =
+      let n : ℕ = heavy .n in
+      let whole : n ≤ heavy .n = omega arith in
+      let same : stand .q + picked (addsOf choices) its n ≡ state size next n =
+      omega (arith, none .0, its-state n whole) in
+      let raised =
+      g .above (broughtIn l heavy vs j n) (omega (arith, none .1 .0, its-least n whole))
+      (omega (arith, none .1 .1 .0, its-most n whole)) is
+      (subst (λ (v : ℕ). 0 < getD marks (at + v) 0) (sym same) m) in
+      above-less there (apartIn l heavy z vs j n) (stand .apart + picked (otherOf choices) its n) _
+      (omega (arith, its-others n whole))
+      (subst (λ (v : ℕ). Above there (stand .apart + picked (otherOf choices) its n) (getD fresh v 0)) same raised)

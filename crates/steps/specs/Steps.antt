@@ -1,6 +1,6 @@
--- The steps over one column from a loss state: the losses of the heavy blocks' chunks there are chosen block by block,
--- from the last to the first, and with each choice what the chunks can bring to the column's sum, and in how many of
--- them a row can differ from another one.
+-- The steps over one column from a loss state: what the heavy blocks' chunks can be there is listed as choices, and one
+-- is picked for each block, from the last to the first. With each go what the chunks bring to the column's sum, and in
+-- how many of them a row can differ from another one.
 use Prim.Native.Nat.{ℕ, zero, suc, _+_, _-_, _*_, _%_, _<_, _≤_}
 use mathlib.Core.Path.{_≡_}
 use mathlib.Core.Bool.{true, cond}
@@ -8,17 +8,20 @@ use mathlib.Core.Logic.{_⊎_}
 use mathlib.Core.List.{List}
 use lib.Dec.{eqb}
 use lib.ListN.{length, getD, take, drop}
-use Rattle.bits.specs.Bits.{AllBits, longest}
+use Rattle.bits.specs.Bits.{AllBits, longest, digits}
+use Rattle.vt.specs.Sum.{total}
 use Rattle.message.specs.Layout.{legal}
 use Rattle.message.specs.declared.Layout.{Layout}
 use Rattle.windows.specs.Windows.{Tables}
-use Rattle.states.specs.States.{state, stride, each, mostStates, Shaped, stateOf}
+use Rattle.lines.specs.Lines.{unlike}
+use Rattle.states.specs.States.{stride, each, mostStates, Shaped}
 use Rattle.states.specs.declared.Shape.{Shape}
 use Rattle.weigh.specs.Weigh.{brought, chunkTop, SeenIn, MoreOnes}
 use Rattle.weigh.specs.declared.Span.{Span}
 use Rattle.column.specs.Column.{chunkAt, valueAt, Crosses, apartIn}
 use Rattle.column.specs.declared.Heavy.{Heavy}
 use Rattle.steps.specs.declared.View.{View}
+use Rattle.steps.specs.declared.Stand.{Stand}
 
 -- a mark is at least another one and so many chunks more, or as high as marks go
 abbrev pub Above : (there apart mark : ℕ) → Type 0
@@ -42,12 +45,15 @@ markedBelow marks at (suc q) = markedBelow marks at q + oneIf (getD marks (at + 
 abbrev pub Counts : (marks : List ℕ) (at states : ℕ) (some : List ℕ) → Type 0
 Counts marks at states some = (q : ℕ) → q ≤ states → getD some q 0 ≡ markedBelow marks at q
 
--- the loss states of the heavy blocks, of which so much left is one, and the counts of those that are marked
-pub record Counted (heavy : Heavy) (shape : Shape) (left marks : List ℕ) (at : ℕ) (some : List ℕ) : Type 0 where
+-- the loss states of the heavy blocks, of which so much left is one
+pub record Fitted (heavy : Heavy) (shape : Shape) (left : List ℕ) : Type 0 where
   pub blocks : shape .n ≡ heavy .n
   pub shaped : Shaped (shape .n) (shape .size) (shape .stride) (shape .states)
   pub states : shape .states ≤ mostStates
   pub within : (s : ℕ) → s < shape .n → getD left s 0 ≤ each (shape .size) s
+
+-- the marks of the loss states, from a place on, and the counts of those that are marked
+pub record Counted (shape : Shape) (marks : List ℕ) (at : ℕ) (some : List ℕ) : Type 0 where
   pub marked : at + shape .states ≤ length marks
   pub long-some : shape .states < length some
   pub counted : Counts marks at (shape .states) some
@@ -75,58 +81,139 @@ pub record Viewed (l : Layout) (y : List ℕ) (heavy : Heavy) (j s left a : ℕ)
   pub seen : SeenIn (take (l .nc - a) (drop (view .at) y)) (l .nc - a) (view .seen)
   pub more : MoreOnes y (view .at) (l .nc - a) a (view .first) (view .last)
 
--- all that a sweep reads: the loss states, so much left in one of them, what is needed, and the marks of the states
--- after the column
-pub record Ground (l : Layout) (y totals counts : List ℕ) (heavy : Heavy) (z : List ℕ) (shape : Shape) (j : ℕ)
-    (left : List ℕ) (modulus need : ℕ) (marks : List ℕ) (at : ℕ) (some fresh : List ℕ) : Type 0 where
-  pub seeable : Seeable l y totals counts heavy j
-  pub others : l .l1 * l .l2 ≤ length z
-  pub counted : Counted heavy shape left marks at some
+-- ---- choices
+-- What the chunk of a heavy block can be in a column is listed as choices, of four numbers each: what the choice adds to
+-- the number of the state after the column, twice the least and twice the greatest that the chunk brings, and 1 if the
+-- chunk can be another than in z.
+abbrev pub addsOf : (choices : List ℕ) (t : ℕ) → ℕ
+addsOf choices t = getD choices (4 * t) 0
+
+abbrev pub leastOf : (choices : List ℕ) (t : ℕ) → ℕ
+leastOf choices t = getD choices (4 * t + 1) 0
+
+abbrev pub mostOf : (choices : List ℕ) (t : ℕ) → ℕ
+mostOf choices t = getD choices (4 * t + 2) 0
+
+abbrev pub otherOf : (choices : List ℕ) (t : ℕ) → ℕ
+otherOf choices t = getD choices (4 * t + 3) 0
+
+-- the choices before choice t are as they were
+pub record Keeps (t : ℕ) (entry exit : List ℕ) : Type 0 where
+  pub long : length exit ≡ length entry
+  pub before : (i : ℕ) → i < 4 * t → getD exit i 0 ≡ getD entry i 0
+
+-- the numbers of choice t, where it is put
+pub record Put (t adds : ℕ) (span : Span) (other : ℕ) (exit : List ℕ) : Type 0 where
+  pub adds-is : addsOf exit t ≡ adds
+  pub least-is : leastOf exit t ≡ span .low
+  pub most-is : mostOf exit t ≡ span .high
+  pub other-is : otherOf exit t ≡ other
+
+-- a choice of a block whose losses add so much at most
+pub record Small (choices : List ℕ) (top t : ℕ) : Type 0 where
+  pub adds-small : addsOf choices t ≤ top
+  pub least-small : leastOf choices t ≤ chunkTop
+  pub most-small : mostOf choices t ≤ chunkTop
+  pub other-small : otherOf choices t ≤ 1
+
+-- what the chunk of heavy block b in column j brings to the sum of its chunk-string in a row with the chunks vs
+abbrev pub bringsAt : Layout → Heavy → (vs : List ℕ) (j b : ℕ) → ℕ
+bringsAt l heavy vs j b = total (getD (heavy .block) b 0 * l .nc + 1) (digits (l .nc) (valueAt l heavy vs j b))
+
+-- a choice is that of the chunk of heavy block b in column j of a row with the chunks vs, and adds so much
+pub record Suits (l : Layout) (heavy : Heavy) (z vs : List ℕ) (j b : ℕ) (choices : List ℕ) (adds t : ℕ) : Type 0 where
+  pub adds-just : addsOf choices t ≡ adds
+  pub least : leastOf choices t ≤ 2 * bringsAt l heavy vs j b
+  pub most : 2 * bringsAt l heavy vs j b ≤ mostOf choices t
+  pub other : unlike vs z (chunkAt l heavy j b) ≤ otherOf choices t
+
+-- one of the choices from low on, below high, is that
+abbrev pub Offers : Layout → Heavy → (z vs : List ℕ) (j b : ℕ) (choices : List ℕ) (adds low high : ℕ) → Type 0
+Offers l heavy z vs j b choices adds low high =
+    (t : ℕ) × (((low ≤ t) × (t < high)) × Suits l heavy z vs j b choices adds t)
+
+-- the choices from low on, below high, are those of heavy block b in column j, with so many losses left before, of which
+-- each adds one: they offer its own to each row that crosses the column in this way
+pub record Listed (l : Layout) (y : List ℕ) (heavy : Heavy) (z : List ℕ) (j b left one : ℕ) (choices : List ℕ)
+    (low high : ℕ) (Way : (next : ℕ → ℕ) (vs : List ℕ) → Type 0) : Type 0 where
+  pub order : low ≤ high
+  pub small : (t : ℕ) → low ≤ t → t < high → Small choices (left * one) t
+  pub offers : (numbers row vs : List ℕ) (own next : ℕ → ℕ) → own b ≡ left → Crosses l y numbers heavy row j own next vs
+      → Way next vs → Offers l heavy z vs j b choices (next b * one) low high
+
+-- so it is with each of the first s heavy blocks, whose choices begin where a list has it and end where those of the next
+-- one begin; none of them ends behind those of block s
+abbrev pub Blocks : Layout → (y : List ℕ) → Heavy → (z : List ℕ) (j : ℕ) (left ones : ℕ → ℕ) (choices from : List ℕ) (s : ℕ)
+    → Type 0
+Blocks l y heavy z j left ones choices from s =
+    (b : ℕ) → b < s → (getD from (b + 1) 0 ≤ getD from s 0)
+    × Listed l y heavy z j b (left b) (ones b) choices (getD from b 0) (getD from (b + 1) 0) (λ next vs. next b ≤ left b)
+
+-- how many choices a block has with fewer losses than a, at most: with each number of losses, none to all of them are ones
+unfoldable pub below : ℕ → ℕ
+below zero = 0
+below (suc a) = below a + (a + 1)
+
+-- ---- picks
+-- the sum of one number of the choices that are picked for the first s blocks
+unfoldable pub picked : (of pick : ℕ → ℕ) (s : ℕ) → ℕ
+picked of pick zero = 0
+picked of pick (suc b) = picked of pick b + of (pick b)
+
+-- a choice is picked for each of the first s blocks: block b has those from entry b of a list on, below the next entry
+abbrev pub Picks : (from : List ℕ) (pick : ℕ → ℕ) (s : ℕ) → Type 0
+Picks from pick s = (b : ℕ) → b < s → (getD from b 0 ≤ pick b) × (pick b < getD from (b + 1) 0)
+
+-- all that a sweep reads: the choices of the blocks, the loss states, what is needed, and the marks of the states after
+-- the column
+pub record Ground (choices from : List ℕ) (shape : Shape) (modulus need : ℕ) (marks : List ℕ) (at : ℕ)
+    (some fresh : List ℕ) : Type 0 where
+  pub few : shape .n ≤ 6
+  pub shaped : Shaped (shape .n) (shape .size) (shape .stride) (shape .states)
+  pub states : shape .states ≤ mostStates
+  pub counted : Counted shape marks at some
+  pub long-fresh : shape .states ≤ length fresh
   pub below : need < modulus
   pub high : modulus ≤ longest + 1
-  pub long-fresh : shape .states ≤ length fresh
+  pub listed : (b t : ℕ) → b < shape .n → getD from b 0 ≤ t → t < getD from (b + 1) 0
+      → (4 * t + 4 ≤ length choices) × Small choices (each (shape .size) b * stride (each (shape .size)) b) t
 
--- where a sweep stands: the heavy blocks from s on have their shares, which make the number q; what they bring is in a
--- span
-pub record Stands (shape : Shape) (n s q : ℕ) (span : Span) (apart : ℕ) : Type 0 where
-  pub inside : s ≤ n
-  pub room : q + stride (each (shape .size)) s ≤ shape .states
-  pub low : span .low + s * chunkTop ≤ n * chunkTop
-  pub high : span .high + s * chunkTop ≤ n * chunkTop
-  pub apart-low : apart + s ≤ n
+-- a sweep stands where its numbers are small
+pub record Low (stand : Stand) : Type 0 where
+  pub q-low : stand .q ≤ mostStates
+  pub least-low : stand .span .low ≤ 6 * chunkTop
+  pub most-low : stand .span .high ≤ 6 * chunkTop
+  pub apart-low : stand .apart ≤ 6
 
--- the same where heavy block b has just got its share
-pub record Shares (shape : Shape) (n b q : ℕ) (span : Span) (apart : ℕ) : Type 0 where
-  pub inside : b < n
-  pub room : q + stride (each (shape .size)) b ≤ shape .states
-  pub low : span .low + b * chunkTop + chunkTop ≤ n * chunkTop
-  pub high : span .high + b * chunkTop + chunkTop ≤ n * chunkTop
-  pub apart-low : apart + b + 1 ≤ n
+-- where a sweep stands: the blocks from s on have their choices, which add up to a number that leaves room for those of
+-- the others
+pub record Stands (shape : Shape) (s : ℕ) (stand : Stand) : Type 0 where
+  pub inside : s ≤ shape .n
+  pub room : stand .q + stride (each (shape .size)) s ≤ shape .states
+  pub least : stand .span .low + s * chunkTop ≤ shape .n * chunkTop
+  pub most : stand .span .high + s * chunkTop ≤ shape .n * chunkTop
+  pub others : stand .apart + s ≤ shape .n
 
--- the choices so far are those of a row with the chunks vs that is at the state next after the column
-pub record Chosen (l : Layout) (heavy : Heavy) (z : List ℕ) (shape : Shape) (j s q : ℕ) (span : Span) (apart : ℕ)
-    (next : ℕ → ℕ) (vs : List ℕ) : Type 0 where
-  pub number : q + state (each (shape .size)) next s ≡ stateOf shape next
-  pub low : span .low + 2 * broughtIn l heavy vs j s ≤ 2 * broughtIn l heavy vs j (heavy .n)
-  pub high : 2 * broughtIn l heavy vs j (heavy .n) ≤ span .high + 2 * broughtIn l heavy vs j s
-  pub differs : apartIn l heavy z vs j (heavy .n) ≤ apart + apartIn l heavy z vs j s
+-- choice t is picked too
+pub record With (choices : List ℕ) (t : ℕ) (stand wider : Stand) : Type 0 where
+  pub q-is : wider .q ≡ stand .q + addsOf choices t
+  pub least-is : wider .span .low ≡ stand .span .low + leastOf choices t
+  pub most-is : wider .span .high ≡ stand .span .high + mostOf choices t
+  pub apart-is : wider .apart ≡ stand .apart + otherOf choices t
 
--- the same where heavy block b has just got its share, of a bits
-pub record Sharing (l : Layout) (heavy : Heavy) (z : List ℕ) (shape : Shape) (j : ℕ) (left : ℕ → ℕ) (b a q : ℕ)
-    (span : Span) (apart : ℕ) (next : ℕ → ℕ) (vs : List ℕ) : Type 0 where
-  pub own : left b ≡ next b + a
-  pub number : q + state (each (shape .size)) next b ≡ stateOf shape next
-  pub low : span .low + 2 * broughtIn l heavy vs j (suc b) ≤ 2 * broughtIn l heavy vs j (heavy .n)
-  pub high : 2 * broughtIn l heavy vs j (heavy .n) ≤ span .high + 2 * broughtIn l heavy vs j (suc b)
-  pub differs : apartIn l heavy z vs j (heavy .n) ≤ apart + apartIn l heavy z vs j (suc b)
+-- where what is needed can be brought, the fresh mark of the state at which a sweep ends, if that is marked, is at least
+-- the one there and the chunks that can be others
+abbrev pub Ends : (modulus need there : ℕ) (marks : List ℕ) (at : ℕ) (stand : Stand) (fresh : List ℕ) → Type 0
+Ends modulus need there marks at stand fresh =
+    (n : ℕ) → stand .span .low ≤ 2 * n → 2 * n ≤ stand .span .high → n % modulus ≡ need
+    → 0 < getD marks (at + stand .q) 0 → Above there (stand .apart) (getD fresh (stand .q) 0)
 
--- the marks are raised for each row that goes on with the choices so far: the mark of the state that it is at after the
--- column is at least the one there and the chunks of the column that are others than in z
-pub record Raised (l : Layout) (y : List ℕ) (heavy : Heavy) (z : List ℕ) (shape : Shape) (j : ℕ) (left : ℕ → ℕ)
-    (modulus need there : ℕ) (marks : List ℕ) (at : ℕ) (Goes : (next : ℕ → ℕ) (vs : List ℕ) → Type 0)
-    (entry exit : List ℕ) : Type 0 where
-  pub raises : Raises entry exit
-  pub gains : (numbers row vs : List ℕ) (next : ℕ → ℕ) → Crosses l y numbers heavy row j left next vs → Goes next vs
-      → broughtIn l heavy vs j (heavy .n) % modulus ≡ need
-      → 0 < getD marks (at + stateOf shape next) 0
-      → Above there (apartIn l heavy z vs j (heavy .n)) (getD exit (stateOf shape next) 0)
+-- so it is with all that is picked: the choices so far, and those of the first s blocks
+pub record Gains (choices : List ℕ) (modulus need there : ℕ) (marks : List ℕ) (at s : ℕ) (stand : Stand) (fresh : List ℕ)
+    (pick : ℕ → ℕ) : Type 0 where
+  pub above : (n : ℕ) → stand .span .low + picked (leastOf choices) pick s ≤ 2 * n
+      → 2 * n ≤ stand .span .high + picked (mostOf choices) pick s
+      → n % modulus ≡ need
+      → 0 < getD marks (at + (stand .q + picked (addsOf choices) pick s)) 0
+      → Above there (stand .apart + picked (otherOf choices) pick s)
+      (getD fresh (stand .q + picked (addsOf choices) pick s) 0)

@@ -10,12 +10,12 @@ ghost use mathlib.Core.List.{List};
 ghost use Prim.Native.Nat.{ℕ, _+_, _-_, _*_, _%_, _<_, _≤_};
 ghost use lib.ListN.{length, getD};
 ghost use Rattle.bits.specs.Bits.{longest};
-ghost use Rattle.states.specs.States.{state, each, mostStates, stateOf};
+ghost use Rattle.states.specs.States.{stride, each, mostStates, stateOf};
 ghost use Rattle.windows.specs.Windows.{Tables};
 ghost use Rattle.weigh.specs.Weigh.{chunkTop};
 ghost use Rattle.column.specs.Column.{Fit, Light, chunkAt, Crosses, apartIn, Readable};
-ghost use Rattle.steps.specs.Steps.{oneIf, Counts, Counted, Above, Raises, Seeable, Viewed};
-ghost use Rattle.steps.specs.Steps.{Ground, Stands, Shares, Chosen, Sharing, Raised};
+ghost use Rattle.steps.specs.Steps.{oneIf, Counts, Fitted, Counted, Above, Raises, Seeable, Viewed};
+ghost use Rattle.steps.specs.Steps.{otherOf, Keeps, Put, Listed, Blocks, Picks, Ground, Low, Stands, With, Ends, Gains};
 
 // One for a mark, zero for none.
 fn one_if(mark: u8) -> u16
@@ -51,30 +51,38 @@ fn above(there: u8, apart: u8) -> u8
     there + apart
 }
 
-// Raises the fresh mark of state q, if it is marked and the chunks of the column can bring what is needed.
+// Where a sweep stands: the number of the state that the choices picked so far add up to, what their chunks bring, and how many of these can
+// be others than in z.
+pub struct Stand {
+    pub q: usize,
+    pub span: Span,
+    pub apart: u8,
+}
+
+// Raises the fresh mark of the state at which a sweep ends, if it is marked and the chunks of the column can bring what is needed.
 fn raise_one(
     modulus: usize,
     need: usize,
     there: u8,
-    mark: u8,
-    q: usize,
-    span: Span,
-    apart: u8,
+    marks: &[u8],
+    at: usize,
+    stand: Stand,
     fresh: &mut [u8],
 )
-    requires { ⌜ ((need < modulus) × (modulus ≤ longest + 1))
-        × ((span .low ≤ 6 * chunkTop) × (q < length (now fresh))) ⌝ }
-    ensures { λ _. ⌜ Raises (now (fresh .entry)) (now (fresh .exit)) × ((n : ℕ) → span .low ≤ 2 * n → 2 * n ≤ span .high
-        → n % modulus ≡ need → 0 < mark → Above there apart (getD (now (fresh .exit)) q 0)) ⌝ }
+    requires { ⌜ ((need < modulus) × (modulus ≤ longest + 1)) × ((stand .span .low ≤ 6 * chunkTop)
+        × ((at + stand .q < length (now marks)) × (stand .q < length (now fresh)))) ⌝ }
+    ensures { λ _. ⌜ Raises (now (fresh .entry)) (now (fresh .exit))
+        × Ends modulus need there (now (marks .entry)) at stand (now (fresh .exit)) ⌝ }
 {
-    if mark == 0 {
+    let q = stand.q;
+    if marks[at + q] == 0 {
         return;
     }
-    let v = above(there, apart);
+    let v = above(there, stand.apart);
     if v <= fresh[q] {
         return;
     }
-    if weigh::reaches(modulus, need, span) {
+    if weigh::reaches(modulus, need, stand.span) {
         fresh[q] = v;
     }
 }
@@ -151,9 +159,117 @@ fn look_at(
     }
 }
 
-// Raises the marks of all states that rows can come to where the heavy blocks from s on have their shares: each share that block s - 1 can
-// have is tried.
-fn sweep(
+// The numbers of all choices: four for each, and at most 45 for each of six blocks, with none to eight losses and as many of them ones or
+// fewer.
+const NUMBERS: usize = 1080;
+
+// Puts choice t: what it adds to the number of the state, what the chunk brings, and whether it can be another than in z.
+fn put_choice(choices: &mut [u16], t: usize, adds: usize, span: Span, other: u8)
+    requires { ⌜ (4 * t + 4 ≤ length (now choices)) × ((adds ≤ 65535) × ((span .low ≤ chunkTop) × (span .high ≤ chunkTop))) ⌝ }
+    ensures { λ _. ⌜ Keeps t (now (choices .entry)) (now (choices .exit))
+        × Put t adds span other (now (choices .exit)) ⌝ }
+{
+    let at = 4 * t;
+    let low = span.low;
+    let high = span.high;
+    choices[at] = adds as u16;
+    choices[at + 1] = low as u16;
+    choices[at + 2] = high as u16;
+    choices[at + 3] = other as u16;
+}
+
+// Lists the choices of heavy block b in column j, from choice t on, where so many losses are left and it loses a bits there: one for each
+// number of ones that its chunk can have. Each loss left adds one to the number of the state. It answers where they end.
+fn list_share(
+    l: Layout,
+    y: &[u8],
+    totals: &[u32],
+    counts: &[u16],
+    heavy: Heavy,
+    z: &[u8],
+    j: usize,
+    b: usize,
+    left: u8,
+    a: u8,
+    one: usize,
+    choices: &mut [u16],
+    t: usize,
+) -> usize
+    requires { ⌜ (Seeable l (now y) (now totals) (now counts) heavy j × (l .l1 * l .l2 ≤ length (now z)))
+        × ((b < heavy .n) × ((a ≤ left) × ((left * one ≤ 65535) × (a ≤ l .nc → 4 * (t + a + 1) ≤ length (now choices))))) ⌝ }
+    ensures { λ r. ⌜ (Keeps t (now (choices .entry)) (now (choices .exit)) × ((r ≤ t + a + 1) × (l .nc < a → r ≡ t)))
+        × Listed l (now (y .entry)) heavy (now (z .entry)) j b left one (now (choices .exit)) t r
+        (λ next vs. left ≡ next b + a) ⌝ }
+{
+    let v = look_at(l, y, totals, counts, heavy, j, b, left, a);
+    if !v.ok {
+        return t;
+    }
+    let c = bits::wide(heavy.block[b]) * l.l2 + j;
+    let other = column::other(l.nc, y, totals, counts, v.at, a, z[c]);
+    let adds = bits::wide(left - a) * one;
+    let seen = v.seen;
+    let last = v.last;
+    let none = Span { low: 0, high: 0 };
+    let mut g = v.first;
+    let mut end = t;
+    while g <= last {
+        let before = bits::wide(heavy.block[b]) * l.nc;
+        let span = weigh::widen(l.nc, before, bits::wide(a), seen, g, none);
+        put_choice(choices, end, adds, span, other);
+        end += 1;
+        g += 1;
+    }
+    end
+}
+
+// The same for all losses that it can have there.
+fn list_block(
+    l: Layout,
+    y: &[u8],
+    totals: &[u32],
+    counts: &[u16],
+    heavy: Heavy,
+    z: &[u8],
+    j: usize,
+    b: usize,
+    left: u8,
+    one: usize,
+    choices: &mut [u16],
+    t: usize,
+) -> usize
+    requires { ⌜ (Seeable l (now y) (now totals) (now counts) heavy j × (l .l1 * l .l2 ≤ length (now z)))
+        × ((b < heavy .n) × ((left * one ≤ 65535) × (4 * (t + 45) ≤ length (now choices)))) ⌝ }
+    ensures { λ r. ⌜ (Keeps t (now (choices .entry)) (now (choices .exit)) × (r ≤ t + 45))
+        × Listed l (now (y .entry)) heavy (now (z .entry)) j b left one (now (choices .exit)) t r
+        (λ next vs. next b ≤ left) ⌝ }
+{
+    let most = bits::wide(left);
+    let mut end = t;
+    let mut a: usize = 0;
+    while a <= most {
+        end = list_share(
+            l,
+            y,
+            totals,
+            counts,
+            heavy,
+            z,
+            j,
+            b,
+            left,
+            a as u8,
+            one,
+            choices,
+            end,
+        );
+        a += 1;
+    }
+    end
+}
+
+// The same for all heavy blocks, of which so much is left: it answers where the choices of each block begin, and where all end.
+fn list_choices(
     l: Layout,
     y: &[u8],
     totals: &[u32],
@@ -163,6 +279,78 @@ fn sweep(
     shape: Shape,
     j: usize,
     left: [u8; states::MOST_HEAVY],
+    choices: &mut [u16],
+) -> [usize; 7]
+    requires { ⌜ (Seeable l (now y) (now totals) (now counts) heavy j × (l .l1 * l .l2 ≤ length (now z)))
+        × (Fitted heavy shape left × (1080 ≤ length (now choices))) ⌝ }
+    ensures { λ r. ⌜ (length (now (choices .exit)) ≡ length (now (choices .entry))) × ((getD r (heavy .n) 0 ≤ 270)
+        × Blocks l (now (y .entry)) heavy (now (z .entry)) j (each left) (stride (each (shape .size))) (now (choices .exit)) r
+        (heavy .n)) ⌝ }
+{
+    let n = heavy.n;
+    let mut from: [usize; 7] = [0; 7];
+    let mut b: usize = 0;
+    while b < n {
+        let end = list_block(
+            l,
+            y,
+            totals,
+            counts,
+            heavy,
+            z,
+            j,
+            b,
+            left[b],
+            shape.stride[b],
+            choices,
+            from[b],
+        );
+        b += 1;
+        from[b] = end;
+    }
+    from
+}
+
+// Where a sweep starts: nothing is picked.
+fn start() -> Stand
+    ensures { λ r. ⌜ (r .q ≡ 0) × ((r .span .low ≡ 0) × ((r .span .high ≡ 0) × (r .apart ≡ 0))) ⌝ }
+{
+    let none = Span { low: 0, high: 0 };
+    Stand {
+        q: 0,
+        span: none,
+        apart: 0,
+    }
+}
+
+// Where a sweep stands with choice t picked too.
+fn with_choice(choices: &[u16], t: usize, stand: Stand) -> Stand
+    requires { ⌜ (4 * t + 4 ≤ length (now choices)) × (Low stand × (otherOf (now choices) t ≤ 1)) ⌝ }
+    ensures { λ r. ⌜ With (now (choices .entry)) t stand r ⌝ }
+{
+    let at = 4 * t;
+    let adds = choices[at] as usize;
+    let least = choices[at + 1] as usize;
+    let most = choices[at + 2] as usize;
+    let other = choices[at + 3] as u8;
+    let span = stand.span;
+    let wider = Span {
+        low: span.low + least,
+        high: span.high + most,
+    };
+    Stand {
+        q: stand.q + adds,
+        span: wider,
+        apart: stand.apart + other,
+    }
+}
+
+// Raises the marks of all states that can be come to where a sweep stands, with a choice picked for each block from s on: each choice of
+// block s - 1 is picked. Where no block is left then, the mark is raised here, which spares the last call of each sweep.
+fn sweep(
+    choices: &[u16],
+    from: &[usize; 7],
+    shape: Shape,
     modulus: usize,
     need: usize,
     there: u8,
@@ -170,125 +358,46 @@ fn sweep(
     at: usize,
     some: &[u16],
     s: usize,
-    q: usize,
-    span: Span,
-    apart: u8,
+    stand: Stand,
     fresh: &mut [u8],
 )
-    requires { ⌜ Ground l (now y) (now totals) (now counts) heavy (now z) shape j left modulus need (now marks) at
-        (now some) (now fresh) × Stands shape (heavy .n) s q span apart ⌝ }
-    ensures { λ _. ⌜ Raised l (now (y .entry)) heavy (now (z .entry)) shape j (each left) modulus need there
-        (now (marks .entry)) at (Chosen l heavy (now (z .entry)) shape j s q span apart)
-        (now (fresh .entry)) (now (fresh .exit)) ⌝ }
+    requires { ⌜ Ground (now choices) (now from) shape modulus need (now marks) at (now some) (now fresh)
+        × Stands shape s stand ⌝ }
+    ensures { λ _. ⌜ Raises (now (fresh .entry)) (now (fresh .exit)) × ((pick : ℕ → ℕ) → Picks (now (from .entry)) pick s
+        → Gains (now (choices .entry)) modulus need there (now (marks .entry)) at s stand (now (fresh .exit)) pick) ⌝ }
 {
     if s == 0 {
-        raise_one(modulus, need, there, marks[at + q], q, span, apart, fresh);
+        raise_one(modulus, need, there, marks, at, stand, fresh);
         return;
     }
     let b = s - 1;
-    let most = bits::wide(left[b]);
     let one = shape.stride[b];
-    let mut a: usize = 0;
-    while a <= most {
-        share(
-            l,
-            y,
-            totals,
-            counts,
-            heavy,
-            z,
-            shape,
-            j,
-            left,
-            modulus,
-            need,
-            there,
-            marks,
-            at,
-            some,
-            b,
-            a as u8,
-            q + (most - a) * one,
-            span,
-            apart,
-            fresh,
-        );
-        a += 1;
-    }
-}
-
-// The same where heavy block b loses a bits in the column: each number of ones that its chunk can have is tried. Where no block is left
-// the mark is raised here, which spares the last call of each sweep.
-fn share(
-    l: Layout,
-    y: &[u8],
-    totals: &[u32],
-    counts: &[u16],
-    heavy: Heavy,
-    z: &[u8],
-    shape: Shape,
-    j: usize,
-    left: [u8; states::MOST_HEAVY],
-    modulus: usize,
-    need: usize,
-    there: u8,
-    marks: &[u8],
-    at: usize,
-    some: &[u16],
-    b: usize,
-    a: u8,
-    q: usize,
-    span: Span,
-    apart: u8,
-    fresh: &mut [u8],
-)
-    requires { ⌜ Ground l (now y) (now totals) (now counts) heavy (now z) shape j left modulus need (now marks) at
-        (now some) (now fresh) × (Shares shape (heavy .n) b q span apart × (a ≤ getD left b 0)) ⌝ }
-    ensures { λ _. ⌜ Raised l (now (y .entry)) heavy (now (z .entry)) shape j (each left) modulus need there
-        (now (marks .entry)) at (Sharing l heavy (now (z .entry)) shape j (each left) b a q span apart)
-        (now (fresh .entry)) (now (fresh .exit)) ⌝ }
-{
-    if none_marked(some, q, q + shape.stride[b]) {
-        return;
-    }
-    let v = look_at(l, y, totals, counts, heavy, j, b, left[b], a);
-    if !v.ok {
-        return;
-    }
-    let i = bits::wide(heavy.block[b]);
-    let more = apart + column::other(l.nc, y, totals, counts, v.at, a, z[i * l.l2 + j]);
-    let seen = v.seen;
-    let last = v.last;
-    let mut g = v.first;
-    while g <= last {
-        let wider = weigh::widen(l.nc, i * l.nc, bits::wide(a), seen, g, span);
-        if b == 0 {
-            raise_one(modulus, need, there, marks[at + q], q, wider, more, fresh);
-        } else {
-            sweep(
-                l,
-                y,
-                totals,
-                counts,
-                heavy,
-                z,
-                shape,
-                j,
-                left,
-                modulus,
-                need,
-                there,
-                marks,
-                at,
-                some,
-                b,
-                q,
-                wider,
-                more,
-                fresh,
-            );
+    let end = from[s];
+    let mut t = from[b];
+    while t < end {
+        let next = with_choice(choices, t, stand);
+        let q = next.q;
+        if !none_marked(some, q, q + one) {
+            if b == 0 {
+                raise_one(modulus, need, there, marks, at, next, fresh);
+            } else {
+                sweep(
+                    choices,
+                    from,
+                    shape,
+                    modulus,
+                    need,
+                    there,
+                    marks,
+                    at,
+                    some,
+                    b,
+                    next,
+                    fresh,
+                );
+            }
         }
-        g += 1;
+        t += 1;
     }
 }
 
@@ -314,7 +423,7 @@ pub fn raise(
 )
     requires { ⌜ (Fit l (now y) (now numbers) heavy × (Tables (now y) 0 (now totals) (now counts) × ((j < l .l2)
         × ((l .l2 ≤ length (now known)) × (l .l1 * l .l2 ≤ length (now z))))))
-        × (Counted heavy shape left (now marks) at (now some) × (shape .states ≤ length (now fresh))) ⌝ }
+        × ((Fitted heavy shape left × Counted shape (now marks) at (now some)) × (shape .states ≤ length (now fresh))) ⌝ }
     ensures { λ _. ⌜ Raises (now (fresh .entry)) (now (fresh .exit)) × ((row vs : List ℕ) (next : ℕ → ℕ)
         → Light l heavy row (now (known .entry))
         → Crosses l (now (y .entry)) (now (numbers .entry)) heavy row j (each left) next vs
@@ -324,16 +433,12 @@ pub fn raise(
 {
     let modulus = l.l1 * l.nc + 1;
     let need = column::missing(numbers[l.l1 + j] as usize, known[j] as usize, modulus);
+    let mut choices: [u16; NUMBERS] = [0; NUMBERS];
+    let from = list_choices(l, y, totals, counts, heavy, z, shape, j, left, &mut choices);
     sweep(
-        l,
-        y,
-        totals,
-        counts,
-        heavy,
-        z,
+        &choices,
+        &from,
         shape,
-        j,
-        left,
         modulus,
         need,
         there,
@@ -341,9 +446,7 @@ pub fn raise(
         at,
         some,
         heavy.n,
-        0,
-        Span { low: 0, high: 0 },
-        0,
+        start(),
         fresh,
     );
 }

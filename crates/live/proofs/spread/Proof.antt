@@ -55,21 +55,21 @@ raise-requires c κs =
     let rest = p .1 .1 .1 in (
       (r .fit, (r .tables, (p .1 .0, (r .long, r .all)))),
       (
-        record {
-          blocks = kept .blocks;
-          shaped = kept .shaped;
-          states = kept .few;
-          within = λ t h.
-              let few = r .fit .few in
-              omega (
-                arith,
-                d .digits-of .ensures t (omega (arith, kept .blocks, h)),
-                entry-low (kept .shaped .all) (p .1 .1 .0 .1) (s .args .p) (rest .0) t h,
-              );
-          marked = rest .1 .0;
-          long-some = rest .1 .1 .1 .0;
-          counted = rest .1 .1 .1 .1;
-        },
+        (
+          record {
+            blocks = kept .blocks;
+            shaped = kept .shaped;
+            states = kept .few;
+            within = λ t h.
+                let few = r .fit .few in
+                omega (
+                  arith,
+                  d .digits-of .ensures t (omega (arith, kept .blocks, h)),
+                  entry-low (kept .shaped .all) (p .1 .1 .0 .1) (s .args .p) (rest .0) t h,
+                );
+          },
+          record { marked = rest .1 .0; long-some = rest .1 .1 .1 .0; counted = rest .1 .1 .1 .1 },
+        ),
         rest .1 .1 .0,
       ),
     )

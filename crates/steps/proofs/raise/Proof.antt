@@ -1,12 +1,16 @@
--- `steps::raise` meets its contract: what the heavy blocks must bring is what the sum of the chunks in hand lacks.
--- Rests on Sweeping.antt. Assumes nothing.
-use Prim.Native.Nat.{_≤_}
-use mathlib.Core.Path.{refl, ap}
+-- `steps::raise` meets its contract: what the heavy blocks must bring is what the sum of the chunks in hand lacks, and each
+-- row that crosses the column has a choice of its own in each block. Rests on Sweeping.antt. Assumes nothing.
+use borrow.Author.Needs.{needs}
+use Prim.Native.Nat.{ℕ, _+_, _*_, _<_, _≤_}
+use mathlib.Core.Path.{_≡_, refl, sym, subst, ap, _∙_}
+use mathlib.Core.List.{List}
+use native.Mathlib.Nat.{mul-le-mul-right}
 use native.Mathlib.Omega.{arith}
-use Rattle.states.specs.States.{stride, each}
+use lib.ListN.{length, getD}
+use Rattle.states.specs.States.{state, stride, each}
 use Rattle.column.proofs.Rows.{StringLow, string-low, known-low, crosses-brings}
-use Rattle.steps.specs.Steps.{broughtIn}
-use Rattle.steps.proofs.Sweeping.{chosen-none}
+use Rattle.steps.specs.Steps.{Seeable, Small, broughtIn, Offers}
+use Rattle.steps.proofs.Sweeping.{its, its-picks, its-above}
 use Rattle.steps.proofs.raise.Statement.{statement}
 use Rattle.steps.proofs.raise.Tie as tie
 
@@ -61,59 +65,107 @@ missing-requires c κs =
     let b = low (start (c .before .before .before)) in
     (omega (arith, b .sum), omega (arith, b .modulus))
 
+-- where it starts, seen from where the choices are listed
+abbrev begin : tie.After-list-choices → tie.Start
+begin c = start (c .before .before .before .before .before .before)
+
+-- what can be seen of the column
+seeable : (s : tie.Start) → let a = s .args in
+    Seeable (a .l) (a .y .now) (a .totals .now) (a .counts .now) (a .heavy) (a .j)
+seeable s =
+    let f = s .pre .0 .0 in
+    record {
+      allowed = f .allowed;
+      bits = f .bits;
+      short = f .short;
+      tables = s .pre .0 .1 .0;
+      few = f .few;
+      blocks = f .inside;
+      column = s .pre .0 .1 .1 .0;
+    }
+
+slice-aggregate-list-choices : tie.Need-slice-aggregate-list-choices
+slice-aggregate-list-choices c = search needs
+
+list-choices-requires : tie.Need-list-choices-requires
+list-choices-requires c κs =
+    let s = start (c .before .before .before .before .before) in
+    ((seeable s, s .pre .0 .1 .1 .1 .1), (s .pre .1 .0 .0, omega arith))
+
+slice-aggregate-sweep : tie.Need-slice-aggregate-sweep
+slice-aggregate-sweep c = search needs
+
+start-requires : tie.Need-start-requires
+start-requires c κs = search needs
+
 sweep-requires : tie.Need-sweep-requires
 sweep-requires c κs =
-    let s = start (c .before .before .before .before .before) in
-    let p = s .pre in
-    let f = p .0 .0 in
-    let d = p .1 .0 in
-    let room : stride (each (s .args .shape .size)) (s .args .heavy .n) ≤ s .args .shape .states =
-    omega (arith, ap (stride (each (s .args .shape .size))) (d .blocks), d .shaped .all)
-    in (
+    let w = c .before .before .before .before .before in
+    let s = begin w in
+    let a = s .args in
+    let f = s .pre .1 .0 .0 in
+    let e = w .list-choices .ensures in
+    let none = c .before .start .ensures in
+    let room : stride (each (a .shape .size)) (a .heavy .n) ≤ a .shape .states =
+    omega (arith, ap (stride (each (a .shape .size))) (f .blocks), f .shaped .all) in (
       record {
-        seeable =
-            record {
-              allowed = f .allowed;
-              bits = f .bits;
-              short = f .short;
-              tables = p .0 .1 .0;
-              few = f .few;
-              blocks = f .inside;
-              column = p .0 .1 .1 .0;
-            };
-        others = p .0 .1 .1 .1 .1;
-        counted = d;
-        below = c .before .missing .ensures .0;
+        few = omega (arith, f .blocks, s .pre .0 .0 .few);
+        shaped = f .shaped;
+        states = f .states;
+        counted = s .pre .1 .0 .1;
+        long-fresh = s .pre .1 .1;
+        below = w .before .before .missing .ensures .0;
         high = omega (arith, low s .modulus);
-        long-fresh = p .1 .1;
+        listed = λ b t h first last.
+            let own = e .1 .1 b (omega (arith, h, f .blocks)) in
+            let small = own .1 .small t first last in
+            let top = mul-le-mul-right (stride (each (a .shape .size)) b) (f .within b h) in (
+              omega (arith, last, own .0, e .1 .0, e .0),
+              record {
+                adds-small = omega (arith, small .adds-small, top);
+                least-small = small .least-small;
+                most-small = small .most-small;
+                other-small = small .other-small;
+              },
+            );
       },
       record {
-        inside = omega arith;
-        room = omega (arith, room);
-        low = omega arith;
-        high = omega arith;
-        apart-low = omega arith;
+        inside = omega (arith, f .blocks);
+        room = omega (arith, room, none);
+        least = omega (arith, none, f .blocks);
+        most = omega (arith, none, f .blocks);
+        others = omega (arith, none, f .blocks);
       },
     )
 
 same-length : tie.Need-same-length
-same-length c = c .before .before .sweep .ensures .raises .long
+same-length c = c .before .before .sweep .ensures .0 .long
 
 returns : tie.Need-returns
 returns c =
     let w = c .before .before in
-    let n = w .before .before in
-    let s = start (n .before .before .before .before) in
+    let k = w .before .before .before .before .before .before in
+    let s = begin k in
     let a = s .args in
-    let p = s .pre in (
-      w .sweep .ensures .raises,
+    let p = s .pre in
+    let f = p .1 .0 .0 in
+    let size = each (a .shape .size) in
+    let from = k .list-choices .result in
+    let e = k .list-choices .ensures in (
+      w .sweep .ensures .0,
       λ row vs next light x m.
           let j = p .0 .1 .1 .0 in
           let known = known-low (a .l) (a .heavy) row (a .known .now) (a .j) light j in
           let brings = crosses-brings x (p .0 .0) j (a .known .now) light (a .heavy .n) (a .heavy .block) refl refl in
-          let is = n .missing .ensures .1 (broughtIn (a .l) (a .heavy) vs (a .j) (a .heavy .n)) known brings in
-          w .sweep .ensures .gains (a .numbers .now) row vs next x
-          (chosen-none (a .l) (a .heavy) (a .z .now) (a .shape) (a .j) _ next vs (p .1 .0 .blocks) refl) is m,
+          let is =
+          k .before .before .missing .ensures .1 (broughtIn (a .l) (a .heavy) vs (a .j) (a .heavy .n)) known brings in
+          let offers : (b : ℕ) → b < a .heavy .n
+          → Offers (a .l) (a .heavy) (a .z .now) vs (a .j) b _ (next b * stride size b) (getD from b 0)
+          (getD from (b + 1) 0) =
+          λ b h. e .1 .1 b h .1 .offers (a .numbers .now) row vs (each (a .left)) next refl x (x .falls b h) in
+          let gains = w .sweep .ensures .1 (its from size next offers) (its-picks from size next offers) in
+          let same = ap (state size next) (f .blocks) in
+          rw same (its-above from size next offers gains (w .before .before .start .ensures) is (rw same at m)),
     )
 
 pub raise-spec : {M : Type 1} → statement M
@@ -130,6 +182,10 @@ raise-spec =
     shared-slice-read-missing-2
     cast-missing-2
     missing-requires
+    slice-aggregate-list-choices
+    list-choices-requires
+    slice-aggregate-sweep
+    start-requires
     sweep-requires
     same-length
     returns)
