@@ -1,3 +1,4 @@
 -- The laws of specs/, for the proofs of this crate.
 mod Sets
+mod OneLost
 mod Costs

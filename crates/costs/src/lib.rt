@@ -7,9 +7,11 @@ ghost use mathlib.Core.Bool.{true};
 ghost use mathlib.Core.List.{List};
 ghost use Prim.Native.Nat.{ℕ, _+_, _*_, _%_, _<_, _≤_};
 ghost use lib.ListN.{length, getD};
+ghost use Rattle.bits.specs.Bits.{longest};
 ghost use Rattle.message.specs.Layout.{legal as isLegal};
 ghost use Rattle.windows.specs.Windows.{Tables};
 ghost use Rattle.states.specs.States.{each};
+ghost use Rattle.weigh.specs.Weigh.{chunkTop};
 ghost use Rattle.column.specs.Column.{Fit, Light, Crosses};
 ghost use Rattle.marks.specs.Marks.{Path};
 ghost use Rattle.whole.specs.Whole.{modulus, firsts, Source, OneLess, Legible, brings};
@@ -221,8 +223,27 @@ fn can_be_whole(
     set[numbers[l.l1 + j] as usize] != 0
 }
 
+// Whether a residue of a set, with some number from low to high, makes up the sum modulo m: the residue that goes with a
+// number falls by one, modulo m, as the number rises.
+fn makes_up(m: usize, sum: usize, low: usize, high: usize, set: &[u8]) -> bool
+    requires { ⌜ ((sum < m) × (m ≤ longest + 1)) × ((high ≤ chunkTop) × (m ≤ length (now set))) ⌝ }
+    ensures { λ r. ⌜ ((part n : ℕ) → part < m → In (now (set .entry)) part → low ≤ n → n ≤ high
+        → (part + n) % m ≡ sum → r ≡ true) ⌝ }
+{
+    let mut part = column::missing(sum, low % m, m);
+    let mut n = low;
+    while n <= high {
+        if set[part] != 0 {
+            return true;
+        }
+        part = if part == 0 { m - 1 } else { part - 1 };
+        n += 1;
+    }
+    false
+}
+
 // Whether the chunk of a block in column j, with so many losses left before, can have lost one bit and bring the column to
-// its sum from one of the residues of a set.
+// its sum from one of the residues of a set: what it can bring is tried by the number of its ones.
 fn repairs(
     l: Layout,
     y: &[u8],
@@ -239,15 +260,24 @@ fn repairs(
         × (modulus l ≤ length (now set)))) ⌝ }
     ensures { λ r. ⌜ ((v part : ℕ) → Repairs l (now (y .entry)) block end j left sum (now (set .entry)) v part → r ≡ true) ⌝ }
 {
-    let m = l.l1 * l.nc + 1;
-    let mut part: usize = 0;
-    while part < m {
-        if set[part] != 0 {
-            if whole::can_lose_one(l, y, totals, counts, block, end, j, left, part, sum) {
-                return true;
-            }
+    let nc = l.nc;
+    let i = bits::wide(block);
+    let from = (i * l.l2 + j) * nc + bits::wide(left);
+    let p = column::place_of(nc, y.len(), from, end, left, left - 1);
+    if !p.ok {
+        return false;
+    }
+    let at = p.at;
+    let seen = weigh::look(y, totals, counts, at, nc - 1);
+    let more = weigh::more_ones(y, totals, counts, at, nc - 1, 1);
+    let last = more.last;
+    let mut g = more.first;
+    while g <= last {
+        let span = weigh::widen(nc, i * nc, 1, seen, g, weigh::Span { low: 0, high: 0 });
+        if makes_up(l.l1 * nc + 1, sum, span.low / 2, span.high / 2, set) {
+            return true;
         }
-        part += 1;
+        g += 1;
     }
     false
 }

@@ -1,85 +1,213 @@
--- `costs::repairs` meets its contract. The loop's invariant: no residue that is passed brings the column to its sum.
--- The measure is what is left of the residues. Assumes nothing.
-use Prim.Native.Nat.{ℕ, _+_, _-_, _*_, _<_, _≤_}
-use mathlib.Core.Path.{_≡_, refl, sym, _∙_}
+-- `costs::repairs` meets its contract. The loop's invariant: a chunk that brings the column to its sum has at least g
+-- ones more than were received. The measure is what is left of these numbers. Rests on OneLost.antt. Assumes nothing.
+use Prim.Native.Nat.{ℕ, _+_, _-_, _*_, _/_, _<_, _≤_}
+use mathlib.Core.Path.{_≡_, refl, sym, ap, _∙_}
 use mathlib.Core.Bool.{false≢true}
-use mathlib.Core.Logic.{⊎-elim}
-use mathlib.Core.List.{List}
+use native.Mathlib.Nat.{mul-le-mul}
 use native.Mathlib.Omega.{arith}
-use borrow.Author.Count.{below-more}
 use borrow.Author.Needs.{needs}
-use lib.ListN.{length, getD}
+use borrow.Author.Tests.{not-true, not-false}
+use lib.ListN.{length}
+use Rattle.bits.specs.Bits.{digits}
+use Rattle.vt.specs.Ones.{ones}
+use Rattle.vt.specs.Sum.{total}
+use Rattle.message.proofs.Legal.{Bounds, legal-bounds}
 use Rattle.column.proofs.Rows.{string-high}
+use Rattle.whole.specs.Whole.{startAt}
 use Rattle.costs.specs.Costs.{Repairs}
+use Rattle.costs.proofs.OneLost.{Stands, stands, ones-between, brings-between}
 use Rattle.costs.proofs.repairs.Statement.{statement}
 use Rattle.costs.proofs.repairs.Tie as tie
 
 abbrev Inv-loop : tie.InvT-loop
-Inv-loop l y totals counts block end j left sum set m part₀ part =
-    (part ≤ m) × ((v q : ℕ) → q < part → Repairs l y block end j left sum set v q → ⊥)
+Inv-loop l y totals counts block end j left sum set nc i from at seen last g₀ g =
+    (v part : ℕ) → Repairs l y block end j left sum set v part → seen .ones + g ≤ ones (digits (l .nc) v)
 
 abbrev μ-loop : tie.MeasureT-loop
-μ-loop l y totals counts block end j left sum set m part₀ part = m - part
+μ-loop l y totals counts block end j left sum set nc i from at seen last g₀ g = last + 1 - g
 
--- where the function starts, seen from where the layout is known, and the modulus, which is small
+-- where the function starts, seen from where the layout is known
 abbrev begin : tie.After-struct-known Inv-loop μ-loop → tie.Start Inv-loop μ-loop
-begin c = c .before .before .before .before .before
+begin c = c .before .before .before .before .before .before
 
+-- where the layout is known, seen from where the chunk can be matched
+abbrev known : tie.Else1 Inv-loop μ-loop → tie.After-struct-known Inv-loop μ-loop
+known c = c .before .before .before .before
+
+-- where it was looked at, and where it can be matched, seen from the loop
+abbrev looked : tie.At-loop Inv-loop μ-loop → tie.After-look Inv-loop μ-loop
+looked c = c .before .before
+
+abbrev found : tie.At-loop Inv-loop μ-loop → tie.Else1 Inv-loop μ-loop
+found c = looked c .before
+
+-- where a turn has its span, seen from where that is tried
+abbrev turn : tie.After-struct-known5 Inv-loop μ-loop → tie.After-widen Inv-loop μ-loop
+turn c = c .before .before .before
+
+-- the layout is legal
+bounds : (s : tie.Start Inv-loop μ-loop) → Bounds (s .args .l)
+bounds s = legal-bounds (s .args .l) (s .pre .0 .allowed)
+
+-- the modulus is small
 high : (s : tie.Start Inv-loop μ-loop) → s .args .l .l1 * s .args .l .nc ≤ 2040
 high s = string-high (s .args .l) (s .pre .0 .allowed)
 
--- the turn of the loop
-abbrev turn : tie.After-shared-slice-known5 Inv-loop μ-loop → tie.In-loop Inv-loop μ-loop
-turn c = c .before
+-- where the chunk stands
+stands-at : (c : tie.After-struct-known Inv-loop μ-loop) → let a = begin c .args in
+    Stands (a .l) (a .block) (a .j) (c .before .wide .result)
+stands-at c = stands (begin c .pre .0) (c .before .wide .result) (c .before .wide .ensures)
 
-abbrev start : tie.In-loop Inv-loop μ-loop → tie.Start Inv-loop μ-loop
-start c = begin (c .before .before)
+wide-requires : tie.Need-wide-requires Inv-loop μ-loop
+wide-requires c κs = search needs
 
-mul-m : tie.Need-mul-m Inv-loop μ-loop
-mul-m c = omega (arith, high (begin c))
+mul-from : tie.Need-mul-from Inv-loop μ-loop
+mul-from c = record { fits = omega (arith, stands-at c .low) }
 
-add-m : tie.Need-add-m Inv-loop μ-loop
-add-m c = omega (arith, high (begin c))
+add-from : tie.Need-add-from Inv-loop μ-loop
+add-from c = record { fits = omega (arith, stands-at c .low) }
 
-loop-holds : tie.Need-loop-holds Inv-loop μ-loop
-loop-holds c = (omega arith, λ v q k. absurd (omega arith))
+mul-from-2 : tie.Need-mul-from-2 Inv-loop μ-loop
+mul-from-2 c = record { fits = omega (arith, stands-at c .in-row) }
 
-shared-slice-read-if1 : tie.Need-shared-slice-read-if1 Inv-loop μ-loop
-shared-slice-read-if1 c = omega (arith, turn c .loop-test .taken, start (turn c) .pre .1 .1 .1)
+wide-requires-2 : tie.Need-wide-requires-2 Inv-loop μ-loop
+wide-requires-2 c κs = search needs
 
-can-lose-one-requires : tie.Need-can-lose-one-requires Inv-loop μ-loop
-can-lose-one-requires c κs =
-    let p = start (turn (c .before)) .pre in
-    (p .0, (p .1 .0, p .1 .1 .0))
+-- what the place of the chunk is read from is what is meant, and it is small
+from-is : (c : tie.After-wide2 Inv-loop μ-loop) → let a = begin (c .before) .args in
+    let from = (c .before .before .wide .result * a .l .l2 + a .j) * a .l .nc + c .wide2 .result in
+    (from ≡ startAt (a .l) (a .block) (a .j) (a .left)) × (from ≤ 2295)
+from-is c =
+    let k = stands-at (c .before) in
+    let left = c .wide2 .ensures in
+    (omega (arith, k .is), omega (arith, k .in-row, begin (c .before) .fits .left))
+
+add-from-2 : tie.Need-add-from-2 Inv-loop μ-loop
+add-from-2 c = record { fits = omega (arith, from-is c .1) }
+
+sub-place-of : tie.Need-sub-place-of Inv-loop μ-loop
+sub-place-of c = begin (c .before) .pre .1 .0
+
+place-of-requires : tie.Need-place-of-requires Inv-loop μ-loop
+place-of-requires c κs =
+    let s = begin (c .before) in
+    (bounds s .nc-high, (s .pre .0 .short, omega (arith, from-is c .1)))
 
 returns : tie.Need-returns Inv-loop μ-loop
-returns c v part r = refl
+returns c v part r =
+    let p = c .before .before in
+    let ok = p .place-of .ensures .0 (rw (from-is (p .before) .0) (r .readable)) in
+    absurd (false≢true (sym (not-true _ (c .if1 .taken)) ∙ ok))
 
-add-part : tie.Need-add-part Inv-loop μ-loop
-add-part c = let t = turn (c .before) in omega (arith, t .loop-test .taken, high (start t))
+-- the place that was found: the chunk's bits start there, and those that it did not lose are there
+placed : (c : tie.Else1 Inv-loop μ-loop) → let p = c .before .before .place-of .result in
+    let a = begin (known c) .args in
+    (p .at ≡ startAt (a .l) (a .block) (a .j) (a .left) - a .end) × (p .at + (a .l .nc - 1) ≤ length (a .y .now))
+placed c =
+    let p = c .before .before in
+    let s = begin (known c) in
+    let e = p .place-of .ensures .1 (not-false _ (c .if1 .left)) in (
+      e .0 ∙ ap (λ (k : ℕ). k - s .args .end) (from-is (p .before) .0),
+      omega (arith, e .1, s .pre .1 .0, bounds s .nc-low),
+    )
 
-loop-less : tie.Need-loop-less Inv-loop μ-loop
-loop-less c = omega (arith, turn (c .before) .loop-test .taken)
+sub-look : tie.Need-sub-look Inv-loop μ-loop
+sub-look c = omega (arith, bounds (begin (known c)) .nc-low)
 
-loop-again : tie.Need-loop-again Inv-loop μ-loop
-loop-again c =
-    let t = turn (c .before) in
-    let p = t .before .loop in
-    let a = start t .args in
-    let Fails : ℕ → Type 0 =
-    λ q. (v : ℕ) → Repairs (a .l) (a .y .now) (a .block) (a .end) (a .j) (a .left) (a .sum) (a .set .now) v q → ⊥ in
-    let here : Fails (p .part) =
-    λ v r.
-    ⊎-elim
-    (λ w. false≢true (sym (w .2 .left) ∙ w .1 .ensures v (r .small) (r .readable) (r .loses) (r .hits)))
-    (λ w. omega (arith, w .left, r .among))
-    (c .if1 .came) in
-    (omega (arith, t .loop-test .taken), λ v q k. below-more Fails (p .part) (λ i h v. p .inv .1 v i h) here q k v)
+look-requires : tie.Need-look-requires Inv-loop μ-loop
+look-requires c κs =
+    let p = begin (known c) .pre .0 in
+    (p .bits, (p .short, (p .tables, placed c .1)))
+
+sub-more-ones : tie.Need-sub-more-ones Inv-loop μ-loop
+sub-more-ones c = omega (arith, bounds (begin (known (c .before))) .nc-low)
+
+more-ones-requires : tie.Need-more-ones-requires Inv-loop μ-loop
+more-ones-requires c κs =
+    let p = begin (known (c .before)) .pre .0 in
+    (p .bits, (p .short, (p .tables, placed (c .before) .1)))
+
+-- the ones of a chunk that brings the column to its sum
+between : (c : tie.After-more-ones Inv-loop μ-loop) → let e = c .before .before in let a = begin (known e) .args in
+    (v part : ℕ) → Repairs (a .l) (a .y .now) (a .block) (a .end) (a .j) (a .left) (a .sum) (a .set .now) v part
+    → (c .before .look .result .ones + c .more-ones .result .first ≤ ones (digits (a .l .nc) v))
+    × (ones (digits (a .l .nc) v) ≤ c .before .look .result .ones + c .more-ones .result .last)
+between c v part r =
+    let e = c .before .before in
+    ones-between r (omega (arith, bounds (begin (known e)) .nc-low)) _ (placed e .0) (c .before .look .ensures)
+    (c .more-ones .ensures)
+
+loop-holds : tie.Need-loop-holds Inv-loop μ-loop
+loop-holds c v part r = between c v part r .0
+
+mul-widen : tie.Need-mul-widen Inv-loop μ-loop
+mul-widen c = record { fits = omega (arith, stands-at (known (found (c .before))) .in-string) }
+
+widen-requires : tie.Need-widen-requires Inv-loop μ-loop
+widen-requires c κs =
+    let p = c .before in
+    let s = begin (known (found p)) in
+    let i = looked p .look .ensures in
+    let few = bounds s .nc-high in
+    let keeps : s .args .l .nc - 1 ≤ 8 = omega arith in
+    let low : looked p .look .result .total ≤ 64 = omega (arith, i .positions-small, mul-le-mul keeps keeps) in (
+      (few, stands-at (known (found p)) .in-string),
+      (
+        (
+          omega (arith, i .count-small, bounds s .nc-low),
+          (low, omega (arith, c .loop-test .taken, p .before .more-ones .ensures .few)),
+        ),
+        (omega arith, omega arith),
+      ),
+    )
+
+mul-makes-up : tie.Need-mul-makes-up Inv-loop μ-loop
+mul-makes-up c = record { fits = omega (arith, high (begin (known (found (c .before .before .before))))) }
+
+add-makes-up : tie.Need-add-makes-up Inv-loop μ-loop
+add-makes-up c = record { fits = omega (arith, high (begin (known (found (c .before .before .before))))) }
+
+makes-up-requires : tie.Need-makes-up-requires Inv-loop μ-loop
+makes-up-requires c κs =
+    let w = turn c in
+    let s = begin (known (found (w .before .before))) in
+    let p = s .pre .1 .1 in
+    ((p .0, omega (arith, high s)), (omega (arith, w .widen .ensures .high-small), p .1))
 
 returns-2 : tie.Need-returns-2 Inv-loop μ-loop
-returns-2 c v part r =
-    let p = c .before .loop in
-    absurd (p .inv .1 v part (omega (arith, r .low, c .loop-test .left)) r)
+returns-2 c v part r = refl
+
+add-g : tie.Need-add-g Inv-loop μ-loop
+add-g c =
+    let t = turn (c .before .before) .before in
+    omega (arith, t .loop-test .taken, t .before .before .more-ones .ensures .few)
+
+loop-less : tie.Need-loop-less Inv-loop μ-loop
+loop-less c = omega (arith, turn (c .before .before) .before .loop-test .taken)
+
+-- after a turn that found nothing, a chunk that brings the column to its sum has not just g ones more
+loop-again : tie.Need-loop-again Inv-loop μ-loop
+loop-again c v part r =
+    let m = c .before in
+    let w = turn (m .before) in
+    let p = w .before .before in
+    let e = found p in
+    let s = begin (known e) in
+    let a = s .args in
+    let d = digits (a .l .nc) v in
+    let b = total (a .block * a .l .nc + 1) d in
+    let just : ones d ≡ looked p .look .result .ones + p .loop .g → ⊥ =
+    λ q.
+    let i = brings-between r (omega (arith, bounds s .nc-low)) _ (placed e .0) (looked p .look .ensures)
+    (known e .before .wide .result) (p .loop .g) _ (w .widen .result) (known e .before .wide .ensures) refl refl q
+    (w .widen .ensures) in
+    false≢true (sym (c .if2 .left) ∙ m .makes-up .ensures part b (r .low) (r .among) (i .0) (i .1) (r .hits)) in
+    omega (arith, p .loop .inv v part r, just)
+
+returns-3 : tie.Need-returns-3 Inv-loop μ-loop
+returns-3 c v part r =
+    let p = c .before in
+    absurd (omega (arith, p .loop .inv v part r, c .loop-test .left, between (p .before) v part r .1))
 
 pub repairs-spec : {M : Type 1} → statement M
 repairs-spec =
@@ -87,13 +215,27 @@ repairs-spec =
     (tie.spec
     Inv-loop
     μ-loop
-    mul-m
-    add-m
-    loop-holds
-    shared-slice-read-if1
-    can-lose-one-requires
+    wide-requires
+    mul-from
+    add-from
+    mul-from-2
+    wide-requires-2
+    add-from-2
+    sub-place-of
+    place-of-requires
     returns
-    add-part
+    sub-look
+    look-requires
+    sub-more-ones
+    more-ones-requires
+    loop-holds
+    mul-widen
+    widen-requires
+    mul-makes-up
+    add-makes-up
+    makes-up-requires
+    returns-2
+    add-g
     loop-less
     loop-again
-    returns-2)
+    returns-3)
