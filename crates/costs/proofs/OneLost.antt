@@ -1,5 +1,5 @@
--- A chunk that lost one bit, matched against the received row: where it stands, how many ones it has, and what it brings.
--- Rests on the laws of the crate weigh. Assumes nothing.
+-- A chunk that lost one bit, matched against the received row: where it stands, how many ones it has, and what it
+-- brings. Rests on the laws of the crate weigh. Assumes nothing.
 use Prim.Native.Nat.{ℕ, _+_, _-_, _*_, _/_, _<_, _≤_}
 use mathlib.Core.Path.{_≡_, refl, ap, _∙_}
 use mathlib.Core.List.{List}

@@ -1,15 +1,15 @@
--- Sets of residues: how one grows by an entry, how another is moved into it, in two parts around the wrap, and which
--- residue goes with a number. Assumes nothing.
-use Prim.Native.Nat.{ℕ, _+_, _-_, _*_, _%_, _<_}
+-- Sets of residues: how one grows by an entry, how one that stands twice is moved into another, and which residue goes
+-- with a number. Assumes nothing.
+use Prim.Native.Nat.{ℕ, _+_, _-_, _*_, _%_, _<_, _≤_}
 use mathlib.Core.Path.{_≡_, sym, ap, _∙_}
 use mathlib.Core.Logic.{_⊎_, inl, inr}
 use mathlib.Core.List.{List}
 use native.Mathlib.Decide.{ℕ-discrete, decLt}
 use native.Mathlib.Nat.{mod-lt, mod-eq-of-lt, add-mul-mod-self-right, mod-add-mod, add-mod-mod}
 use native.Mathlib.Omega.{arith}
-use lib.ListN.{length, getD, set}
+use lib.ListN.{length, getD, set, length-set}
 use lib.Seq.{getD-set-same, getD-set-other}
-use Rattle.costs.specs.Costs.{In, Grows, Moved}
+use Rattle.costs.specs.Costs.{In, Grows, Moved, Twice}
 
 -- an entry that is set takes nothing out of a set, where it is not zero or was zero
 pub set-grows : (xs : List ℕ) (i v : ℕ) → i < length xs → (In xs i → 0 < v) → Grows xs (set xs i v)
@@ -19,27 +19,57 @@ set-grows xs i v h k r x = go (ℕ-discrete r i)
     go (yes e) = rw (e, getD-set-same xs i v 0 h) (k (rw (← e) x))
     go (no e) = rw (getD-set-other xs i r v 0 e) x
 
--- a set is moved in by its first m - by entries, which do not wrap, and by the others, which do
-pub moved-in : (m by : ℕ) (from mid to : List ℕ) → by < m
-    → ((i : ℕ) → i < m - by → In from (0 + i) → In mid (by + i)) → Grows mid to
-    → ((i : ℕ) → i < by → In from (m - by + i) → In to (0 + i))
-    → Moved m by from to
-moved-in m by from mid to h early grows late r k x = go (decLt r (m - by))
+-- a set that stands twice is moved in by m entries from m - by on: those of the first copy wrap
+pub moved-in : (m by : ℕ) (from to : List ℕ) → by < m → Twice m from
+    → ((i : ℕ) → i < m → In from (m - by + i) → In to i) → Moved m by from to
+moved-in m by from to h twice put r k x = go (decLt r (m - by))
   where
     go : Dec (r < m - by) → In to ((r + by) % m)
     go (yes d) =
-        let z : 0 + r ≡ r = omega arith in
-        let e : r + by ≡ by + r = omega arith in
-        let w : (r + by) % m ≡ by + r = mod-eq-of-lt (omega arith) ∙ e in
-        rw w (grows (by + r) (early r d (rw z x)))
+        let z : m - by + (r + by) ≡ m + r = omega arith in
+        let w : (r + by) % m ≡ r + by = mod-eq-of-lt (omega arith) in
+        rw w (put (r + by) (omega arith) (rw (z, twice r k) x))
     go (no d) =
         let i : ℕ = r + by - m in
         let z : m - by + i ≡ r = omega arith in
         let e : r + by ≡ i + 1 * m = omega arith in
-        let w : (r + by) % m ≡ 0 + i =
-        ap (λ (v : ℕ). v % m) e ∙ add-mul-mod-self-right i 1 m ∙ mod-eq-of-lt (omega arith) ∙ omega arith
-        in
-        rw w (late i (omega arith) (rw z x))
+        let w : (r + by) % m ≡ i =
+        ap (λ (v : ℕ). v % m) e ∙ add-mul-mod-self-right i 1 m ∙ mod-eq-of-lt (omega arith) in
+        rw w (put i (omega arith) (rw z x))
+
+-- ---- an entry that is set in both copies
+module _ (m : ℕ) (xs : List ℕ) (i v : ℕ) (h : i < m) (long : 2 * m ≤ length xs) where
+  abbrev both : List ℕ
+  both = set (set xs i v) (m + i) v
+
+  -- there is room for it in the second too
+  pub both-room : m + i < length (set xs i v)
+  both-room = omega (arith, length-set xs i v)
+
+  -- it stands in the first and in the second
+  pub both-first : getD both i 0 ≡ v
+  both-first =
+      getD-set-other (set xs i v) (m + i) i v 0 (λ e. omega (arith, e)) ∙ getD-set-same xs i v 0 (omega arith)
+
+  pub both-second : getD both (m + i) 0 ≡ v
+  both-second = getD-set-same (set xs i v) (m + i) v 0 both-room
+
+  -- and the others as they did
+  pub other-first : (r : ℕ) → r < m → (r ≡ i → ⊥) → getD both r 0 ≡ getD xs r 0
+  other-first r k d = getD-set-other (set xs i v) (m + i) r v 0 (λ e. omega (arith, e)) ∙ getD-set-other xs i r v 0 d
+
+  pub other-second : (r : ℕ) → (r ≡ i → ⊥) → getD both (m + r) 0 ≡ getD xs (m + r) 0
+  other-second r d =
+      getD-set-other (set xs i v) (m + i) (m + r) v 0 (λ e. d (omega (arith, e)))
+      ∙ getD-set-other xs i (m + r) v 0 (λ e. omega (arith, e))
+
+  -- so a set that stands twice still does
+  pub twice-set : Twice m xs → Twice m both
+  twice-set twice r k = go (ℕ-discrete r i)
+    where
+      go : Dec (r ≡ i) → getD both (m + r) 0 ≡ getD both r 0
+      go (yes e) = rw e (both-second ∙ sym both-first)
+      go (no e) = other-second r e ∙ twice r k ∙ sym (other-first r k e)
 
 -- moved on by a remainder is moved on by the number
 pub moved-rest : (m by b : ℕ) (from to : List ℕ) → by ≡ b % m → Moved m by from to → Moved m b from to

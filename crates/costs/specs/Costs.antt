@@ -28,6 +28,14 @@ Grows entry exit = (r : ℕ) → In entry r → In exit r
 abbrev pub Moved : (m by : ℕ) (from to : List ℕ) → Type 0
 Moved m by from to = (r : ℕ) → r < m → In from r → In to ((r + by) % m)
 
+-- a set of residues modulo m stands twice: entry m + r is entry r
+abbrev pub Twice : (m : ℕ) (set : List ℕ) → Type 0
+Twice m set = (r : ℕ) → r < m → getD set (m + r) 0 ≡ getD set r 0
+
+-- there is room for a set that stands twice, and for another one
+abbrev pub Room : (m : ℕ) (set other : List ℕ) → Type 0
+Room m set other = (2 * m ≤ length set) × (m ≤ length other)
+
 -- ---- a column whose heavy blocks have so many losses left
 
 -- of the first n blocks each but one has no more left than its size, and its chunk can be read whole, in a received row

@@ -15,11 +15,16 @@ ghost use Rattle.weigh.specs.Weigh.{chunkTop};
 ghost use Rattle.column.specs.Column.{Fit, Light, Crosses};
 ghost use Rattle.marks.specs.Marks.{Path};
 ghost use Rattle.whole.specs.Whole.{modulus, firsts, Source, OneLess, Legible, brings};
-ghost use Rattle.costs.specs.Costs.{In, Grows, Moved, ReadBut, bringsBut, Asked, Tells, Repairs};
+ghost use Rattle.costs.specs.Costs.{In, Grows, Moved, Twice, Room, ReadBut, bringsBut, Asked, Tells};
+ghost use Rattle.costs.specs.Costs.{Repairs};
 
 // The most residues that the sum of a chunk-string can have. A set has an entry for each, zero for those not in it. What
 // is proved of sets is what they hold at least: a residue too many lets a column pass, and no row is lost by that.
 const MOST: usize = 2041;
+
+// The entries of a set that stands twice, one copy behind the other, so that its residues stand in one piece wherever
+// one starts to read.
+const TWICE: usize = 2 * MOST;
 
 // What the chunk of a block in column j brings to the sum of its chunk-string, where it is read whole with e losses
 // left in its block; the modulus where it cannot be read so.
@@ -45,36 +50,35 @@ fn residue(
     read % m
 }
 
-// Puts n residues of a set, from place a on, into another, from place b on.
-fn put_in(from: &[u8], a: usize, n: usize, to: &mut [u8], b: usize)
-    requires { ⌜ (a + n ≤ length (now from)) × (b + n ≤ length (now to)) ⌝ }
+// Puts m entries of a set, from place a on, into another.
+fn put_in(m: usize, a: usize, from: &[u8], to: &mut [u8])
+    requires { ⌜ (a + m ≤ length (now from)) × (m ≤ length (now to)) ⌝ }
     ensures { λ _. ⌜ Grows (now (to .entry)) (now (to .exit))
-        × ((i : ℕ) → i < n → In (now (from .entry)) (a + i) → In (now (to .exit)) (b + i)) ⌝ }
+        × ((i : ℕ) → i < m → In (now (from .entry)) (a + i) → In (now (to .exit)) i) ⌝ }
 {
     let mut i: usize = 0;
-    while i < n {
-        let old = to[b + i];
+    while i < m {
+        let old = to[i];
         let new = if from[a + i] == 0 { old } else { 1 };
-        to[b + i] = new;
+        to[i] = new;
         i += 1;
     }
 }
 
-// Puts the residues of a set, each moved on by so much modulo m, into another.
+// Puts the residues of a set that stands twice, each moved on by so much modulo m, into another.
 fn move_in(m: usize, by: usize, from: &[u8], to: &mut [u8])
-    requires { ⌜ (m ≤ length (now from)) × (m ≤ length (now to)) ⌝ }
+    requires { ⌜ Twice m (now from) × Room m (now from) (now to) ⌝ }
     ensures { λ _. ⌜ Grows (now (to .entry)) (now (to .exit))
         × (by < m → Moved m by (now (from .entry)) (now (to .exit))) ⌝ }
 {
     if m <= by {
         return;
     }
-    put_in(from, 0, m - by, to, by);
-    put_in(from, m - by, by, to, 0);
+    put_in(m, m - by, from, to);
 }
 
-// Puts the residues of a set, with what the chunk of a block in column j brings, into another: each reading of the
-// chunk with at most so many losses left. Readings that bring the same as the one before are passed over.
+// Puts the residues of a set that stands twice, with what the chunk of a block in column j brings, into another: each
+// reading of the chunk with at most so many losses left. Readings that bring the same as the one before are passed over.
 fn add_block(
     l: Layout,
     y: &[u8],
@@ -88,7 +92,7 @@ fn add_block(
     to: &mut [u8],
 )
     requires { ⌜ Source l (now y) (now totals) (now counts) block j
-        × ((modulus l ≤ length (now from)) × (modulus l ≤ length (now to))) ⌝ }
+        × (Twice (modulus l) (now from) × Room (modulus l) (now from) (now to)) ⌝ }
     ensures { λ _. ⌜ ((e : ℕ) → e ≤ size → Legible l (length (now (y .entry))) block end j e
         → Moved (modulus l) (brings l (now (y .entry)) block end j e) (now (from .entry)) (now (to .exit))) ⌝ }
 {
@@ -106,21 +110,24 @@ fn add_block(
     }
 }
 
-// Makes a set of the first m residues of another, which is empty afterwards.
+// Makes a set of the first m residues of another, which is empty afterwards; the set stands twice.
 fn take_over(m: usize, set: &mut [u8], other: &mut [u8])
-    requires { ⌜ (m ≤ length (now set)) × (m ≤ length (now other)) ⌝ }
-    ensures { λ _. ⌜ ((r : ℕ) → r < m → getD (now (set .exit)) r 0 ≡ getD (now (other .entry)) r 0) ⌝ }
+    requires { ⌜ Room m (now set) (now other) ⌝ }
+    ensures { λ _. ⌜ ((r : ℕ) → r < m → getD (now (set .exit)) r 0 ≡ getD (now (other .entry)) r 0)
+        × Twice m (now (set .exit)) ⌝ }
 {
     let mut r: usize = 0;
     while r < m {
-        set[r] = other[r];
+        let v = other[r];
+        set[r] = v;
+        set[m + r] = v;
         other[r] = 0;
         r += 1;
     }
 }
 
-// Puts what the chunk of a block in column j brings into the residues of a set: each of them with each reading of the chunk.
-// The other set is empty before and after.
+// Puts what the chunk of a block in column j brings into the residues of a set that stands twice: each of them with each
+// reading of the chunk. The other set is empty before and after.
 fn take_block(
     l: Layout,
     y: &[u8],
@@ -134,9 +141,10 @@ fn take_block(
     other: &mut [u8],
 )
     requires { ⌜ Source l (now y) (now totals) (now counts) block j
-        × ((modulus l ≤ length (now set)) × (modulus l ≤ length (now other))) ⌝ }
+        × (Twice (modulus l) (now set) × Room (modulus l) (now set) (now other)) ⌝ }
     ensures { λ _. ⌜ ((e : ℕ) → e ≤ size → Legible l (length (now (y .entry))) block end j e
-        → Moved (modulus l) (brings l (now (y .entry)) block end j e) (now (set .entry)) (now (set .exit))) ⌝ }
+        → Moved (modulus l) (brings l (now (y .entry)) block end j e) (now (set .entry)) (now (set .exit)))
+        × Twice (modulus l) (now (set .exit)) ⌝ }
 {
     add_block(l, y, totals, counts, block, end, size, j, set, other);
     take_over(l.l1 * l.nc + 1, set, other);
@@ -159,7 +167,7 @@ fn fill_sums(
 )
     requires { ⌜ ((isLegal l ≡ true) × ((heavy .n ≤ 6) × (j < length (now known))))
         × (((s : ℕ) → s < heavy .n → Source l (now y) (now totals) (now counts) (getD (heavy .block) s 0) j)
-        × ((modulus l ≤ length (now set)) × (modulus l ≤ length (now other)))) ⌝ }
+        × Room (modulus l) (now set) (now other)) ⌝ }
     ensures { λ _. ⌜ ((left : ℕ → ℕ) → ReadBut l (length (now (y .entry))) heavy size j left but (heavy .n)
         → In (now (set .exit)) ((getD (now (known .entry)) j 0
         + firsts (bringsBut l (now (y .entry)) heavy j left but) (heavy .n)) % modulus l)) ⌝ }
@@ -167,7 +175,9 @@ fn fill_sums(
     let n = heavy.n;
     let m = l.l1 * l.nc + 1;
     take_over(m, set, other);
-    set[known[j] as usize % m] = 1;
+    let first = known[j] as usize % m;
+    set[first] = 1;
+    set[m + first] = 1;
     let mut s: usize = 0;
     while s < n {
         if s != but {
@@ -203,7 +213,7 @@ fn can_be_whole(
     other: &mut [u8],
 ) -> bool
     requires { ⌜ Asked l (now y) (now totals) (now counts) (now numbers) heavy (now known) j
-        × ((modulus l ≤ length (now set)) × (modulus l ≤ length (now other))) ⌝ }
+        × Room (modulus l) (now set) (now other) ⌝ }
     ensures { λ r. ⌜ Tells l (now (y .entry)) (now (numbers .entry)) heavy size (now (known .entry)) j
         (λ left next. (s : ℕ) → s < heavy .n → next s ≡ left s) r ⌝ }
 {
@@ -328,7 +338,7 @@ fn can_lose_in(
     other: &mut [u8],
 ) -> bool
     requires { ⌜ Asked l (now y) (now totals) (now counts) (now numbers) heavy (now known) j
-        × ((at < heavy .n) × ((modulus l ≤ length (now set)) × (modulus l ≤ length (now other)))) ⌝ }
+        × ((at < heavy .n) × Room (modulus l) (now set) (now other)) ⌝ }
     ensures { λ r. ⌜ Tells l (now (y .entry)) (now (numbers .entry)) heavy size (now (known .entry)) j
         (λ left next. OneLess (heavy .n) left next at) r ⌝ }
 {
@@ -363,7 +373,7 @@ fn can_lose_one(
     other: &mut [u8],
 ) -> bool
     requires { ⌜ Asked l (now y) (now totals) (now counts) (now numbers) heavy (now known) j
-        × ((modulus l ≤ length (now set)) × (modulus l ≤ length (now other))) ⌝ }
+        × Room (modulus l) (now set) (now other) ⌝ }
     ensures { λ r. ⌜ Tells l (now (y .entry)) (now (numbers .entry)) heavy size (now (known .entry)) j
         (λ left next. (s : ℕ) × ((s < heavy .n) × OneLess (heavy .n) left next s)) r ⌝ }
 {
@@ -408,7 +418,7 @@ fn cost(
     other: &mut [u8],
 ) -> usize
     requires { ⌜ Asked l (now y) (now totals) (now counts) (now numbers) heavy (now known) j
-        × ((modulus l ≤ length (now set)) × (modulus l ≤ length (now other))) ⌝ }
+        × Room (modulus l) (now set) (now other) ⌝ }
     ensures { λ r. ⌜ (r ≤ 2) × ((row vs : List ℕ) (left next : ℕ → ℕ) → Light l heavy row (now (known .entry))
         → ((s : ℕ) → s < heavy .n → left s ≤ each size s)
         → Crosses l (now (y .entry)) (now (numbers .entry)) heavy row j left next vs
@@ -480,7 +490,7 @@ fn columns_cost(
     other: &mut [u8],
 ) -> usize
     requires { ⌜ Fit l (now y) (now numbers) heavy × (Tables (now y) 0 (now totals) (now counts)
-        × ((l .l2 ≤ length (now known)) × ((modulus l ≤ length (now set)) × (modulus l ≤ length (now other))))) ⌝ }
+        × ((l .l2 ≤ length (now known)) × Room (modulus l) (now set) (now other))) ⌝ }
     ensures { λ r. ⌜ (r ≤ 510) × ((row vs : List ℕ) (own : ℕ → ℕ → ℕ) → Light l heavy row (now (known .entry))
         → Path l (now (y .entry)) (now (numbers .entry)) heavy row (each size) vs own → r ≤ firsts (each size) (heavy .n)) ⌝ }
 {
@@ -528,7 +538,7 @@ pub fn enough(
         → Path l (now (y .entry)) (now (numbers .entry)) heavy row (each size) vs own → r ≡ true) ⌝ }
 {
     let all = all_losses(heavy.n, size);
-    let mut set: [u8; MOST] = [0; MOST];
+    let mut set: [u8; TWICE] = [0; TWICE];
     let mut other: [u8; MOST] = [0; MOST];
     let ones = columns_cost(
         l,

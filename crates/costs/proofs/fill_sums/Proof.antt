@@ -1,6 +1,6 @@
--- `costs::fill_sums` meets its contract. The loop's invariant: the residue of the sum of the chunks in hand and of what
--- the chunks of the blocks passed bring, but that one, is in the set, with whatever losses left they are read. The
--- measure is what is left of the blocks. Assumes nothing.
+-- `costs::fill_sums` meets its contract. The loop's invariant: the set stands twice, and the residue of the sum of the
+-- chunks in hand and of what the chunks of the blocks passed bring, but that one, is in it, with whatever losses left
+-- they are read. The measure is what is left of the blocks. Assumes nothing.
 use Prim.Native.Nat.{ℕ, _+_, _-_, _*_, _%_, _<_, _≤_}
 use mathlib.Core.Path.{_≡_, refl, sym, ap, _∙_, subst}
 use mathlib.Core.Logic.{⊎-elim}
@@ -9,24 +9,23 @@ use native.Mathlib.Nat.{mod-lt}
 use native.Mathlib.Numerals.{add-one}
 use native.Mathlib.Omega.{arith}
 use borrow.Author.Needs.{needs}
-use lib.ListN.{length, getD, length-set}
-use lib.Seq.{getD-set-same}
+use lib.ListN.{length, getD, set, length-set}
 use Rattle.column.proofs.Rows.{string-high}
 use Rattle.whole.specs.Whole.{modulus, firsts, bringsIn}
-use Rattle.costs.specs.Costs.{In, ReadBut, bringsBut}
+use Rattle.costs.specs.Costs.{In, Twice, ReadBut, bringsBut}
 use Rattle.costs.proofs.Costs.{but-own, but-other}
-use Rattle.costs.proofs.Sets.{next-in}
+use Rattle.costs.proofs.Sets.{both-room, both-first, twice-set, next-in}
 use Rattle.costs.proofs.fill_sums.Statement.{statement}
 use Rattle.costs.proofs.fill_sums.Tie as tie
 
 abbrev Inv-loop : tie.InvT-loop
-Inv-loop l y totals counts known j but set₀ other₀ heavy size n m s₀ set other s =
+Inv-loop l y totals counts known j but set₀ other₀ heavy size n m first s₀ set other s =
     ((s ≤ n) × ((length set ≡ length set₀) × (length other ≡ length other₀)))
-    × ((left : ℕ → ℕ) → ReadBut l (length y) heavy size j left but s
-    → In set ((getD known j 0 + firsts (bringsBut l y heavy j left but) s) % modulus l))
+    × (Twice (modulus l) set × ((left : ℕ → ℕ) → ReadBut l (length y) heavy size j left but s
+    → In set ((getD known j 0 + firsts (bringsBut l y heavy j left but) s) % modulus l)))
 
 abbrev μ-loop : tie.MeasureT-loop
-μ-loop l y totals counts known j but set₀ other₀ heavy size n m s₀ set other s = n - s
+μ-loop l y totals counts known j but set₀ other₀ heavy size n m first s₀ set other s = n - s
 
 -- where the function starts, seen from where the layout is known
 abbrev entry : tie.After-struct-known Inv-loop μ-loop → tie.Start Inv-loop μ-loop
@@ -49,7 +48,8 @@ long : (c : tie.At-loop Inv-loop μ-loop) → let a = begin (c .before) .args in
 long c =
     let f = first (c .before) .take-over in
     let i = c .loop .inv .0 .1 in
-    (i .0 ∙ length-set (f .last .1 .0) _ _ ∙ f .kept .1 .0, i .1 ∙ f .kept .1 .1 .0)
+    let one = length-set (f .last .1 .0) _ 1 ∙ f .kept .1 .0 in
+    (i .0 ∙ length-set (set (f .last .1 .0) _ 1) _ 1 ∙ one, i .1 ∙ f .kept .1 .1 .0)
 
 mul-m : tie.Need-mul-m Inv-loop μ-loop
 mul-m c = omega (arith, high (entry c))
@@ -60,37 +60,49 @@ add-m c = omega (arith, high (entry c))
 take-over-requires : tie.Need-take-over-requires Inv-loop μ-loop
 take-over-requires c κs = search needs
 
-mul-set : tie.Need-mul-set Inv-loop μ-loop
-mul-set c = search needs
+mul-first : tie.Need-mul-first Inv-loop μ-loop
+mul-first c = search needs
 
-shared-slice-read-set : tie.Need-shared-slice-read-set Inv-loop μ-loop
-shared-slice-read-set c = search needs
+shared-slice-read-first : tie.Need-shared-slice-read-first Inv-loop μ-loop
+shared-slice-read-first c = search needs
 
-cast-set : tie.Need-cast-set Inv-loop μ-loop
-cast-set c = record { fits = omega (arith, c .shared-slice-known5 .given (begin c .args .j)) }
+cast-first : tie.Need-cast-first Inv-loop μ-loop
+cast-first c = record { fits = omega (arith, c .shared-slice-known5 .given (begin c .args .j)) }
 
-rem-set : tie.Need-rem-set Inv-loop μ-loop
-rem-set c = search needs
+rem-first : tie.Need-rem-first Inv-loop μ-loop
+rem-first c = search needs
+
+-- the first residue is one, and the emptied set has room for it in both copies
+low : (c : tie.After-shared-slice-known5 Inv-loop μ-loop) → let a = begin c .args in
+    getD (a .known .now) (a .j) 0 % modulus (a .l) < modulus (a .l)
+low c = mod-lt _ (omega arith)
+
+room : (c : tie.After-shared-slice-known5 Inv-loop μ-loop)
+    → 2 * modulus (begin c .args .l) ≤ length (first c .take-over .last .1 .0)
+room c = omega (arith, first c .take-over .kept .1 .0, begin c .pre .1 .1 .0)
 
 slice-write-set : tie.Need-slice-write-set Inv-loop μ-loop
-slice-write-set c =
-    let s = begin c in
-    omega (
-      arith,
-      first c .take-over .kept .1 .0,
-      s .pre .1 .1 .0,
-      mod-lt (getD (s .args .known .now) (s .args .j) 0) {m = modulus (s .args .l)} (omega arith),
-    )
+slice-write-set c = omega (arith, low c, room c)
+
+add-set : tie.Need-add-set Inv-loop μ-loop
+add-set c = record { fits = omega (arith, low c, high (begin c)) }
+
+slice-write-set-2 : tie.Need-slice-write-set-2 Inv-loop μ-loop
+slice-write-set-2 c = both-room _ (first c .take-over .last .1 .0) _ 1 (low c) (room c)
 
 loop-holds : tie.Need-loop-holds Inv-loop μ-loop
 unfolding firsts
 loop-holds c =
     let a = begin c .args in
+    let over = first c .take-over in
     let v : ℕ = getD (a .known .now) (a .j) 0 % modulus (a .l) in (
       (omega arith, (refl, refl)),
-      λ left read.
-          let z : getD (a .known .now) (a .j) 0 + 0 ≡ getD (a .known .now) (a .j) 0 = omega arith in
-          rw (z, getD-set-same (first c .take-over .last .1 .0) v 1 0 (slice-write-set c)) (omega arith),
+      (
+        twice-set (modulus (a .l)) (over .last .1 .0) v 1 (low c) (room c) (over .ensures .1),
+        λ left read.
+            let z : getD (a .known .now) (a .j) 0 + 0 ≡ getD (a .known .now) (a .j) 0 = omega arith in
+            rw (z, both-first (modulus (a .l)) (over .last .1 .0) v 1 (low c) (room c)) (omega arith),
+      ),
     )
 
 element-copy-out-take-block : tie.Need-element-copy-out-take-block Inv-loop μ-loop
@@ -108,7 +120,7 @@ take-block-requires c κs =
     let p = t .before in
     let s = begin (p .before) in (
       s .pre .1 .0 (p .loop .s) (t .loop-test .taken),
-      (omega (arith, s .pre .1 .1 .0, long p .0), omega (arith, s .pre .1 .1 .1, long p .1)),
+      (p .loop .inv .1 .0, (omega (arith, s .pre .1 .1 .0, long p .0), omega (arith, s .pre .1 .1 .1, long p .1))),
     )
 
 add-s : tie.Need-add-s Inv-loop μ-loop
@@ -135,22 +147,28 @@ loop-again c =
           ⊎-elim (λ w. ap length (w .11) ∙ search needs) (λ w. ap length (w .2) ∙ i .0 .1 .1) (c .if1 .came),
         ),
       ),
-      λ left read.
-          let was = i .1 left (λ t k d. read t (omega arith) d) in
-          let Holds : List ℕ → Type 0 = λ set. In set ((known + (firsts (gain left) s + gain left s)) % m) in
-          rw (add-one s)
-          (⊎-elim
-          (λ w. let own = read s (omega arith) (w .0 .taken) in
-          let moved = w .5 .ensures (left s) (own .0) (own .1) in
-          let e = but-other (a .l) (a .y .now) (a .t5) (a .j) left (a .but) s (w .0 .taken) in
-          subst Holds (sym (w .10))
-          (rw e
-          (next-in m known (firsts (gain left) s) (bringsIn (a .l) (a .y .now) (a .t5) (a .j) left s) (p .loop .set)
-          (w .5 .last .1 .1 .1 .1 .1 .1 .1 .1 .0) (omega arith) moved was)))
-          (λ w. let e : gain left s ≡ 0 = rw (w .0 .left) (but-own (a .l) (a .y .now) (a .t5) (a .j) left (a .but)) in
-          let z : known + (firsts (gain left) s + 0) ≡ known + firsts (gain left) s = omega arith in
-          subst Holds (sym (w .1)) (rw (e, z) was))
-          (c .if1 .came)),
+      (
+        ⊎-elim
+            (λ w. subst (Twice m) (sym (w .10)) (w .5 .ensures .1))
+            (λ w. subst (Twice m) (sym (w .1)) (i .1 .0))
+            (c .if1 .came),
+        λ left read.
+            let was = i .1 .1 left (λ t k d. read t (omega arith) d) in
+            let Holds : List ℕ → Type 0 = λ set. In set ((known + (firsts (gain left) s + gain left s)) % m) in
+            rw (add-one s)
+            (⊎-elim
+            (λ w. let own = read s (omega arith) (w .0 .taken) in
+            let moved = w .5 .ensures .0 (left s) (own .0) (own .1) in
+            let e = but-other (a .l) (a .y .now) (a .t5) (a .j) left (a .but) s (w .0 .taken) in
+            subst Holds (sym (w .10))
+            (rw e
+            (next-in m known (firsts (gain left) s) (bringsIn (a .l) (a .y .now) (a .t5) (a .j) left s) (p .loop .set)
+            (w .5 .last .1 .1 .1 .1 .1 .1 .1 .1 .0) (omega arith) moved was)))
+            (λ w. let e : gain left s ≡ 0 = rw (w .0 .left) (but-own (a .l) (a .y .now) (a .t5) (a .j) left (a .but)) in
+            let z : known + (firsts (gain left) s + 0) ≡ known + firsts (gain left) s = omega arith in
+            subst Holds (sym (w .1)) (rw (e, z) was))
+            (c .if1 .came)),
+      ),
     )
 
 same-length : tie.Need-same-length Inv-loop μ-loop
@@ -164,7 +182,7 @@ returns c left read =
     let p = c .before in
     let a = begin (p .before) .args in
     let k : p .loop .s ≡ a .t5 .n = omega (arith, p .loop .inv .0 .0, c .loop-test .left) in
-    let was = p .loop .inv .1 left (λ t h d. read t (omega arith) d) in
+    let was = p .loop .inv .1 .1 left (λ t h d. read t (omega arith) d) in
     rw k at was
 
 pub fill-sums-spec : {M : Type 1} → statement M
@@ -176,11 +194,13 @@ fill-sums-spec =
     mul-m
     add-m
     take-over-requires
-    mul-set
-    shared-slice-read-set
-    cast-set
-    rem-set
+    mul-first
+    shared-slice-read-first
+    cast-first
+    rem-first
     slice-write-set
+    add-set
+    slice-write-set-2
     loop-holds
     element-copy-out-take-block
     element-copy-out-take-block-2

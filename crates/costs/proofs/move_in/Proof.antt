@@ -13,35 +13,16 @@ sub-put-in c = search needs
 put-in-requires : tie.Need-put-in-requires
 put-in-requires c κs = search needs
 
-sub-put-in-2 : tie.Need-sub-put-in-2
-sub-put-in-2 c = search needs
-
-put-in-requires-2 : tie.Need-put-in-requires-2
-put-in-requires-2 c κs = search needs
-
 same-length : tie.Need-same-length
 same-length c = search needs
 
 returns-2 : tie.Need-returns-2
 returns-2 c =
-    let b = c .before .before in
-    let a = b .before .before .before .before in
-    let one = a .put-in .ensures in
-    let two = b .put-in2 .ensures in
-    let s = a .before .before .before .before .before in (
-      λ r x. two .0 r (one .0 r x),
-      λ h. moved-in (s .args .m) (s .args .by) (s .args .from .now) (a .put-in .last .1 .1 .1 .0)
-          (b .put-in2 .last .1 .1 .1 .0) h (one .1) (two .0) (two .1),
-    )
+    let p = c .before .before in
+    let s = p .before .before .before .before .before in
+    let a = s .args in
+    let put = p .put-in .ensures in
+    (put .0, λ h. moved-in (a .m) (a .by) (a .from .now) (p .put-in .last .1 .1 .1 .0) h (s .pre .0) (put .1))
 
 pub move-in-spec : {M : Type 1} → statement M
-move-in-spec =
-    tie.close
-    (tie.spec
-    returns
-    sub-put-in
-    put-in-requires
-    sub-put-in-2
-    put-in-requires-2
-    same-length
-    returns-2)
+move-in-spec = tie.close (tie.spec returns sub-put-in put-in-requires same-length returns-2)

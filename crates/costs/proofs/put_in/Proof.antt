@@ -1,5 +1,5 @@
--- `costs::put_in` meets its contract. The loop's invariant: the residues passed are in the other set, and what was in
--- it is. The measure is what is left of the residues. Assumes nothing.
+-- `costs::put_in` meets its contract. The loop's invariant: the entries passed are in the other set, and what was in it
+-- is. The measure is what is left of the entries. Assumes nothing.
 use Prim.Native.Nat.{ℕ, _+_, _-_, _<_, _≤_}
 use mathlib.Core.Path.{_≡_, _∙_}
 use mathlib.Core.Logic.{⊎-elim}
@@ -14,15 +14,15 @@ use Rattle.costs.proofs.put_in.Statement.{statement}
 use Rattle.costs.proofs.put_in.Tie as tie
 
 abbrev Inv-loop : tie.InvT-loop
-Inv-loop from a n to₀ b i₀ to i =
-    ((i ≤ n) × (length to ≡ length to₀)) × (Grows to₀ to × ((k : ℕ) → k < i → In from (a + k) → In to (b + k)))
+Inv-loop m a from to₀ i₀ to i =
+    ((i ≤ m) × (length to ≡ length to₀)) × (Grows to₀ to × ((k : ℕ) → k < i → In from (a + k) → In to k))
 
 abbrev μ-loop : tie.MeasureT-loop
-μ-loop from a n to₀ b i₀ to i = n - i
+μ-loop m a from to₀ i₀ to i = m - i
 
 -- the new entry is not zero where the old one was not, and where the residue passed is in its set
 stays : (c : tie.Joined1 Inv-loop μ-loop) → let p = c .before .before .before .before in
-    In (p .loop .to) (p .before .args .b + p .loop .i) → 0 < c .if1 .new
+    In (p .loop .to) (p .loop .i) → 0 < c .if1 .new
 stays c x = ⊎-elim (λ w. omega (arith, w .1)) (λ w. omega (arith, w .1)) (c .if1 .came)
 
 comes : (c : tie.Joined1 Inv-loop μ-loop) → let p = c .before .before .before .before in
@@ -32,9 +32,6 @@ comes c x = ⊎-elim (λ w. absurd (omega (arith, w .0 .taken))) (λ w. omega (a
 loop-holds : tie.Need-loop-holds Inv-loop μ-loop
 loop-holds c = search needs
 
-add-old : tie.Need-add-old Inv-loop μ-loop
-add-old c = search needs
-
 slice-read-old : tie.Need-slice-read-old Inv-loop μ-loop
 slice-read-old c = search needs
 
@@ -43,9 +40,6 @@ add-if1 c = search needs
 
 shared-slice-read-if1 : tie.Need-shared-slice-read-if1 Inv-loop μ-loop
 shared-slice-read-if1 c = search needs
-
-add-to : tie.Need-add-to Inv-loop μ-loop
-add-to c = search needs
 
 slice-write-to : tie.Need-slice-write-to Inv-loop μ-loop
 slice-write-to c = search needs
@@ -59,18 +53,17 @@ loop-less c = search needs
 loop-again : tie.Need-loop-again Inv-loop μ-loop
 loop-again c =
     let p = c .before .before .before .before in
-    let a = p .before .args in
     let i : ℕ = p .loop .i in
     let to = p .loop .to in
     let v : ℕ = c .if1 .new in
-    let at : a .b + i < length to = omega (arith, p .loop .inv .0 .1) in
-    let grows = set-grows to (a .b + i) v at (stays c) in (
-      (omega arith, length-set to (a .b + i) v ∙ p .loop .inv .0 .1),
+    let at : i < length to = omega (arith, p .loop .inv .0 .1) in
+    let grows = set-grows to i v at (stays c) in (
+      (omega arith, length-set to i v ∙ p .loop .inv .0 .1),
       (
         λ r x. grows r (p .loop .inv .1 .0 r x),
         below-more _ i
-            (λ k h x. grows (a .b + k) (p .loop .inv .1 .1 k h x))
-            (λ x. rw (getD-set-same to (a .b + i) v 0 at) (comes c x)),
+            (λ k h x. grows k (p .loop .inv .1 .1 k h x))
+            (λ x. rw (getD-set-same to i v 0 at) (comes c x)),
       ),
     )
 
@@ -89,11 +82,9 @@ put-in-spec =
     Inv-loop
     μ-loop
     loop-holds
-    add-old
     slice-read-old
     add-if1
     shared-slice-read-if1
-    add-to
     slice-write-to
     add-i
     loop-less

@@ -33,13 +33,17 @@ same-length-2 : tie.Need-same-length-2
 same-length-2 c = search needs
 
 returns : tie.Need-returns
-returns c e h legible r k x =
+returns c =
     let o = c .before .before .before .before in
     let b = added o in
     let a = start b .args in
-    let by : ℕ = brings (a .l) (a .y .now) (a .block) (a .end) (a .j) e in
-    rw (o .take-over .ensures ((r + by) % modulus (a .l)) (mod-lt (r + by) (omega arith)))
-    (b .add-block .ensures e h legible r k x)
+    let gain : ℕ → ℕ = brings (a .l) (a .y .now) (a .block) (a .end) (a .j) in
+    let over = o .take-over .ensures in (
+      λ e h legible r k x.
+          rw (over .0 ((r + gain e) % modulus (a .l)) (mod-lt (r + gain e) (omega arith)))
+          (b .add-block .ensures e h legible r k x),
+      over .1,
+    )
 
 pub take-block-spec : {M : Type 1} → statement M
 take-block-spec =
