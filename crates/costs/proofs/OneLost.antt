@@ -1,13 +1,11 @@
--- A chunk that lost one bit, matched against the received row: where it stands, how many ones it has, and what it
--- brings. Rests on the laws of the crate weigh. Assumes nothing.
-use Prim.Native.Nat.{ℕ, _+_, _-_, _*_, _/_, _<_, _≤_}
-use mathlib.Core.Path.{_≡_, refl, ap, _∙_}
+-- A chunk that lost one bit, matched against the received row: how many ones it has, and what it brings. Rests on
+-- the laws of the crate weigh. Assumes nothing.
+use Prim.Native.Nat.{ℕ, _+_, _-_, _*_, _/_, _≤_}
+use mathlib.Core.Path.{_≡_, ap, _∙_}
 use mathlib.Core.List.{List}
-use native.Mathlib.Nat.{mul-le-mul-right}
 use native.Mathlib.Omega.{arith}
-use lib.ListN.{length, take, drop}
-use Rattle.bits.specs.Bits.{longest, digits}
-use Rattle.bits.proofs.Laws.{bits-digits, length-digits}
+use lib.ListN.{take, drop}
+use Rattle.bits.specs.Bits.{digits}
 use Rattle.vt.specs.Ones.{ones}
 use Rattle.vt.specs.Sum.{total}
 use Rattle.message.specs.declared.Layout.{Layout}
@@ -15,29 +13,9 @@ use Rattle.consistent.specs.Greedy.{losses}
 use Rattle.weigh.specs.Weigh.{SeenIn, MoreOnes, Wider}
 use Rattle.weigh.specs.declared.Seen.{Seen}
 use Rattle.weigh.specs.declared.Span.{Span}
-use Rattle.weigh.proofs.Spans.{one-wider}
-use Rattle.column.proofs.Rows.{chunk-stands, string-high}
-use Rattle.whole.specs.Whole.{Source, startAt}
+use Rattle.weigh.proofs.Spans.{ones-between, one-wider}
+use Rattle.whole.specs.Whole.{startAt}
 use Rattle.costs.specs.Costs.{Repairs}
-
--- where the chunk of a block in column j, the block being number i, starts in the row and in its chunk-string
-pub record Stands (l : Layout) (block j i : ℕ) : Type 0 where
-  pub is : (i * l .l2 + j) * l .nc ≡ (block * l .l2 + j) * l .nc
-  pub low : i * l .l2 + j < 255
-  pub in-row : (i * l .l2 + j) * l .nc ≤ longest
-  pub in-string : i * l .nc ≤ longest
-
-pub stands : {l : Layout} {y totals counts : List ℕ} {block j : ℕ} → Source l y totals counts block j → (i : ℕ)
-    → i ≡ block → Stands l block j i
-stands {l} {block = block} {j} s i e =
-    let k = chunk-stands l (s .allowed) block j (s .inside) (s .column) in
-    let before : block * l .nc ≤ l .l1 * l .nc = mul-le-mul-right (l .nc) (omega (arith, s .inside)) in
-    rw e (record {
-      is = refl;
-      low = k .1 .0;
-      in-row = k .1 .1;
-      in-string = omega (arith, before, string-high l (s .allowed));
-    })
 
 module _ {l : Layout} {y : List ℕ} {block end j left sum : ℕ} {set : List ℕ} {v part : ℕ}
     (r : Repairs l y block end j left sum set v part) (some : 1 ≤ l .nc)
@@ -47,13 +25,9 @@ module _ {l : Layout} {y : List ℕ} {block end j left sum : ℕ} {set : List �
   loses = ap (λ (p : ℕ). losses (digits (l .nc) v) (drop p y)) place ∙ r .loses
 
   -- it has at least the first number of ones more than the bits that it takes, and at most the last
-  pub ones-between : {first last : ℕ} → MoreOnes y at (l .nc - 1) 1 first last
+  pub lost-between : {first last : ℕ} → MoreOnes y at (l .nc - 1) 1 first last
       → (seen .ones + first ≤ ones (digits (l .nc) v)) × (ones (digits (l .nc) v) ≤ seen .ones + last)
-  ones-between more =
-      let d = digits (l .nc) v in
-      let b = bits-digits (l .nc) v in
-      let n : length d ≡ l .nc - 1 + 1 = length-digits (l .nc) v ∙ omega arith in
-      (omega (arith, i .count, more .least d b n loses), omega (arith, i .count, more .most d b n loses))
+  lost-between more = ones-between (l .nc) 1 v at y some loses i more
 
   -- with just g of them it brings what lies in the span, its block being number k
   pub brings-between : (k g : ℕ) (span wider : Span) → k ≡ block → span .low ≡ 0 → span .high ≡ 0

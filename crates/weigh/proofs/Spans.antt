@@ -1,6 +1,6 @@
 -- The span of what chunks bring, one chunk more at a time. Rests on Weights.antt and greedy matching. Assumes nothing.
 use Prim.Native.Nat.{ℕ, _+_, _-_, _*_, _<_, _≤_}
-use mathlib.Core.Path.{_≡_}
+use mathlib.Core.Path.{_≡_, _∙_}
 use mathlib.Core.List.{List}
 use native.Mathlib.Numerals.{add-one}
 use native.Mathlib.Omega.{arith}
@@ -14,7 +14,7 @@ use Rattle.vt.specs.Sum.{total}
 use Rattle.windows.proofs.Windows.{total-on}
 use Rattle.consistent.specs.Greedy.{losses}
 use Rattle.consistent.proofs.Greedy.{Piece, piece}
-use Rattle.weigh.specs.Weigh.{Can, brought, SeenIn, Wider, Within}
+use Rattle.weigh.specs.Weigh.{Can, brought, SeenIn, MoreOnes, Wider, Within}
 use Rattle.weigh.specs.declared.Chunks.{Chunks}
 use Rattle.weigh.specs.declared.Seen.{Seen}
 use Rattle.weigh.specs.declared.Span.{Span}
@@ -50,6 +50,18 @@ module _ (nc before lost v : ℕ) (w : List ℕ) (loses : losses (digits nc v) w
       let most = rw (ends, some, none, ← i .count, ← i .positions) at (q .most) in
       let on : total (before + 1) d ≡ total 1 d + before * (seen .ones + g) = rw (← e) (total-on before d) in
       (omega (arith, u .low), omega (arith, u .high))
+
+-- a chunk that loses so many bits from a place on has at least the first number of ones more than the bits that it
+-- takes, and at most the last
+pub ones-between : (nc lost v place : ℕ) (y : List ℕ) {seen : Seen} {first last : ℕ} → lost ≤ nc
+    → losses (digits nc v) (drop place y) ≡ lost → SeenIn (take (nc - lost) (drop place y)) (nc - lost) seen
+    → MoreOnes y place (nc - lost) lost first last
+    → (seen .ones + first ≤ ones (digits nc v)) × (ones (digits nc v) ≤ seen .ones + last)
+ones-between nc lost v place y few loses i more =
+    let d = digits nc v in
+    let b = bits-digits nc v in
+    let n : length d ≡ nc - lost + lost = length-digits nc v ∙ omega arith in
+    (omega (arith, i .count, more .least d b n loses), omega (arith, i .count, more .most d b n loses))
 
 module _ {nc : ℕ} {y : List ℕ} {chunks : Chunks} {vs : ℕ → ℕ} (can : Can nc y chunks vs) (s : ℕ)
     (h : s < chunks .n) where

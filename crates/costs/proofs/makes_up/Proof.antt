@@ -8,7 +8,6 @@ use native.Mathlib.Omega.{arith}
 use borrow.Author.Count.{below-more}
 use borrow.Author.Needs.{needs}
 use lib.ListN.{getD}
-use Rattle.costs.specs.Costs.{In}
 use Rattle.costs.proofs.Sets.{Only, Never, only-before}
 use Rattle.costs.proofs.makes_up.Statement.{statement}
 use Rattle.costs.proofs.makes_up.Tie as tie

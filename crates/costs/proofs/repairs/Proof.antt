@@ -1,6 +1,6 @@
 -- `costs::repairs` meets its contract. The loop's invariant: a chunk that brings the column to its sum has at least g
 -- ones more than were received. The measure is what is left of these numbers. Rests on OneLost.antt. Assumes nothing.
-use Prim.Native.Nat.{ℕ, _+_, _-_, _*_, _/_, _<_, _≤_}
+use Prim.Native.Nat.{ℕ, _+_, _-_, _*_, _≤_}
 use mathlib.Core.Path.{_≡_, refl, sym, ap, _∙_}
 use mathlib.Core.Bool.{false≢true}
 use native.Mathlib.Nat.{mul-le-mul}
@@ -14,8 +14,9 @@ use Rattle.vt.specs.Sum.{total}
 use Rattle.message.proofs.Legal.{Bounds, legal-bounds}
 use Rattle.column.proofs.Rows.{string-high}
 use Rattle.whole.specs.Whole.{startAt}
+use Rattle.whole.proofs.Whole.{Stands, stands}
 use Rattle.costs.specs.Costs.{Repairs}
-use Rattle.costs.proofs.OneLost.{Stands, stands, ones-between, brings-between}
+use Rattle.costs.proofs.OneLost.{lost-between, brings-between}
 use Rattle.costs.proofs.repairs.Statement.{statement}
 use Rattle.costs.proofs.repairs.Tie as tie
 
@@ -134,7 +135,7 @@ between : (c : tie.After-more-ones Inv-loop μ-loop) → let e = c .before .befo
     × (ones (digits (a .l .nc) v) ≤ c .before .look .result .ones + c .more-ones .result .last)
 between c v part r =
     let e = c .before .before in
-    ones-between r (omega (arith, bounds (begin (known e)) .nc-low)) _ (placed e .0) (c .before .look .ensures)
+    lost-between r (omega (arith, bounds (begin (known e)) .nc-low)) _ (placed e .0) (c .before .look .ensures)
     (c .more-ones .ensures)
 
 loop-holds : tie.Need-loop-holds Inv-loop μ-loop

@@ -14,10 +14,9 @@ use lib.ListN.{length, getD}
 use mir.Syntax.{w8}
 use mir.Val.{Fits}
 use Rattle.bits.specs.Bits.{digits}
-use Rattle.bits.proofs.Laws.{bits-digits, length-digits}
 use Rattle.vt.specs.Ones.{ones}
 use Rattle.weigh.specs.Weigh.{Can, brought, chunkTop, There, Within}
-use Rattle.weigh.proofs.Spans.{received, wider-holds}
+use Rattle.weigh.proofs.Spans.{received, ones-between, wider-holds}
 use Rattle.weigh.proofs.brings.Reads as brings
 use Rattle.weigh.proofs.brings.Kinds as brings-kinds
 use Rattle.weigh.proofs.+brings.Lts-brings as brings-lts
@@ -178,17 +177,11 @@ between : (t : ℕ) (c : Told t) → let a = start t (found t (c .before)) .args
     (c .before .before .look .result .ones + c .more-ones .result .first ≤ ones v)
     × (ones v ≤ c .before .before .look .result .ones + c .more-ones .result .last)
 between t c vs can =
-    let s = start t (found t (c .before)) in
+    let f = found t (c .before) in
+    let s = start t f in
     let a = s .args in
-    let v = digits (a .nc) (vs (a .s)) in
-    let g = c .more-ones .ensures in
-    let few = is-there t (found t (c .before)) .0 in
-    let n : length v ≡ a .nc - getD (a .t6 .lost) (a .s) 0 + getD (a .t6 .lost) (a .s) 0 =
-    length-digits (a .nc) (vs (a .s)) ∙ omega arith in
-    let b = bits-digits (a .nc) (vs (a .s)) in
-    let e = can .loses (a .s) (s .pre .1 .1 .0) in
-    let i = c .before .before .look .ensures .count in
-    (omega (arith, i, g .least v b n e), omega (arith, i, g .most v b n e))
+    ones-between (a .nc) (getD (a .t6 .lost) (a .s) 0) (vs (a .s)) (getD (a .t6 .place) (a .s) 0) (a .y .now)
+    (is-there t f .0) (can .loses (a .s) (s .pre .1 .1 .0)) (c .before .before .look .ensures) (c .more-ones .ensures)
 
 brings-loop-holds : (t : ℕ)
     → brings-lts.Need-loop-holds (called t) (brings-at t) brings.Post brings-Inv-loop brings-μ-loop

@@ -13,8 +13,9 @@ use Rattle.bits.specs.Bits.{digits}
 use Rattle.vt.specs.Sum.{total}
 use Rattle.message.proofs.Legal.{legal-bounds}
 use Rattle.weigh.specs.Weigh.{brought}
-use Rattle.column.proofs.Rows.{chunk-stands, string-high}
+use Rattle.column.proofs.Rows.{string-high}
 use Rattle.whole.specs.Whole.{startAt}
+use Rattle.whole.proofs.Whole.{Stands, stands}
 use Rattle.whole.proofs.can_lose_one.Statement.{statement}
 use Rattle.whole.proofs.can_lose_one.Tie as tie
 
@@ -26,16 +27,10 @@ begin c = c .before .before .before .before
 high : (s : tie.Start) → s .args .l .l1 * s .args .l .nc ≤ 2040
 high s = string-high (s .args .l) (s .pre .0 .allowed)
 
--- where the chunk starts
-start-is : (c : tie.After-struct-known2) → let a = begin (c .before .before) .args in let i = c .before .wide .result in
-    ((i * a .l .l2 + a .j) * a .l .nc ≡ (a .block * a .l .l2 + a .j) * a .l .nc)
-    × ((i * a .l .l2 + a .j < 255) × ((i * a .l .l2 + a .j) * a .l .nc ≤ 2040))
-start-is c =
-    let s = begin (c .before .before) in
-    let a = s .args in
-    let e = c .before .wide .ensures in
-    let k = chunk-stands (a .l) (s .pre .0 .allowed) (a .block) (a .j) (s .pre .0 .inside) (s .pre .0 .column) in
-    (ap (λ (i : ℕ). (i * a .l .l2 + a .j) * a .l .nc) e, rw e (k .1))
+-- where the chunk stands
+stands-at : (c : tie.After-struct-known2) → let a = begin (c .before .before) .args in
+    Stands (a .l) (a .block) (a .j) (c .before .wide .result)
+stands-at c = stands (begin (c .before .before) .pre .0) (c .before .wide .result) (c .before .wide .ensures)
 
 mul-m : tie.Need-mul-m
 mul-m c = omega (arith, high (begin c))
@@ -47,13 +42,13 @@ wide-requires : tie.Need-wide-requires
 wide-requires c κs = search needs
 
 mul-from : tie.Need-mul-from
-mul-from c = omega (arith, start-is c .1 .0)
+mul-from c = omega (arith, stands-at c .low)
 
 add-from : tie.Need-add-from
-add-from c = omega (arith, start-is c .1 .0)
+add-from c = omega (arith, stands-at c .low)
 
 mul-from-2 : tie.Need-mul-from-2
-mul-from-2 c = omega (arith, start-is c .1 .1)
+mul-from-2 c = omega (arith, stands-at c .in-row)
 
 wide-requires-2 : tie.Need-wide-requires-2
 wide-requires-2 c κs = search needs
@@ -61,7 +56,7 @@ wide-requires-2 c κs = search needs
 add-from-2 : tie.Need-add-from-2
 add-from-2 c =
     let left = begin (c .before .before .before) .args .left in
-    record { fits = omega (arith, start-is (c .before) .1 .1, c .wide2 .ensures) }
+    record { fits = omega (arith, stands-at (c .before) .in-row, c .wide2 .ensures) }
 
 sub-place-of : tie.Need-sub-place-of
 sub-place-of c = begin (c .before .before .before) .pre .1 .0
@@ -70,14 +65,14 @@ place-of-requires : tie.Need-place-of-requires
 place-of-requires c κs =
     let s = begin (c .before .before .before) in (
       legal-bounds (s .args .l) (s .pre .0 .allowed) .nc-high,
-      (s .pre .0 .short, omega (arith, start-is (c .before) .1 .1, c .wide2 .ensures)),
+      (s .pre .0 .short, omega (arith, stands-at (c .before) .in-row, c .wide2 .ensures)),
     )
 
 -- what the place of the chunk is read from is what is meant
 from-is : (c : tie.After-wide2) → let a = begin (c .before .before .before) .args in
     (c .before .before .wide .result * a .l .l2 + a .j) * a .l .nc + c .wide2 .result
     ≡ startAt (a .l) (a .block) (a .j) (a .left)
-from-is c = omega (arith, start-is (c .before) .0, c .wide2 .ensures)
+from-is c = omega (arith, stands-at (c .before) .is, c .wide2 .ensures)
 
 returns : tie.Need-returns
 returns c v small readable loses sum =

@@ -1,59 +1,47 @@
 -- `whole::reading` meets its contract: each test is one of what a chunk that can be read whole meets. Assumes nothing.
 use Prim.Native.Nat.{ℕ, _+_, _-_, _*_, _%_, _<_, _≤_}
 use mathlib.Core.Path.{_≡_, ap, _∙_}
-use native.Mathlib.Nat.{mul-le-mul, mul-le-mul-right}
+use native.Mathlib.Nat.{mul-le-mul}
 use native.Mathlib.Omega.{arith}
 use borrow.Author.Needs.{needs}
 use lib.ListN.{take, drop}
 use Rattle.vt.specs.Sum.{total}
 use Rattle.message.proofs.Legal.{legal-bounds}
-use Rattle.column.proofs.Rows.{chunk-stands, string-high}
 use Rattle.whole.specs.Whole.{startAt, brings, unread}
+use Rattle.whole.proofs.Whole.{Stands, stands}
 use Rattle.whole.proofs.reading.Statement.{statement}
 use Rattle.whole.proofs.reading.Tie as tie
-
--- the modulus is small
-high : (s : tie.Start) → s .args .l .l1 * s .args .l .nc ≤ 2040
-high s = string-high (s .args .l) (s .pre .0 .allowed)
 
 -- where the function starts, seen from the first call of `wide`
 abbrev begin : tie.After-shared-slice-known3 → tie.Start
 begin c = c .before .before .before
 
--- where the chunk starts
-start-is : (c : tie.After-struct-known) → let s = begin (c .before .before) in
-    let a = s .args in
-    let i = c .before .wide .result in
-    ((i * a .l .l2 + a .j) * a .l .nc + a .e ≡ startAt (a .l) (a .block) (a .j) (a .e))
-    × ((i * a .l .l2 + a .j < 255) × ((i * a .l .l2 + a .j) * a .l .nc ≤ 2040))
-start-is c =
-    let s = begin (c .before .before) in
-    let a = s .args in
-    let e = c .before .wide .ensures in
-    let k = chunk-stands (a .l) (s .pre .0 .allowed) (a .block) (a .j) (s .pre .0 .inside) (s .pre .0 .column) in
-    (ap (λ (i : ℕ). (i * a .l .l2 + a .j) * a .l .nc + a .e) e, rw e (k .1))
+-- where the chunk stands
+stands-at : (c : tie.After-struct-known) → let a = begin (c .before .before) .args in
+    Stands (a .l) (a .block) (a .j) (c .before .wide .result)
+stands-at c = stands (begin (c .before .before) .pre .0) (c .before .wide .result) (c .before .wide .ensures)
 
 wide-requires : tie.Need-wide-requires
 wide-requires c κs = search needs
 
 mul-from : tie.Need-mul-from
-mul-from c = omega (arith, start-is c .1 .0)
+mul-from c = omega (arith, stands-at c .low)
 
 add-from : tie.Need-add-from
-add-from c = omega (arith, start-is c .1 .0)
+add-from c = omega (arith, stands-at c .low)
 
 mul-from-2 : tie.Need-mul-from-2
-mul-from-2 c = omega (arith, start-is c .1 .1)
+mul-from-2 c = omega (arith, stands-at c .in-row)
 
 add-from-2 : tie.Need-add-from-2
-add-from-2 c = omega (arith, start-is c .1 .1)
+add-from-2 c = omega (arith, stands-at c .in-row)
 
 wide-requires-2 : tie.Need-wide-requires-2
 wide-requires-2 c κs = search needs
 
 returns : tie.Need-returns
 returns c = (
-  λ r. absurd (omega (arith, r .starts, c .if1 .taken, c .before .wide2 .ensures, start-is (c .before .before) .0)),
+  λ r. absurd (omega (arith, r .starts, c .if1 .taken, c .before .wide2 .ensures, stands-at (c .before .before) .is)),
   omega arith,
 )
 
@@ -61,7 +49,7 @@ add-if2 : tie.Need-add-if2
 add-if2 c =
     let q = c .before .before in
     let s = begin (q .before .before) in
-    omega (arith, start-is q .1 .1, s .pre .1, legal-bounds (s .args .l) (s .pre .0 .allowed) .nc-high)
+    omega (arith, stands-at q .in-row, s .pre .1, legal-bounds (s .args .l) (s .pre .0 .allowed) .nc-high)
 
 returns-2 : tie.Need-returns-2
 returns-2 c = (
@@ -72,7 +60,7 @@ returns-2 c = (
         c .if2 .taken,
         c .before .if1 .left,
         c .before .before .wide2 .ensures,
-        start-is (c .before .before .before) .0,
+        stands-at (c .before .before .before) .is,
       )),
   omega arith,
 )
@@ -80,12 +68,7 @@ returns-2 c = (
 -- the positions before the chunk are few
 before-low : (c : tie.Else2) → let w = c .before .before .before .before in
     w .wide .result * begin (w .before) .args .l .nc ≤ 2040
-before-low c =
-    let w = c .before .before .before .before in
-    let s = begin (w .before) in
-    let a = s .args in
-    let less : w .wide .result ≤ a .l .l1 = omega (arith, w .wide .ensures, s .pre .0 .inside) in
-    omega (arith, high s, mul-le-mul-right (a .l .nc) less)
+before-low c = stands-at (c .before .before .before) .in-string
 
 mul-weight : tie.Need-mul-weight
 mul-weight c = omega (arith, before-low c)
@@ -104,7 +87,7 @@ returns-3 c =
     let i = b .before .before .wide .result in
     let place : ℕ = startAt (a .l) (a .block) (a .j) (a .e) - a .end in
     let at : (i * a .l .l2 + a .j) * a .l .nc + a .e - b .wide2 .result ≡ place =
-    omega (arith, start-is (b .before) .0, b .wide2 .ensures)
+    omega (arith, stands-at (b .before) .is, b .wide2 .ensures)
     in
     let bounds = legal-bounds (a .l) (s .pre .0 .allowed) in
     let few =
