@@ -14,7 +14,7 @@ use lib.Dec.{eqb}
 use lib.ListN.{length, getD, set, drop, length-set}
 use lib.Seq.{getD-set-same, getD-set-other}
 use Rattle.bits.specs.Bits.{longest, digits, number}
-use Rattle.bits.proofs.Laws.{bits-digits, length-digits, lt-or-ge}
+use Rattle.bits.proofs.Laws.{lt-or-ge}
 use Rattle.vt.specs.Ones.{ones}
 use Rattle.message.specs.declared.Layout.{Layout}
 use Rattle.consistent.specs.Greedy.{losses}
@@ -23,7 +23,7 @@ use Rattle.states.specs.declared.Shape.{Shape}
 use Rattle.states.proofs.States.{stride-pos, stride-up}
 use Rattle.weigh.specs.Weigh.{brought, Wider}
 use Rattle.weigh.specs.declared.Span.{Span}
-use Rattle.weigh.proofs.Spans.{one-wider}
+use Rattle.weigh.proofs.Spans.{ones-between, one-wider}
 use Rattle.column.specs.Column.{chunkAt, valueAt, Crosses, apartIn}
 use Rattle.column.specs.declared.Heavy.{Heavy}
 use Rattle.column.proofs.Rows.{one-most, chunk-stands, string-high, no-loss}
@@ -334,14 +334,10 @@ module _ {l : Layout} {y numbers : List ℕ} {heavy : Heavy} {row : List ℕ} {j
 
   -- it has at least the first number of ones more than the bits that it takes, and at most the last
   pub ones-first : view .seen .ones + view .first ≤ ones (digits (l .nc) v)
-  ones-first =
-      let n : length (digits (l .nc) v) ≡ l .nc - a + a = length-digits (l .nc) v ∙ omega (arith, see .few) in
-      omega (arith, see .seen .count, see .more .least (digits (l .nc) v) (bits-digits (l .nc) v) n loses)
+  ones-first = ones-between (l .nc) a v (view .at) y (see .few) loses (see .seen) (see .more) .0
 
   pub ones-last : ones (digits (l .nc) v) ≤ view .seen .ones + view .last
-  ones-last =
-      let n : length (digits (l .nc) v) ≡ l .nc - a + a = length-digits (l .nc) v ∙ omega (arith, see .few) in
-      omega (arith, see .seen .count, see .more .most (digits (l .nc) v) (bits-digits (l .nc) v) n loses)
+  ones-last = ones-between (l .nc) a v (view .at) y (see .few) loses (see .seen) (see .more) .1
 
   -- with just g of them, what it brings is in the span
   in-span : (g : ℕ) (none span : Span) → none .low ≡ 0 → none .high ≡ 0 → ones (digits (l .nc) v) ≡ view .seen .ones + g
