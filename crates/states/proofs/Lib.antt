@@ -1,3 +1,4 @@
 -- The laws of specs/, for the proofs of this crate and of the crates that stand on it.
 pub mod States
 mod Entries
+mod Sums

@@ -1,8 +1,8 @@
 -- Loss states: how many losses each of a few blocks has left, as one number of mixed radix.
-use Prim.Native.Nat.{ℕ, zero, suc, _+_, _*_, _<_}
+use Prim.Native.Nat.{ℕ, zero, suc, _+_, _*_, _<_, _≤_}
 use mathlib.Core.Path.{_≡_}
 use mathlib.Core.List.{List}
-use lib.ListN.{getD}
+use lib.ListN.{length, getD}
 use Rattle.states.specs.declared.Shape.{Shape}
 
 -- what a loss of block s counts in the number of a state, where block t has at most size t losses
@@ -36,3 +36,24 @@ pub record Shaped (n : ℕ) (size strides : List ℕ) (states : ℕ) : Type 0 wh
 -- the number of the state of a shape in which block s has left s losses left
 abbrev pub stateOf : Shape → (left : ℕ → ℕ) → ℕ
 stateOf shape left = state (each (shape .size)) left (shape .n)
+
+-- the values of the blocks of a shape, for each number of losses that a block can have left, and that they are small
+pub record Listed (shape : Shape) (values : List ℕ) : Type 0 where
+  pub few : (s : ℕ) → s < shape .n → each (shape .size) s < lefts
+  pub long : shape .n * lefts ≤ length values
+  pub small : (s e : ℕ) → s < shape .n → e ≤ each (shape .size) s → getD values (s * lefts + e) 0 ≤ 1000
+
+-- what the values of the first n blocks add up to, where block s has left s losses left
+unfoldable pub addedUp : (values : List ℕ) (left : ℕ → ℕ) (n : ℕ) → ℕ
+addedUp values left zero = 0
+addedUp values left (suc n) = addedUp values left n + getD values (n * lefts + left n) 0
+
+-- each of the first len entries, with v added, stands from an entry on, and the others as they did
+pub record Raised (to len v : ℕ) (entry exit : List ℕ) : Type 0 where
+  pub put : (p : ℕ) → p < len → getD exit (to + p) 0 ≡ getD entry p 0 + v
+  pub below : (i : ℕ) → i < to → getD exit i 0 ≡ getD entry i 0
+  pub behind : (i : ℕ) → to + len ≤ i → getD exit i 0 ≡ getD entry i 0
+
+-- the first len sums with a block more: for each number of its losses left they stand once, with that number's value
+pub record WithBlock (len size at : ℕ) (values entry exit : List ℕ) : Type 0 where
+  pub put : (e p : ℕ) → e ≤ size → p < len → getD exit (e * len + p) 0 ≡ getD entry p 0 + getD values (at + e) 0

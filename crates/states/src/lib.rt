@@ -1,8 +1,10 @@
 // Loss states: how many losses each of a few blocks has left, as one number of mixed radix. Contracts cite specs/States.antt.
 ghost use mathlib.Core.Path.{_≡_};
-ghost use Prim.Native.Nat.{ℕ, _+_, _<_, _≤_};
-ghost use lib.ListN.{getD};
-ghost use Rattle.states.specs.States.{stride, state, each, Shaped};
+ghost use mathlib.Core.Logic.{_⊎_};
+ghost use Prim.Native.Nat.{ℕ, _+_, _*_, _<_, _≤_};
+ghost use lib.ListN.{length, getD};
+ghost use Rattle.states.specs.States.{stride, state, each, mostStates, Shaped, stateOf};
+ghost use Rattle.states.specs.States.{Listed, addedUp, Raised, WithBlock};
 
 // The most blocks with two losses or more.
 pub const MOST_HEAVY: usize = 6;
@@ -91,4 +93,51 @@ pub fn number_of(shape: Shape, left: [u8; MOST_HEAVY]) -> usize
         s += 1;
     }
     q
+}
+
+// Puts the first len entries, each with v added, at a place: in their own place, or behind them.
+fn put_raised(sums: &mut [u16], to: usize, len: usize, v: u16)
+    requires { ⌜ ((to + len ≤ length (now sums)) × ((to ≡ 0) ⊎ (len ≤ to)))
+        × ((p : ℕ) → p < len → getD (now sums) p 0 + v ≤ 65535) ⌝ }
+    ensures { λ _. ⌜ (length (now (sums .exit)) ≡ length (now (sums .entry)))
+        × Raised to len v (now (sums .entry)) (now (sums .exit)) ⌝ }
+{
+    let mut p: usize = 0;
+    while p < len {
+        sums[to + p] = sums[p] + v;
+        p += 1;
+    }
+}
+
+// Puts one block more, of so many losses, into the first len sums: for each number of its losses left they stand once, with
+// the value of that number. It goes down, so that the sums themselves are overwritten last.
+fn add_block(sums: &mut [u16], len: usize, size: u8, values: &[u16], at: usize)
+    requires { ⌜ ((len * (size + 1) ≤ length (now sums)) × (at + size < length (now values)))
+        × ((e p : ℕ) → e ≤ size → p < len → getD (now sums) p 0 + getD (now values) (at + e) 0 ≤ 65535) ⌝ }
+    ensures { λ _. ⌜ (length (now (sums .exit)) ≡ length (now (sums .entry)))
+        × WithBlock len size at (now (values .entry)) (now (sums .entry)) (now (sums .exit)) ⌝ }
+{
+    let mut d = bits::wide(size) + 1;
+    while 0 < d {
+        d -= 1;
+        put_raised(sums, d * len, len, values[at + d]);
+    }
+}
+
+// What the values of all blocks add up to in each state. Block s has its values from entry 13 s on, one for each number of its
+// losses left.
+pub fn add_up(shape: Shape, values: &[u16], sums: &mut [u16])
+    requires { ⌜ ((shape .n ≤ 6) × Shaped (shape .n) (shape .size) (shape .stride) (shape .states))
+        × (((shape .states ≤ length (now sums)) × (shape .states ≤ mostStates))
+        × Listed shape (now values)) ⌝ }
+    ensures { λ _. ⌜ (length (now (sums .exit)) ≡ length (now (sums .entry)))
+        × ((left : ℕ → ℕ) → ((s : ℕ) → s < shape .n → left s ≤ each (shape .size) s)
+        → getD (now (sums .exit)) (stateOf shape left) 0 ≡ addedUp (now (values .entry)) left (shape .n)) ⌝ }
+{
+    sums[0] = 0;
+    let mut s: usize = 0;
+    while s < shape.n {
+        add_block(sums, shape.stride[s], shape.size[s], values, s * LEFTS);
+        s += 1;
+    }
 }
