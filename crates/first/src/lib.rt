@@ -303,29 +303,11 @@ fn first_mark(
     )
 }
 
-// The level of state q in column j, unless each row that comes through the state differs from z in fewer than room chunks.
-fn far_level(
-    columns: usize,
-    shape: Shape,
-    digits: &[u8],
-    before: &[u8],
-    after: &[u8],
-    room: usize,
-    j: usize,
-    q: usize,
-    level: u8,
-) -> u8
-    requires { ⌜ (Sized columns shape (now before) × Sized columns shape (now after)) × ((j ≤ columns)
-        × (Digits shape (now digits) × (q < shape .states))) ⌝ }
-    ensures { λ r. ⌜ ((left : ℕ → ℕ) → Within shape left → stateOf shape left ≡ q
-        → room ≤ most columns (now (before .entry)) (now (after .entry)) (each (shape .size)) left j (shape .n)
-        → r ≡ level) ⌝ }
+// The level of a state, unless each row that comes through it differs from z in fewer than room chunks; it can differ in so many.
+fn far_level(apart: u16, room: usize, level: u8) -> u8
+    ensures { λ r. ⌜ (room ≤ apart → r ≡ level) ⌝ }
 {
-    if level == 0 {
-        return level;
-    }
-    let left = marks::digits_of(digits, q);
-    if near::most_apart(columns, shape, before, after, j, left) < room {
+    if (apart as usize) < room {
         return 0;
     }
     level
@@ -371,12 +353,14 @@ fn complete_column(
     let size = shape.size;
     let mut readings: [u16; READINGS] = [0; READINGS];
     whole::fill(l, y, totals, counts, numbers, heavy, size, j, &mut readings);
+    let mut apart: [u16; states::MOST_STATES] = [0; states::MOST_STATES];
+    near::fill_apart(columns, shape, before, after, j, &mut apart);
     let mut levels: [u8; states::MOST_STATES] = [0; states::MOST_STATES];
     let mut highest: u8 = 0;
     let mut q: usize = 0;
     while q < states {
         let level = level_of(n, &strides, digits, q, &levels, marks[base + q]);
-        let tested = far_level(columns, shape, digits, before, after, room, j, q, level);
+        let tested = far_level(apart[q], room, level);
         let mark = first_mark(
             l,
             y,

@@ -12,7 +12,7 @@ use lib.Dec.{eqb}
 use lib.ListN.{getD}
 use Rattle.message.specs.declared.Layout.{Layout}
 use Rattle.lines.specs.Lines.{unlike}
-use Rattle.states.specs.States.{each}
+use Rattle.states.specs.States.{each, addedUp}
 use Rattle.states.specs.declared.Shape.{Shape}
 use Rattle.column.specs.Column.{chunkAt, Crosses, apartIn}
 use Rattle.column.specs.declared.Heavy.{Heavy}
@@ -20,7 +20,7 @@ use Rattle.column.proofs.Rows.{no-loss}
 use Rattle.far.specs.Far.{Reads, readApart, Walk, stepAt, blockAt}
 use Rattle.marks.specs.Marks.{Path, apartBefore, apartFrom, Kept}
 use Rattle.marks.proofs.Paths.{own-within}
-use Rattle.near.specs.Near.{CountedIn, Counted, mostIn, most, mostAfter}
+use Rattle.near.specs.Near.{CountedIn, Counted, mostIn, SaysIn, most, mostAfter}
 
 -- one at most
 one-most : (b : Bool) → cond b 0 1 ≤ 1
@@ -184,16 +184,22 @@ pub next-block : (columns s n : ℕ) → s < n → blockAt columns (s + 1) ≤ b
 next-block columns s n h = mul-le-mul-right {m = s + 1} {n = n} ((columns + 1) * 13) (omega arith)
 
 -- ---- states
-module _ (columns : ℕ) (before after : List ℕ) (size : ℕ → ℕ) where
-  -- only the losses left in the blocks count
-  pub most-same : (a b : ℕ → ℕ) (j n : ℕ) → ((s : ℕ) → s < n → a s ≡ b s)
-      → most columns before after size a j n ≡ most columns before after size b j n
-  unfolding most
-  most-same a b j zero h = refl
-  most-same a b j (suc n) h =
-      let e = ap (λ (v : ℕ). mostIn columns before after n (size n) v j) (h n (omega arith)) in
-      omega (arith, most-same a b j n (λ s k. h s (omega arith)), e)
+-- what a list of values says of the blocks adds up to what the tables say of a state
+pub most-added : (columns : ℕ) (before after values : List ℕ) (size left : ℕ → ℕ) (j n : ℕ)
+    → ((s e : ℕ) → s < n → e ≤ size s → SaysIn columns before after s (size s) j values e)
+    → ((s : ℕ) → s < n → left s ≤ size s)
+    → addedUp values left n ≡ most columns before after size left j n
+unfolding addedUp most
+most-added columns before after values size left j zero says within = refl
+most-added columns before after values size left j (suc n) says within =
+    let own = says n (left n) (omega arith) (within n (omega arith)) .0 in
+    omega (
+      arith,
+      own,
+      most-added columns before after values size left j n (λ s e h. says s e (omega arith)) (λ s h. within s (omega arith)),
+    )
 
+-- only the losses left in the blocks count
 pub after-same : (columns : ℕ) (after : List ℕ) (a b : ℕ → ℕ) (j n : ℕ) → ((s : ℕ) → s < n → a s ≡ b s)
     → mostAfter columns after a j n ≡ mostAfter columns after b j n
 unfolding mostAfter

@@ -1,6 +1,7 @@
 -- In how many chunks of the heavy blocks a row that comes through a loss state can differ from another one at most,
 -- block by block.
-use Prim.Native.Nat.{ℕ, zero, suc, _+_, _-_, _<_, _≤_}
+use Prim.Native.Nat.{ℕ, zero, suc, _+_, _-_, _*_, _<_, _≤_}
+use mathlib.Core.Path.{_≡_}
 use mathlib.Core.Bool.{Bool, true, false}
 use mathlib.Core.List.{List}
 use lib.ListN.{length, getD}
@@ -33,6 +34,11 @@ abbrev pub mostIn : (columns : ℕ) (before after : List ℕ) (s size left j : �
 mostIn columns before after s size left j =
     getD before (stepAt (blockAt columns s) j + (size - left)) 0
     + getD after (stepAt (blockAt columns s) (columns - j) + left) 0
+
+-- a list of values has that for e losses left, and it is small
+abbrev pub SaysIn : (columns : ℕ) (before after : List ℕ) (s size j : ℕ) (values : List ℕ) (e : ℕ) → Type 0
+SaysIn columns before after s size j values e =
+    (getD values (s * lefts + e) 0 ≡ mostIn columns before after s size e j) × (getD values (s * lefts + e) 0 ≤ 510)
 
 -- and of the first n blocks together
 unfoldable pub most : (columns : ℕ) (before after : List ℕ) (size left : ℕ → ℕ) (j n : ℕ) → ℕ

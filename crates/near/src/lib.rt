@@ -7,10 +7,10 @@ ghost use mathlib.Core.Path.{_≡_};
 ghost use mathlib.Core.Bool.{true};
 ghost use Prim.Native.Nat.{ℕ, _+_, _*_, _<_, _≤_};
 ghost use lib.ListN.{length, getD};
-ghost use Rattle.states.specs.States.{lefts, each};
+ghost use Rattle.states.specs.States.{mostStates, lefts, each, Shaped, stateOf};
 ghost use Rattle.column.specs.Column.{Fit};
 ghost use Rattle.far.specs.Far.{blockAt};
-ghost use Rattle.near.specs.Near.{Counted, Sized, mostIn, most, mostAfter};
+ghost use Rattle.near.specs.Near.{Counted, Sized, mostIn, SaysIn, most, mostAfter};
 
 // Whether each heavy block has so few losses that tables of counts can be made.
 pub fn few_losses(shape: Shape) -> bool
@@ -80,28 +80,61 @@ fn most_in(
     bits::wide(before[used]) + bits::wide(after[rest])
 }
 
-// What they say of all heavy blocks together.
-pub fn most_apart(
+// Puts what the tables say of heavy block s in column j into a list of values, for each number of losses that it can have left.
+fn fill_block(
+    columns: usize,
+    before: &[u8],
+    after: &[u8],
+    s: usize,
+    size: u8,
+    j: usize,
+    values: &mut [u16],
+)
+    requires { ⌜ ((columns ≤ 255) × ((s < 6) × ((j ≤ columns) × (size < lefts))))
+        × (((blockAt columns (s + 1) ≤ length (now before)) × (blockAt columns (s + 1) ≤ length (now after)))
+        × (s * lefts + lefts ≤ length (now values))) ⌝ }
+    ensures { λ _. ⌜ (length (now (values .exit)) ≡ length (now (values .entry)))
+        × (((i : ℕ) → i < s * lefts → getD (now (values .exit)) i 0 ≡ getD (now (values .entry)) i 0)
+        × ((e : ℕ) → e ≤ size → SaysIn columns (now (before .entry)) (now (after .entry)) s size j (now (values .exit)) e)) ⌝ }
+{
+    let most = bits::wide(size);
+    let at = s * states::LEFTS;
+    let mut left: usize = 0;
+    while left <= most {
+        values[at + left] = most_in(columns, before, after, s, size, left as u8, j) as u16;
+        left += 1;
+    }
+}
+
+// The entries of a list of values: thirteen for each of six blocks.
+const VALUES: usize = 78;
+
+// What the tables say of all heavy blocks together, for each loss state at column j.
+pub fn fill_apart(
     columns: usize,
     shape: Shape,
     before: &[u8],
     after: &[u8],
     j: usize,
-    left: [u8; states::MOST_HEAVY],
-) -> usize
-    requires { ⌜ (Sized columns shape (now before) × Sized columns shape (now after)) × (j ≤ columns) ⌝ }
-    ensures { λ r. ⌜ (((s : ℕ) → s < shape .n → getD left s 0 ≤ getD (shape .size) s 0)
-        → r ≡ most columns (now (before .entry)) (now (after .entry)) (each (shape .size)) (each left) j (shape .n)) ⌝ }
+    apart: &mut [u16],
+)
+    requires { ⌜ ((Sized columns shape (now before) × Sized columns shape (now after)) × (j ≤ columns))
+        × ((Shaped (shape .n) (shape .size) (shape .stride) (shape .states) × (shape .states ≤ mostStates))
+        × (shape .states ≤ length (now apart))) ⌝ }
+    ensures { λ _. ⌜ (length (now (apart .exit)) ≡ length (now (apart .entry)))
+        × ((left : ℕ → ℕ) → ((s : ℕ) → s < shape .n → left s ≤ each (shape .size) s)
+        → getD (now (apart .exit)) (stateOf shape left) 0
+        ≡ most columns (now (before .entry)) (now (after .entry)) (each (shape .size)) left j (shape .n)) ⌝ }
 {
     let n = shape.n;
     let size = shape.size;
-    let mut total: usize = 0;
+    let mut values: [u16; VALUES] = [0; VALUES];
     let mut s: usize = 0;
     while s < n {
-        total += most_in(columns, before, after, s, size[s], left[s], j);
+        fill_block(columns, before, after, s, size[s], j, &mut values);
         s += 1;
     }
-    total
+    states::add_up(shape, &values, apart);
 }
 
 // What the second table says of all heavy blocks together from column j on, where at its start so many losses are left.

@@ -159,8 +159,8 @@ fn look_at(
     }
 }
 
-// The numbers of all choices: four for each, and at most 45 for each of six blocks, with none to eight losses and as many of them ones or
-// fewer.
+// The numbers of all choices: four for each. Each of six blocks has at most 45 of them: its chunk loses none to eight bits, and none to all
+// of these are ones.
 const NUMBERS: usize = 1080;
 
 // Puts choice t: what it adds to the number of the state, what the chunk brings, and whether it can be another than in z.
@@ -179,7 +179,7 @@ fn put_choice(choices: &mut [u16], t: usize, adds: usize, span: Span, other: u8)
 }
 
 // Lists the choices of heavy block b in column j, from choice t on, where so many losses are left and it loses a bits there: one for each
-// number of ones that its chunk can have. Each loss left adds one to the number of the state. It answers where they end.
+// number of ones that its chunk can have. A loss that is left adds `one` to the number of the state. It answers where the choices end.
 fn list_share(
     l: Layout,
     y: &[u8],

@@ -14,15 +14,13 @@ use Rattle.first.proofs.complete_column.Tie as tie
 
 abbrev Inv-loop : tie.InvT-loop
 Inv-loop l y totals counts numbers heavy known shape digits before after room j at base marks₀ columns n states strides
-    readings levels₀
-    most₀ q₀ marks levels highest q =
+    readings apart levels₀ most₀ q₀ marks levels highest q =
     Completing l y numbers heavy known shape j at base marks₀
     (λ left. room ≤ most columns before after (each (shape .size)) left j (shape .n)) marks levels highest q
 
 abbrev μ-loop : tie.MeasureT-loop
 μ-loop l y totals counts numbers heavy known shape digits before after room j at base marks₀ columns n states strides
-    readings levels₀
-    most₀ q₀ marks levels highest q = states - q
+    readings apart levels₀ most₀ q₀ marks levels highest q = states - q
 
 -- where the function starts, seen from where the slices are known, from where the readings are made, and from the loop
 abbrev known-half : tie.After-slice-known Inv-loop μ-loop → tie.After-shared-slice-known4 Inv-loop μ-loop
@@ -32,7 +30,7 @@ abbrev first : tie.After-readings Inv-loop μ-loop → tie.Start Inv-loop μ-loo
 first c = known-half (c .before .before .before) .before .before .before .before
 
 abbrev begin : tie.At-loop Inv-loop μ-loop → tie.Start Inv-loop μ-loop
-begin c = first (c .before .before .before)
+begin c = first (c .before .before .before .before .before .before)
 
 slice-aggregate-fill : tie.Need-slice-aggregate-fill Inv-loop μ-loop
 slice-aggregate-fill c = search needs
@@ -49,6 +47,15 @@ fill-requires c κs =
         (p .1 .0, (λ s h. small s (omega (arith, h, kept .blocks)), omega (arith, r .0 .few))),
       ),
     )
+
+slice-aggregate-fill-apart : tie.Need-slice-aggregate-fill-apart Inv-loop μ-loop
+slice-aggregate-fill-apart c = search needs
+
+fill-apart-requires : tie.Need-fill-apart-requires Inv-loop μ-loop
+fill-apart-requires c κs =
+    let p = first (c .before .before .before) .pre .1 in
+    let kept = p .1 .0 in
+    ((p .1 .1 .1 .0, omega (arith, p .0)), ((kept .shaped, kept .few), omega (arith, kept .few)))
 
 loop-holds : tie.Need-loop-holds Inv-loop μ-loop
 loop-holds c = completing-starts _ _ _ _ _ _ _ _ _ _ _ _ refl
@@ -79,11 +86,18 @@ level-of-requires c κs =
       ),
     )
 
-far-level-requires : tie.Need-far-level-requires Inv-loop μ-loop
-far-level-requires c κs =
+mul-far-level : tie.Need-mul-far-level Inv-loop μ-loop
+mul-far-level c =
     let t = c .before .before .before .before in
-    let p = begin (t .before) .pre in
-    (p .1 .1 .1 .1 .0, (omega (arith, p .1 .0), (p .1 .1 .1 .0, t .loop-test .taken)))
+    record { fits = omega (arith, begin (t .before) .pre .1 .1 .0 .few, t .loop-test .taken) }
+
+array-read-far-level : tie.Need-array-read-far-level Inv-loop μ-loop
+array-read-far-level c =
+    let t = c .before .before .before .before in
+    omega (arith, begin (t .before) .pre .1 .1 .0 .few, t .loop-test .taken)
+
+far-level-requires : tie.Need-far-level-requires Inv-loop μ-loop
+far-level-requires c κs = search needs
 
 slice-aggregate-first-mark : tie.Need-slice-aggregate-first-mark Inv-loop μ-loop
 slice-aggregate-first-mark c = search needs
@@ -99,7 +113,7 @@ first-mark-requires c κs =
     let p = begin i .pre in
     let r = p .0 in
     let kept = p .1 .1 .0 in
-    let f = i .before .before .fill .ensures in (
+    let f = i .before .before .before .before .before .fill .ensures in (
       (
         record {
           fit = r .0;
@@ -174,7 +188,8 @@ loop-again c =
       digits = λ own w e. entry-is (p .1 .1 .0) (p .1 .1 .1 .0) own w (i .loop .q) e;
       own = v .level-of .ensures .0;
       down = v .level-of .ensures .1;
-      tested = d .far-level .ensures;
+      tested = λ left w e room.
+          d .far-level .ensures (omega (arith, room, rw e at (i .before .before .fill-apart .ensures .1 left w)));
       first = f .first-mark .ensures;
       most-more = c .higher .ensures .0;
       mark-more = c .higher .ensures .1;
@@ -202,10 +217,14 @@ complete-column-spec =
     μ-loop
     slice-aggregate-fill
     fill-requires
+    slice-aggregate-fill-apart
+    fill-apart-requires
     loop-holds
     add-level-of
     slice-read-level-of
     level-of-requires
+    mul-far-level
+    array-read-far-level
     far-level-requires
     slice-aggregate-first-mark
     first-mark-requires
