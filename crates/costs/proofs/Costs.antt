@@ -1,6 +1,6 @@
 -- A row that crosses a column with no loss, or with one: its chunks in the heavy blocks but one are read whole there,
 -- and the sum comes out. One that loses more has fewer left. Rests on the laws of the crate whole. Assumes nothing.
-use Prim.Native.Nat.{ℕ, zero, suc, _+_, _*_, _%_, _<_, _≤_}
+use Prim.Native.Nat.{ℕ, zero, suc, _+_, _%_, _<_, _≤_}
 use mathlib.Core.Path.{_≡_, refl, sym, ap, _∙_}
 use mathlib.Core.Bool.{Bool, true, false, cond, false≢true}
 use mathlib.Core.Logic.{_⊎_, inl, inr, ⊎-elim}

@@ -193,11 +193,10 @@ unfolding addedUp most
 most-added columns before after values size left j zero says within = refl
 most-added columns before after values size left j (suc n) says within =
     let own = says n (left n) (omega arith) (within n (omega arith)) .0 in
-    omega (
-      arith,
-      own,
-      most-added columns before after values size left j n (λ s e h. says s e (omega arith)) (λ s h. within s (omega arith)),
-    )
+    let rest =
+    most-added columns before after values size left j n (λ s e h. says s e (omega arith))
+    (λ s h. within s (omega arith)) in
+    omega (arith, own, rest)
 
 -- only the losses left in the blocks count
 pub after-same : (columns : ℕ) (after : List ℕ) (a b : ℕ → ℕ) (j n : ℕ) → ((s : ℕ) → s < n → a s ≡ b s)

@@ -18,7 +18,7 @@ use Rattle.states.specs.States.{stride, each, mostStates, Shaped}
 use Rattle.states.specs.declared.Shape.{Shape}
 use Rattle.weigh.specs.Weigh.{brought, chunkTop, SeenIn, MoreOnes}
 use Rattle.weigh.specs.declared.Span.{Span}
-use Rattle.column.specs.Column.{chunkAt, valueAt, Crosses, apartIn}
+use Rattle.column.specs.Column.{chunkAt, valueAt, Crosses}
 use Rattle.column.specs.declared.Heavy.{Heavy}
 use Rattle.steps.specs.declared.View.{View}
 use Rattle.steps.specs.declared.Stand.{Stand}

@@ -1,11 +1,11 @@
 -- `costs::can_be_whole` meets its contract: the residue of a row's column that is read whole is in the set. Assumes
 -- nothing.
-use Prim.Native.Nat.{ℕ, _+_, _%_, _<_, _≤_}
-use mathlib.Core.Path.{_≡_, refl, _∙_}
+use Prim.Native.Nat.{ℕ, _+_, _<_}
+use mathlib.Core.Path.{refl}
 use native.Mathlib.Omega.{arith}
 use borrow.Author.Needs.{needs}
 use borrow.Author.Tests.{ne-eqb}
-use lib.ListN.{length, getD}
+use lib.ListN.{getD}
 use Rattle.costs.proofs.Costs.{kept-sum, read-but, asked-source, asked-low}
 use Rattle.costs.proofs.can_be_whole.Statement.{statement}
 use Rattle.costs.proofs.can_be_whole.Tie as tie

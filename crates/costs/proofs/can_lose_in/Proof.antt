@@ -1,11 +1,11 @@
 -- `costs::can_lose_in` meets its contract: the residue of a row's other chunks in the column is in the set, and its own
 -- chunk of that block brings it to the sum. Assumes nothing.
-use Prim.Native.Nat.{ℕ, _+_, _-_, _%_, _<_, _≤_}
-use mathlib.Core.Path.{_≡_, sym, ap, _∙_}
+use Prim.Native.Nat.{ℕ, _+_, _-_, _%_}
+use mathlib.Core.Path.{_≡_, _∙_}
 use native.Mathlib.Nat.{mod-lt}
 use native.Mathlib.Omega.{arith}
 use borrow.Author.Needs.{needs}
-use lib.ListN.{length, getD}
+use lib.ListN.{getD}
 use Rattle.column.specs.Column.{valueAt}
 use Rattle.column.proofs.Rows.{crosses-readable}
 use Rattle.whole.specs.Whole.{modulus, firsts}

@@ -1,6 +1,6 @@
 -- `costs::can_lose_one` meets its contract. The loop's invariant: no row crosses the column with one loss in a block
 -- that is passed. The measure is what is left of the blocks. Assumes nothing.
-use Prim.Native.Nat.{ℕ, _+_, _-_, _<_, _≤_}
+use Prim.Native.Nat.{ℕ, _-_, _<_, _≤_}
 use mathlib.Core.Path.{_≡_, refl, sym, _∙_}
 use mathlib.Core.Bool.{false≢true}
 use mathlib.Core.List.{List}

@@ -1,7 +1,6 @@
 -- `costs::cost` meets its contract: a row that crosses the column has at least so many losses fewer left behind it.
 -- Assumes nothing.
 use Prim.Native.Nat.{ℕ, _+_, _<_, _≤_}
-use mathlib.Core.Path.{_≡_}
 use mathlib.Core.List.{List}
 use native.Mathlib.Omega.{arith}
 use borrow.Author.Needs.{needs}

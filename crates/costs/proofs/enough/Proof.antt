@@ -1,11 +1,9 @@
 -- `costs::enough` meets its contract: what the columns cost is no more than all losses wherever there is a row. Assumes
 -- nothing.
-use Prim.Native.Nat.{ℕ, _*_, _≤_}
-use mathlib.Core.Path.{_≡_, refl}
+use Prim.Native.Nat.{_*_, _≤_}
 use native.Mathlib.Omega.{arith}
 use borrow.Author.Needs.{needs}
 use borrow.Author.Tests.{le-leb}
-use lib.ListN.{length}
 use Rattle.column.proofs.Rows.{string-high}
 use Rattle.costs.proofs.enough.Statement.{statement}
 use Rattle.costs.proofs.enough.Tie as tie

@@ -1,7 +1,7 @@
 -- `costs::repairs_some` meets its contract. The loop's invariant: with no number of losses left that is passed does the
 -- chunk bring the column to its sum. The measure is what is left of these numbers. Assumes nothing.
 use Prim.Native.Nat.{ℕ, _+_, _-_, _<_, _≤_}
-use mathlib.Core.Path.{_≡_, refl, sym, _∙_}
+use mathlib.Core.Path.{refl, sym, _∙_}
 use mathlib.Core.Bool.{false≢true}
 use native.Mathlib.Omega.{arith}
 use borrow.Author.Count.{below-more}

@@ -7,12 +7,16 @@ use Rattle.whole.specs.Whole.{modulus, brings}
 use Rattle.costs.proofs.take_block.Statement.{statement}
 use Rattle.costs.proofs.take_block.Tie as tie
 
--- where `add_block` has answered, seen from where `take_over` has answered, and where the function starts
+-- where `add_block` has answered, seen from where `take_over` has answered, where the received row and its tables are known,
+-- and where the function starts
 abbrev added : tie.After-take-over → tie.After-add-block
 added c = c .before .before .before .before .before .before
 
+abbrev known : tie.After-add-block → tie.After-shared-slice-known3
+known c = c .before .before .before .before .before
+
 abbrev start : tie.After-add-block → tie.Start
-start c = c .before .before .before .before .before .before .before .before
+start c = known c .before .before .before
 
 add-block-requires : tie.Need-add-block-requires
 add-block-requires c κs = search needs

@@ -6,7 +6,7 @@ use native.Mathlib.Nat.{mul-le-mul-right}
 use native.Mathlib.Omega.{arith}
 use borrow.Author.Count.{below-more}
 use borrow.Author.Needs.{needs}
-use lib.ListN.{length, getD}
+use lib.ListN.{length}
 use Rattle.states.specs.States.{each}
 use Rattle.near.specs.Near.{SaysIn}
 use Rattle.near.proofs.Near.{next-block, most-added}

@@ -1,7 +1,7 @@
 -- `states::shape_of` meets its contract. The loop's invariant: the strides of the blocks passed are as the shape of the
 -- states says, and so is the number of states of these blocks. The measure is what is left of the blocks. Assumes
 -- nothing.
-use Prim.Native.Nat.{ℕ, _+_, _-_, _*_, _^_, _<_, _≤_}
+use Prim.Native.Nat.{ℕ, _+_, _-_, _*_, _<_, _≤_}
 use mathlib.Core.Path.{_≡_, refl, ap, ap₂, sym, _∙_}
 use native.Mathlib.Numerals.{add-one}
 use native.Mathlib.Nat.{mul-le-mul}

@@ -2,18 +2,15 @@
 -- raised for all picks of a choice of block b before t. Rests on Sweeping.antt. Assumes nothing.
 use borrow.Author.Needs.{needs}
 use Prim.Native.Nat.{ℕ, suc, _+_, _-_, _*_, _<_, _≤_}
-use mathlib.Core.Path.{_≡_, refl, sym, subst, _∙_}
-use mathlib.Core.Logic.{_⊎_, inl, inr, ⊎-elim}
+use mathlib.Core.Path.{_≡_, sym, subst}
+use mathlib.Core.Logic.{_⊎_, ⊎-elim}
 use native.Mathlib.Omega.{arith}
-use borrow.Author.Tests.{not-true, not-false}
+use borrow.Author.Tests.{not-false}
 use borrow.Fn.Kinds.{In}
 use borrow.Fn.PlainCycle.{Measures, is, falls, and}
 use lib.ListN.{getD, length}
-use mir.Syntax.{w64}
-use mir.Val.{Fits}
 use Rattle.bits.proofs.Laws.{lt-or-ge}
 use Rattle.states.specs.States.{stride, each}
-use Rattle.states.proofs.States.{stride-pos}
 use Rattle.steps.specs.Steps.{Raises, Small, Picks, Stands, Gains}
 use Rattle.steps.proofs.Sweeping.{raises-same, raises-then, ground-stays, stands-low, stands-inside, stands-with}
 use Rattle.steps.proofs.Sweeping.{gains-none, gains-more, gains-end, gains-pick}
@@ -168,7 +165,8 @@ sweep-returns : (t : ℕ)
     → sweep-lts.Need-returns (called t) (sweep-at t) sweep.Post sweep-Inv-loop sweep-μ-loop
 sweep-returns t c =
     let w = c .before .before in
-    (w .raise-one .ensures .0, λ pick p. gains-end pick (omega (arith, w .before .before .if1 .taken)) (w .raise-one .ensures .1))
+    let e = w .raise-one .ensures in
+    (e .0, λ pick p. gains-end pick (omega (arith, w .before .before .if1 .taken)) (e .1))
 
 sweep-sub-b : (t : ℕ)
     → sweep-lts.Need-sub-b (called t) (sweep-at t) sweep.Post sweep-Inv-loop sweep-μ-loop

@@ -1,8 +1,7 @@
 -- `steps::list_block` meets its contract. The loop's invariant: the choices with fewer losses than a are listed, and these
 -- are few. Rests on Sweeping.antt. Assumes nothing.
 use borrow.Author.Needs.{needs}
-use Prim.Native.Nat.{ℕ, _+_, _-_, _*_, _<_, _≤_}
-use mathlib.Core.Path.{_≡_, refl}
+use Prim.Native.Nat.{_+_, _-_, _<_, _≤_}
 use mathlib.Core.Logic.{_⊎_, inl, inr, ⊎-elim}
 use native.Mathlib.Omega.{arith}
 use Rattle.bits.proofs.Laws.{lt-or-ge}

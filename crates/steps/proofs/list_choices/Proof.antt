@@ -2,14 +2,12 @@
 -- Sweeping.antt. Assumes nothing.
 use borrow.Author.Needs.{needs}
 use Prim.Native.Nat.{ℕ, _+_, _-_, _*_, _<_, _≤_}
-use mathlib.Core.Path.{_≡_, refl, sym, subst, ap, _∙_}
-use native.Mathlib.Nat.{mul-le-mul-right}
+use mathlib.Core.Path.{_≡_, refl, subst, _∙_}
 use native.Mathlib.Omega.{arith}
 use lib.ListN.{length, getD, set, length-set}
 use lib.Seq.{getD-set-same}
 use Rattle.states.specs.States.{stride, each}
-use Rattle.states.proofs.States.{stride-up}
-use Rattle.steps.specs.Steps.{Listed, Blocks}
+use Rattle.steps.specs.Steps.{Blocks}
 use Rattle.steps.proofs.Sweeping.{blocks-next, adds-low}
 use Rattle.steps.proofs.list_choices.Statement.{statement}
 use Rattle.steps.proofs.list_choices.Tie as tie

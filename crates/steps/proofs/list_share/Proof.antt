@@ -1,24 +1,23 @@
 -- `steps::list_share` meets its contract. The loop's invariant: the choices with fewer than g ones more than were received
 -- are listed. Rests on Sweeping.antt. Assumes nothing.
 use borrow.Author.Needs.{needs}
-use Prim.Native.Nat.{ℕ, suc, _+_, _-_, _*_, _<_, _≤_}
+use Prim.Native.Nat.{ℕ, _+_, _-_, _*_, _<_, _≤_}
 use mathlib.Core.Path.{_≡_, refl, sym, subst, ap, _∙_}
 use mathlib.Core.Bool.{false≢true}
-use mathlib.Core.List.{List}
 use mathlib.Core.Logic.{_⊎_, inl, inr, ⊎-elim}
 use native.Mathlib.Nat.{mul-le-mul, mul-le-mul-right}
 use native.Mathlib.Omega.{arith}
 use borrow.Author.Tests.{not-true, not-false}
-use lib.ListN.{length, getD}
+use lib.ListN.{getD}
 use Rattle.bits.specs.Bits.{digits}
 use Rattle.bits.proofs.Laws.{lt-or-ge}
 use Rattle.vt.specs.Ones.{ones}
 use Rattle.message.proofs.Legal.{legal-bounds}
 use Rattle.weigh.specs.Weigh.{Wider}
 use Rattle.weigh.specs.declared.Span.{Span}
-use Rattle.column.specs.Column.{chunkAt, valueAt}
+use Rattle.column.specs.Column.{valueAt}
 use Rattle.column.proofs.Rows.{crosses-readable}
-use Rattle.steps.specs.Steps.{Viewed, Keeps, Put, Listed}
+use Rattle.steps.specs.Steps.{Viewed, Keeps, Listed}
 use Rattle.steps.proofs.Sweeping.{ChunkIs, chunk-is, keeps-same, keeps-then, kept-listed, listed-then}
 use Rattle.steps.proofs.Sweeping.{listed-weaken, listed-none, listed-one, ones-first, ones-last}
 use Rattle.steps.proofs.list_share.Statement.{statement}

@@ -2,14 +2,13 @@
 -- row that crosses the column has a choice of its own in each block. Rests on Sweeping.antt. Assumes nothing.
 use borrow.Author.Needs.{needs}
 use Prim.Native.Nat.{ℕ, _+_, _*_, _<_, _≤_}
-use mathlib.Core.Path.{_≡_, refl, sym, subst, ap, _∙_}
-use mathlib.Core.List.{List}
+use mathlib.Core.Path.{refl, ap}
 use native.Mathlib.Nat.{mul-le-mul-right}
 use native.Mathlib.Omega.{arith}
-use lib.ListN.{length, getD}
+use lib.ListN.{getD}
 use Rattle.states.specs.States.{state, stride, each}
 use Rattle.column.proofs.Rows.{StringLow, string-low, known-low, crosses-brings}
-use Rattle.steps.specs.Steps.{Seeable, Small, broughtIn, Offers}
+use Rattle.steps.specs.Steps.{Seeable, broughtIn, Offers}
 use Rattle.steps.proofs.Sweeping.{its, its-picks, its-above}
 use Rattle.steps.proofs.raise.Statement.{statement}
 use Rattle.steps.proofs.raise.Tie as tie
