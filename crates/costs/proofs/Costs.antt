@@ -11,12 +11,13 @@ use native.Mathlib.Omega.{arith}
 use borrow.Author.Tests.{eq-eqb, ne-eqb}
 use lib.ListN.{length, getD}
 use Rattle.message.specs.declared.Layout.{Layout}
-use Rattle.states.specs.States.{each}
+use Rattle.states.specs.States.{each, firsts}
 use Rattle.column.specs.Column.{Fit, Light, Crosses}
 use Rattle.column.specs.declared.Heavy.{Heavy}
 use Rattle.column.proofs.Rows.{string-high}
-use Rattle.whole.specs.Whole.{modulus, firsts, Source, bringsIn, OneLess}
-use Rattle.whole.proofs.Whole.{firsts-same, firsts-but, weightOf, weights-sum, kept-legible, kept-read}
+use Rattle.whole.specs.Whole.{modulus, Source, bringsIn, OneLess}
+use Rattle.states.proofs.Sums.{firsts-same, firsts-but}
+use Rattle.whole.proofs.Whole.{weightOf, weights-sum, kept-legible, kept-read}
 use Rattle.costs.specs.Costs.{ReadBut, bringsBut, Asked}
 
 -- ---- losses left in some blocks, and later

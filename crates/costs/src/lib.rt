@@ -10,11 +10,11 @@ ghost use lib.ListN.{length, getD};
 ghost use Rattle.bits.specs.Bits.{longest};
 ghost use Rattle.message.specs.Layout.{legal as isLegal};
 ghost use Rattle.windows.specs.Windows.{Tables};
-ghost use Rattle.states.specs.States.{each};
+ghost use Rattle.states.specs.States.{each, firsts};
 ghost use Rattle.weigh.specs.Weigh.{chunkTop};
 ghost use Rattle.column.specs.Column.{Fit, Light, Crosses};
 ghost use Rattle.marks.specs.Marks.{Path};
-ghost use Rattle.whole.specs.Whole.{modulus, firsts, Source, OneLess, Legible, brings};
+ghost use Rattle.whole.specs.Whole.{modulus, Source, OneLess, Legible, brings};
 ghost use Rattle.costs.specs.Costs.{In, Grows, Moved, Twice, Room, ReadBut, bringsBut, Asked, Tells};
 ghost use Rattle.costs.specs.Costs.{Repairs};
 

@@ -5,11 +5,11 @@ use mathlib.Core.List.{List}
 use lib.ListN.{length, getD}
 use Rattle.message.specs.declared.Layout.{Layout}
 use Rattle.windows.specs.Windows.{Tables}
-use Rattle.states.specs.States.{lefts, each, stateOf}
+use Rattle.states.specs.States.{lefts, each, stateOf, entryAt}
 use Rattle.states.specs.declared.Shape.{Shape}
 use Rattle.column.specs.Column.{Fit, Light, Crosses}
 use Rattle.column.specs.declared.Heavy.{Heavy}
-use Rattle.whole.specs.Whole.{OneLess, entryAt, Readings}
+use Rattle.whole.specs.Whole.{OneLess, Readings}
 use Rattle.marks.specs.Marks.{Kept}
 
 -- a column as it is read: the heavy blocks of a received row, and what their chunks there bring where they are read whole

@@ -10,9 +10,9 @@ ghost use Prim.Native.Nat.{ℕ, _+_, _-_, _*_, _%_, _<_, _≤_};
 ghost use lib.ListN.{length, getD};
 ghost use Rattle.bits.specs.Bits.{longest};
 ghost use Rattle.windows.specs.Windows.{Tables};
-ghost use Rattle.states.specs.States.{lefts, each, stateOf};
+ghost use Rattle.states.specs.States.{lefts, each, stateOf, entryAt, addedUp};
 ghost use Rattle.column.specs.Column.{Fit, Light, Crosses};
-ghost use Rattle.whole.specs.Whole.{modulus, OneLess, entryAt, Readings, readSum};
+ghost use Rattle.whole.specs.Whole.{modulus, OneLess, Readings};
 ghost use Rattle.marks.specs.Marks.{Path, Through, Kept, Remade};
 ghost use Rattle.marks.specs.Digits.{Within, entryOf, Digits};
 ghost use Rattle.near.specs.Near.{Sized, most};
@@ -130,10 +130,10 @@ fn loses_one(
 ) -> bool
     requires { ⌜ (Fit l (now y) (now numbers) heavy × (Tables (now y) 0 (now totals) (now counts) × ((j < l .l2)
         × (Readings l (now y) heavy left j (now readings) × (entryAt (heavy .n) 0 ≤ length (now readings))))))
-        × ((((t : ℕ) → t < heavy .n → getD left t 0 < lefts) × (readSum (now readings) left (heavy .n) ≤ part))
+        × ((((t : ℕ) → t < heavy .n → getD left t 0 < lefts) × (addedUp (now readings) (each left) (heavy .n) ≤ part))
         × ((s < heavy .n) × (0 < getD left s 0))) ⌝ }
     ensures { λ r. ⌜ ((row vs known : List ℕ) (next : ℕ → ℕ) → Light l heavy row known
-        → part ≡ getD known j 0 + readSum (now (readings .entry)) left (heavy .n)
+        → part ≡ getD known j 0 + addedUp (now (readings .entry)) (each left) (heavy .n)
         → Crosses l (now (y .entry)) (now (numbers .entry)) heavy row j (each left) next vs
         → OneLess (heavy .n) (each left) next s → r ≡ true) ⌝ }
 {
@@ -172,10 +172,10 @@ fn loses(
 ) -> bool
     requires { ⌜ (Read l (now y) (now totals) (now counts) (now numbers) heavy shape (now readings) j
         × (((t : ℕ) → t < heavy .n → getD left t 0 ≤ each (shape .size) t)
-        × (readSum (now readings) left (heavy .n) ≤ part)))
+        × (addedUp (now readings) (each left) (heavy .n) ≤ part)))
         × ((q < shape .states) × (base + shape .states ≤ length (now marks))) ⌝ }
     ensures { λ r. ⌜ ((row vs known : List ℕ) (next : ℕ → ℕ) (s : ℕ) → s < heavy .n → Light l heavy row known
-        → part ≡ getD known j 0 + readSum (now (readings .entry)) left (heavy .n)
+        → part ≡ getD known j 0 + addedUp (now (readings .entry)) (each left) (heavy .n)
         → Crosses l (now (y .entry)) (now (numbers .entry)) heavy row j (each left) next vs
         → OneLess (heavy .n) (each left) next s → getD (shape .stride) s 0 ≤ q
         → 0 < getD (now (marks .entry)) (base + (q - getD (shape .stride) s 0)) 0 → r ≡ true) ⌝ }
@@ -303,7 +303,7 @@ fn first_mark(
     )
 }
 
-// The level of a state, unless each row that comes through it differs from z in fewer than room chunks; it can differ in so many.
+// The level of a state through which rows come that differ from z in at most so many chunks; none where these are fewer than room.
 fn far_level(apart: u16, room: usize, level: u8) -> u8
     ensures { λ r. ⌜ (room ≤ apart → r ≡ level) ⌝ }
 {

@@ -12,8 +12,9 @@ use lib.Dec.{eqb}
 use lib.ListN.{getD}
 use Rattle.message.specs.declared.Layout.{Layout}
 use Rattle.lines.specs.Lines.{unlike}
-use Rattle.states.specs.States.{each, addedUp}
+use Rattle.states.specs.States.{each, firsts, entryAt, addedUp}
 use Rattle.states.specs.declared.Shape.{Shape}
+use Rattle.states.proofs.Sums.{firsts-same}
 use Rattle.column.specs.Column.{chunkAt, Crosses, apartIn}
 use Rattle.column.specs.declared.Heavy.{Heavy}
 use Rattle.column.proofs.Rows.{no-loss}
@@ -149,7 +150,7 @@ module _ (l : Layout) (y numbers : List ℕ) (heavy : Heavy) (row : List ℕ) (s
         omega (arith, a, b)
 
     most-blocks : (n : ℕ) → n ≤ heavy .n → inBlocks l heavy z vs (l .l2) n ≤ most (l .l2) before after size (own j) j n
-    unfolding inBlocks most
+    unfolding inBlocks firsts
     most-blocks zero h = omega arith
     most-blocks (suc n) h = omega (arith, most-blocks n (omega arith), most-block n (omega arith))
 
@@ -162,7 +163,7 @@ module _ (l : Layout) (y numbers : List ℕ) (heavy : Heavy) (row : List ℕ) (s
   module _ (after : List ℕ) (counted : CountedIn l y heavy z (shape .size) false after) (j : ℕ) (inside : j ≤ l .l2) where
     after-blocks : (n : ℕ) → n ≤ heavy .n
         → inBlocks l heavy z vs (l .l2) n ≤ inBlocks l heavy z vs j n + mostAfter (l .l2) after (own j) j n
-    unfolding inBlocks mostAfter
+    unfolding inBlocks firsts
     after-blocks zero h = omega arith
     after-blocks (suc n) h =
         let e : l .l2 - (l .l2 - j) ≡ j = omega arith in
@@ -184,25 +185,18 @@ pub next-block : (columns s n : ℕ) → s < n → blockAt columns (s + 1) ≤ b
 next-block columns s n h = mul-le-mul-right {m = s + 1} {n = n} ((columns + 1) * 13) (omega arith)
 
 -- ---- states
--- what a list of values says of the blocks adds up to what the tables say of a state
+-- what a table of values says of the blocks adds up to what the tables say of a state
 pub most-added : (columns : ℕ) (before after values : List ℕ) (size left : ℕ → ℕ) (j n : ℕ)
     → ((s e : ℕ) → s < n → e ≤ size s → SaysIn columns before after s (size s) j values e)
     → ((s : ℕ) → s < n → left s ≤ size s)
     → addedUp values left n ≡ most columns before after size left j n
-unfolding addedUp most
-most-added columns before after values size left j zero says within = refl
-most-added columns before after values size left j (suc n) says within =
-    let own = says n (left n) (omega arith) (within n (omega arith)) .0 in
-    let rest =
-    most-added columns before after values size left j n (λ s e h. says s e (omega arith))
-    (λ s h. within s (omega arith)) in
-    omega (arith, own, rest)
+most-added columns before after values size left j n says within =
+    firsts-same (λ s. getD values (entryAt s (left s)) 0) (λ s. mostIn columns before after s (size s) (left s) j) n
+    (λ s h. says s (left s) h (within s h) .0)
 
 -- only the losses left in the blocks count
 pub after-same : (columns : ℕ) (after : List ℕ) (a b : ℕ → ℕ) (j n : ℕ) → ((s : ℕ) → s < n → a s ≡ b s)
     → mostAfter columns after a j n ≡ mostAfter columns after b j n
-unfolding mostAfter
-after-same columns after a b j zero h = refl
-after-same columns after a b j (suc n) h =
-    let e = ap (λ (v : ℕ). getD after (stepAt (blockAt columns n) (columns - j) + v) 0) (h n (omega arith)) in
-    omega (arith, after-same columns after a b j n (λ s k. h s (omega arith)), e)
+after-same columns after a b j n h =
+    let says : ℕ → ℕ → ℕ = λ s v. getD after (stepAt (blockAt columns s) (columns - j) + v) 0 in
+    firsts-same (λ s. says s (a s)) (λ s. says s (b s)) n (λ s k. ap (says s) (h s k))

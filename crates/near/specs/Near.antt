@@ -1,12 +1,12 @@
 -- In how many chunks of the heavy blocks a row that comes through a loss state can differ from another one at most,
 -- block by block.
-use Prim.Native.Nat.{ℕ, zero, suc, _+_, _-_, _*_, _<_, _≤_}
+use Prim.Native.Nat.{ℕ, _+_, _-_, _<_, _≤_}
 use mathlib.Core.Path.{_≡_}
 use mathlib.Core.Bool.{Bool, true, false}
 use mathlib.Core.List.{List}
 use lib.ListN.{length, getD}
 use Rattle.message.specs.declared.Layout.{Layout}
-use Rattle.states.specs.States.{lefts, each}
+use Rattle.states.specs.States.{lefts, each, firsts, entryAt}
 use Rattle.states.specs.declared.Shape.{Shape}
 use Rattle.column.specs.declared.Heavy.{Heavy}
 use Rattle.far.specs.Far.{Covered, stepAt, blockAt}
@@ -35,19 +35,16 @@ mostIn columns before after s size left j =
     getD before (stepAt (blockAt columns s) j + (size - left)) 0
     + getD after (stepAt (blockAt columns s) (columns - j) + left) 0
 
--- a list of values has that for e losses left, and it is small
+-- a table of values has that for e losses left, and it is small
 abbrev pub SaysIn : (columns : ℕ) (before after : List ℕ) (s size j : ℕ) (values : List ℕ) (e : ℕ) → Type 0
 SaysIn columns before after s size j values e =
-    (getD values (s * lefts + e) 0 ≡ mostIn columns before after s size e j) × (getD values (s * lefts + e) 0 ≤ 510)
+    (getD values (entryAt s e) 0 ≡ mostIn columns before after s size e j) × (getD values (entryAt s e) 0 ≤ 510)
 
--- and of the first n blocks together
-unfoldable pub most : (columns : ℕ) (before after : List ℕ) (size left : ℕ → ℕ) (j n : ℕ) → ℕ
-most columns before after size left j zero = 0
-most columns before after size left j (suc s) =
-    most columns before after size left j s + mostIn columns before after s (size s) (left s) j
+-- what the tables say of the first n blocks together
+abbrev pub most : (columns : ℕ) (before after : List ℕ) (size left : ℕ → ℕ) (j n : ℕ) → ℕ
+most columns before after size left j n = firsts (λ s. mostIn columns before after s (size s) (left s) j) n
 
 -- what the second table says of the first n blocks from column j on, where at its start so many are left
-unfoldable pub mostAfter : (columns : ℕ) (after : List ℕ) (left : ℕ → ℕ) (j n : ℕ) → ℕ
-mostAfter columns after left j zero = 0
-mostAfter columns after left j (suc s) =
-    mostAfter columns after left j s + getD after (stepAt (blockAt columns s) (columns - j) + left s) 0
+abbrev pub mostAfter : (columns : ℕ) (after : List ℕ) (left : ℕ → ℕ) (j n : ℕ) → ℕ
+mostAfter columns after left j n =
+    firsts (λ s. getD after (stepAt (blockAt columns s) (columns - j) + left s) 0) n

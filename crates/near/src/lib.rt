@@ -7,7 +7,7 @@ ghost use mathlib.Core.Path.{_≡_};
 ghost use mathlib.Core.Bool.{true};
 ghost use Prim.Native.Nat.{ℕ, _+_, _*_, _<_, _≤_};
 ghost use lib.ListN.{length, getD};
-ghost use Rattle.states.specs.States.{mostStates, lefts, each, Shaped, stateOf};
+ghost use Rattle.states.specs.States.{lefts, each, entryAt, Shaped, stateOf};
 ghost use Rattle.column.specs.Column.{Fit};
 ghost use Rattle.far.specs.Far.{blockAt};
 ghost use Rattle.near.specs.Near.{Counted, Sized, mostIn, SaysIn, most, mostAfter};
@@ -80,7 +80,7 @@ fn most_in(
     bits::wide(before[used]) + bits::wide(after[rest])
 }
 
-// Puts what the tables say of heavy block s in column j into a list of values, for each number of losses that it can have left.
+// Puts what the tables say of heavy block s in column j into a table of values, for each number of losses that it can have left.
 fn fill_block(
     columns: usize,
     before: &[u8],
@@ -92,9 +92,9 @@ fn fill_block(
 )
     requires { ⌜ ((columns ≤ 255) × ((s < 6) × ((j ≤ columns) × (size < lefts))))
         × (((blockAt columns (s + 1) ≤ length (now before)) × (blockAt columns (s + 1) ≤ length (now after)))
-        × (s * lefts + lefts ≤ length (now values))) ⌝ }
+        × (entryAt s lefts ≤ length (now values))) ⌝ }
     ensures { λ _. ⌜ (length (now (values .exit)) ≡ length (now (values .entry)))
-        × (((i : ℕ) → i < s * lefts → getD (now (values .exit)) i 0 ≡ getD (now (values .entry)) i 0)
+        × (((i : ℕ) → i < entryAt s 0 → getD (now (values .exit)) i 0 ≡ getD (now (values .entry)) i 0)
         × ((e : ℕ) → e ≤ size → SaysIn columns (now (before .entry)) (now (after .entry)) s size j (now (values .exit)) e)) ⌝ }
 {
     let most = bits::wide(size);
@@ -106,7 +106,7 @@ fn fill_block(
     }
 }
 
-// The entries of a list of values: thirteen for each of six blocks.
+// The entries of a table of values: thirteen for each of six blocks.
 const VALUES: usize = 78;
 
 // What the tables say of all heavy blocks together, for each loss state at column j.
@@ -119,8 +119,7 @@ pub fn fill_apart(
     apart: &mut [u16],
 )
     requires { ⌜ ((Sized columns shape (now before) × Sized columns shape (now after)) × (j ≤ columns))
-        × ((Shaped (shape .n) (shape .size) (shape .stride) (shape .states) × (shape .states ≤ mostStates))
-        × (shape .states ≤ length (now apart))) ⌝ }
+        × (Shaped (shape .n) (shape .size) (shape .stride) (shape .states) × (shape .states ≤ length (now apart))) ⌝ }
     ensures { λ _. ⌜ (length (now (apart .exit)) ≡ length (now (apart .entry)))
         × ((left : ℕ → ℕ) → ((s : ℕ) → s < shape .n → left s ≤ each (shape .size) s)
         → getD (now (apart .exit)) (stateOf shape left) 0

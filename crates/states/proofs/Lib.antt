@@ -1,4 +1,4 @@
 -- The laws of specs/, for the proofs of this crate and of the crates that stand on it.
 pub mod States
+pub mod Sums
 mod Entries
-mod Sums

@@ -1,5 +1,5 @@
--- What the values of the blocks add up to in each state: how the sums grow by an entry, by a number of losses left and
--- by a block. Assumes nothing.
+-- Sums over the first blocks, and what the values of the blocks add up to in each state: how the sums grow by an entry, by
+-- a number of losses left and by a block. Assumes nothing.
 use Prim.Native.Nat.{ℕ, zero, suc, _+_, _*_, _<_, _≤_}
 use mathlib.Core.Path.{_≡_, refl, sym, ap, _∙_}
 use mathlib.Core.Logic.{_⊎_, inl, inr, ⊎-elim}
@@ -11,8 +11,36 @@ use native.Mathlib.Omega.{arith}
 use lib.ListN.{length, getD, set}
 use lib.Seq.{getD-set-same, getD-set-other}
 use Rattle.states.specs.declared.Shape.{Shape}
-use Rattle.states.specs.States.{stride, state, each, lefts, Listed, addedUp, Raised, WithBlock}
+use Rattle.states.specs.States.{stride, state, each, lefts, firsts, entryAt, addedUp, Valued, Raised, WithBlock}
 use Rattle.states.proofs.States.{state-low, state-of, digitsOf, digits-most}
+
+-- ---- sums over the first blocks
+-- of what is the same in each
+pub firsts-same : (f g : ℕ → ℕ) (n : ℕ) → ((s : ℕ) → s < n → f s ≡ g s) → firsts f n ≡ firsts g n
+unfolding firsts
+firsts-same f g zero h = refl
+firsts-same f g (suc n) h = omega (arith, firsts-same f g n (λ s k. h s (omega arith)), h n (omega arith))
+
+-- of what is the same in each but one
+pub firsts-but : (f g : ℕ → ℕ) (n s : ℕ) → s < n → ((t : ℕ) → t < n → (t ≡ s → ⊥) → f t ≡ g t)
+    → firsts f n + g s ≡ firsts g n + f s
+unfolding firsts
+firsts-but f g zero s k h = absurd (omega arith)
+firsts-but f g (suc n) s k h = go (ℕ-discrete s n) (λ i. firsts-but f g n s i (λ t i d. h t (omega arith) d))
+  where
+    go : Dec (s ≡ n) → (s < n → firsts f n + g s ≡ firsts g n + f s) → firsts f n + f n + g s ≡ firsts g n + g n + f s
+    go (yes e) before = rw e (omega (arith, firsts-same f g n (λ t i. h t (omega arith) (λ d. omega (arith, d, e)))))
+    go (no e) before = omega (arith, before (omega arith), h n (omega arith) (λ d. e (sym d)))
+
+-- each is no more than all together
+pub firsts-one : (f : ℕ → ℕ) (n s : ℕ) → s < n → f s ≤ firsts f n
+unfolding firsts
+firsts-one f zero s k = absurd (omega arith)
+firsts-one f (suc n) s k = go (ℕ-discrete s n) (firsts-one f n s)
+  where
+    go : Dec (s ≡ n) → (s < n → f s ≤ firsts f n) → f s ≤ firsts f n + f n
+    go (yes e) before = rw e (omega arith)
+    go (no e) before = omega (arith, before (omega arith))
 
 -- ---- an entry more of those that are put at a place
 module _ (to v : ℕ) (xs : List ℕ) where
@@ -98,13 +126,13 @@ module _ (shape : Shape) (values : List ℕ) where
       → getD sums (state (each (shape .size)) left n) 0 ≡ addedUp values left n
 
   pub sums-none : (sums : List ℕ) → getD sums 0 0 ≡ 0 → Sums 0 sums
-  unfolding state addedUp
+  unfolding state firsts
   sums-none sums z left h = z
 
   pub sums-more : (n : ℕ) (xs ys : List ℕ) → Sums n xs
       → WithBlock (stride (each (shape .size)) n) (each (shape .size) n) (n * lefts) values xs ys
       → Sums (n + 1) ys
-  unfolding state addedUp
+  unfolding state firsts
   sums-more n xs ys sums block left h =
       let size = each (shape .size) in
       let low = state-low size left n (λ t l. h t (omega arith)) in
@@ -112,19 +140,19 @@ module _ (shape : Shape) (values : List ℕ) where
       let turn : q + left n * stride size n ≡ left n * stride size n + q = omega arith in
       rw (add-one n)
       (ap (λ (i : ℕ). getD ys i 0) turn ∙ block .put (left n) q (h n (omega arith)) low
-      ∙ ap (λ (u : ℕ). u + getD values (n * lefts + left n) 0) (sums left (λ t l. h t (omega arith))))
+      ∙ ap (λ (u : ℕ). u + getD values (entryAt n (left n)) 0) (sums left (λ t l. h t (omega arith))))
 
-  module _ (listed : Listed shape values) where
+  module _ (valued : Valued shape values) where
     -- no sum is greater than a thousand a block
     added-low : (left : ℕ → ℕ) (n : ℕ) → n ≤ shape .n → ((t : ℕ) → t < n → left t ≤ each (shape .size) t)
         → addedUp values left n ≤ 1000 * n
-    unfolding addedUp
+    unfolding firsts
     added-low left zero k h = omega arith
     added-low left (suc n) k h =
         omega (
           arith,
           added-low left n (omega arith) (λ t l. h t (omega arith)),
-          listed .small n (left n) (omega arith) (h n (omega arith)),
+          valued .small n (left n) (omega arith) (h n (omega arith)),
         )
 
     -- at whatever entry it stands: each is the number of a state

@@ -37,16 +37,24 @@ pub record Shaped (n : ℕ) (size strides : List ℕ) (states : ℕ) : Type 0 wh
 abbrev pub stateOf : Shape → (left : ℕ → ℕ) → ℕ
 stateOf shape left = state (each (shape .size)) left (shape .n)
 
--- the values of the blocks of a shape, for each number of losses that a block can have left, and that they are small
-pub record Listed (shape : Shape) (values : List ℕ) : Type 0 where
-  pub few : (s : ℕ) → s < shape .n → each (shape .size) s < lefts
-  pub long : shape .n * lefts ≤ length values
-  pub small : (s e : ℕ) → s < shape .n → e ≤ each (shape .size) s → getD values (s * lefts + e) 0 ≤ 1000
+-- f summed over the first n blocks
+unfoldable pub firsts : (f : ℕ → ℕ) (n : ℕ) → ℕ
+firsts f zero = 0
+firsts f (suc n) = firsts f n + f n
+
+-- where a table that has a value for each block and each number of losses left has that of block s with e left
+abbrev pub entryAt : (s e : ℕ) → ℕ
+entryAt s e = s * lefts + e
 
 -- what the values of the first n blocks add up to, where block s has left s losses left
-unfoldable pub addedUp : (values : List ℕ) (left : ℕ → ℕ) (n : ℕ) → ℕ
-addedUp values left zero = 0
-addedUp values left (suc n) = addedUp values left n + getD values (n * lefts + left n) 0
+abbrev pub addedUp : (values : List ℕ) (left : ℕ → ℕ) (n : ℕ) → ℕ
+addedUp values left n = firsts (λ s. getD values (entryAt s (left s)) 0) n
+
+-- a table of values for the blocks of a shape, which have few losses: there is room for all, and the values are small
+pub record Valued (shape : Shape) (values : List ℕ) : Type 0 where
+  pub few : (s : ℕ) → s < shape .n → each (shape .size) s < lefts
+  pub long : entryAt (shape .n) 0 ≤ length values
+  pub small : (s e : ℕ) → s < shape .n → e ≤ each (shape .size) s → getD values (entryAt s e) 0 ≤ 1000
 
 -- each of the first len entries, with v added, stands from an entry on, and the others as they did
 pub record Raised (to len v : ℕ) (entry exit : List ℕ) : Type 0 where

@@ -3,8 +3,8 @@ ghost use mathlib.Core.Path.{_≡_};
 ghost use mathlib.Core.Logic.{_⊎_};
 ghost use Prim.Native.Nat.{ℕ, _+_, _*_, _<_, _≤_};
 ghost use lib.ListN.{length, getD};
-ghost use Rattle.states.specs.States.{stride, state, each, mostStates, Shaped, stateOf};
-ghost use Rattle.states.specs.States.{Listed, addedUp, Raised, WithBlock};
+ghost use Rattle.states.specs.States.{stride, state, each, Shaped, stateOf};
+ghost use Rattle.states.specs.States.{Valued, addedUp, Raised, WithBlock};
 
 // The most blocks with two losses or more.
 pub const MOST_HEAVY: usize = 6;
@@ -128,8 +128,7 @@ fn add_block(sums: &mut [u16], len: usize, size: u8, values: &[u16], at: usize)
 // losses left.
 pub fn add_up(shape: Shape, values: &[u16], sums: &mut [u16])
     requires { ⌜ ((shape .n ≤ 6) × Shaped (shape .n) (shape .size) (shape .stride) (shape .states))
-        × (((shape .states ≤ length (now sums)) × (shape .states ≤ mostStates))
-        × Listed shape (now values)) ⌝ }
+        × ((shape .states ≤ length (now sums)) × Valued shape (now values)) ⌝ }
     ensures { λ _. ⌜ (length (now (sums .exit)) ≡ length (now (sums .entry)))
         × ((left : ℕ → ℕ) → ((s : ℕ) → s < shape .n → left s ≤ each (shape .size) s)
         → getD (now (sums .exit)) (stateOf shape left) 0 ≡ addedUp (now (values .entry)) left (shape .n)) ⌝ }

@@ -18,7 +18,7 @@ use Rattle.bits.proofs.Laws.{lt-or-ge}
 use Rattle.vt.specs.Ones.{ones}
 use Rattle.message.specs.declared.Layout.{Layout}
 use Rattle.consistent.specs.Greedy.{losses}
-use Rattle.states.specs.States.{state, stride, each}
+use Rattle.states.specs.States.{state, stride, each, firsts}
 use Rattle.states.specs.declared.Shape.{Shape}
 use Rattle.states.proofs.States.{stride-pos, stride-up}
 use Rattle.weigh.specs.Weigh.{brought, Wider}
@@ -29,7 +29,7 @@ use Rattle.column.specs.declared.Heavy.{Heavy}
 use Rattle.column.proofs.Rows.{one-most, chunk-stands, string-high, no-loss}
 use Rattle.steps.specs.Steps.{Above, Raises, oneIf, markedBelow, Counts, Fitted, broughtIn}
 use Rattle.steps.specs.Steps.{Seeable, Viewed, addsOf, leastOf, mostOf, otherOf, Keeps, Put, Small, bringsAt}
-use Rattle.steps.specs.Steps.{Suits, Offers, Listed, Blocks, below, picked, Picks, Ground, Low, Stands, With, Ends, Gains}
+use Rattle.steps.specs.Steps.{Suits, Offers, ChoicesOf, Blocks, mostChoices, addedBy, Picks, Ground, Low, Stands, With, Ends, Gains}
 use Rattle.steps.specs.declared.View.{View}
 use Rattle.steps.specs.declared.Stand.{Stand}
 
@@ -209,8 +209,8 @@ keeps-then h a b =
 module _ {l : Layout} {y : List ℕ} {heavy : Heavy} {z : List ℕ} {j b left one : ℕ} where
   -- choices that are kept are still those of a block
   pub kept-listed : {t : ℕ} {entry exit : List ℕ} {low high : ℕ} {P : (next : ℕ → ℕ) (vs : List ℕ) → Type 0}
-      → Keeps t entry exit → high ≤ t → Listed l y heavy z j b left one entry low high P
-      → Listed l y heavy z j b left one exit low high P
+      → Keeps t entry exit → high ≤ t → ChoicesOf l y heavy z j b left one entry low high P
+      → ChoicesOf l y heavy z j b left one exit low high P
   kept-listed k h p =
       record {
         order = p .order;
@@ -222,10 +222,10 @@ module _ {l : Layout} {y : List ℕ} {heavy : Heavy} {z : List ℕ} {j b left on
 
   -- some choices and others behind them
   pub listed-then : {P Q R : (next : ℕ → ℕ) (vs : List ℕ) → Type 0} {choices : List ℕ} {low mid high : ℕ}
-      → Listed l y heavy z j b left one choices low mid P → Listed l y heavy z j b left one choices mid high Q
+      → ChoicesOf l y heavy z j b left one choices low mid P → ChoicesOf l y heavy z j b left one choices mid high Q
       → ((numbers row vs : List ℕ) (own next : ℕ → ℕ) → own b ≡ left → Crosses l y numbers heavy row j own next vs
       → R next vs → P next vs ⊎ Q next vs)
-      → Listed l y heavy z j b left one choices low high R
+      → ChoicesOf l y heavy z j b left one choices low high R
   listed-then {low = low} {mid} {high} p q parts =
       record {
         order = omega (arith, p .order, q .order);
@@ -241,10 +241,10 @@ module _ {l : Layout} {y : List ℕ} {heavy : Heavy} {z : List ℕ} {j b left on
 
   -- the same choices for fewer rows
   pub listed-weaken : {P Q : (next : ℕ → ℕ) (vs : List ℕ) → Type 0} {choices : List ℕ} {low high : ℕ}
-      → Listed l y heavy z j b left one choices low high P
+      → ChoicesOf l y heavy z j b left one choices low high P
       → ((numbers row vs : List ℕ) (own next : ℕ → ℕ) → own b ≡ left → Crosses l y numbers heavy row j own next vs
       → Q next vs → P next vs)
-      → Listed l y heavy z j b left one choices low high Q
+      → ChoicesOf l y heavy z j b left one choices low high Q
   listed-weaken p why =
       record {
         order = p .order;
@@ -257,7 +257,7 @@ module _ {l : Layout} {y : List ℕ} {heavy : Heavy} {z : List ℕ} {j b left on
   pub listed-none : {P : (next : ℕ → ℕ) (vs : List ℕ) → Type 0} (choices : List ℕ) (t : ℕ)
       → ((numbers row vs : List ℕ) (own next : ℕ → ℕ) → own b ≡ left → Crosses l y numbers heavy row j own next vs
       → P next vs → ⊥)
-      → Listed l y heavy z j b left one choices t t P
+      → ChoicesOf l y heavy z j b left one choices t t P
   listed-none choices t never =
       record {
         order = omega arith;
@@ -269,7 +269,7 @@ module _ {l : Layout} {y : List ℕ} {heavy : Heavy} {z : List ℕ} {j b left on
 module _ {l : Layout} {y : List ℕ} {heavy : Heavy} {z : List ℕ} {j : ℕ} (left ones : ℕ → ℕ) where
   pub blocks-next : {choices exit : List ℕ} (from : List ℕ) (b : ℕ) {end : ℕ} → b + 1 < length from
       → Blocks l y heavy z j left ones choices from b → Keeps (getD from b 0) choices exit
-      → Listed l y heavy z j b (left b) (ones b) exit (getD from b 0) end (λ next vs. next b ≤ left b)
+      → ChoicesOf l y heavy z j b (left b) (ones b) exit (getD from b 0) end (λ next vs. next b ≤ left b)
       → Blocks l y heavy z j left ones exit (set from (b + 1) end) (b + 1)
   blocks-next {choices} {exit} from b {end} long old keeps new d h =
       let last : getD (set from (b + 1) end) (b + 1) 0 ≡ end = getD-set-same from (b + 1) end 0 long in
@@ -297,7 +297,12 @@ adds-low {heavy} {shape} {left} f b h =
     let up = stride-up (each (shape .size)) (suc b) (shape .n) k in
     rw (f .shaped .counts b k) (omega (arith, top, up, f .shaped .all, f .states))
 
--- a block has few choices
+-- a block has few choices: with fewer losses than a at most so many, as with each number of losses none to all of them are
+-- ones
+unfoldable pub below : ℕ → ℕ
+below zero = 0
+below (suc a) = below a + (a + 1)
+
 below-rises : (a b : ℕ) → a ≤ b → below a ≤ below b
 unfolding below
 below-rises a zero h = let e : a ≡ 0 = omega arith in rw e (omega arith)
@@ -310,7 +315,7 @@ pub below-next : (a : ℕ) → below (a + 1) ≡ below a + (a + 1)
 unfolding below
 below-next a = ap below (add-one a)
 
-pub below-most : (a : ℕ) → a ≤ 9 → below a ≤ 45
+pub below-most : (a : ℕ) → a ≤ 9 → below a ≤ mostChoices
 unfolding below
 below-most a h = below-rises a 9 h
 
@@ -356,7 +361,7 @@ pub listed-one : {l : Layout} {y : List ℕ} {heavy : Heavy} {z : List ℕ} {j b
     → ((u : ℕ) → (a ≡ 0 → u ≡ number (l .nc) (drop (view .at) y))
     → cond (eqb u (getD z (chunkAt l heavy j b) 0)) 0 1 ≤ other)
     → other ≤ 1 → adds ≡ (left - a) * one → Put t adds span other exit
-    → Listed l y heavy z j b left one exit t (t + 1)
+    → ChoicesOf l y heavy z j b left one exit t (t + 1)
     (λ next vs. (left ≡ next b + a) × (ones (digits (l .nc) (valueAt l heavy vs j b)) ≡ view .seen .ones + g))
 listed-one {l} {y} {heavy} {z} {j} {b} {left} {one} h a g view none span adds other {exit} {t} p q few see w
     like low is put =
@@ -436,8 +441,8 @@ module _ {choices from : List ℕ} {shape : Shape} {modulus need : ℕ} {marks :
 
   -- the choices of the first s blocks add less than a loss of block s
   picked-low : (pick : ℕ → ℕ) (s : ℕ) → s ≤ shape .n → Picks from pick s
-      → picked (addsOf choices) pick s < stride (each (shape .size)) s
-  unfolding picked stride
+      → addedBy (addsOf choices) pick s < stride (each (shape .size)) s
+  unfolding firsts stride
   picked-low pick zero h p = omega arith
   picked-low pick (suc b) h p =
       let own = p b (omega arith) in
@@ -453,7 +458,7 @@ module _ {choices from : List ℕ} {shape : Shape} {modulus need : ℕ} {marks :
       record {
         above = λ n low high e m.
             absurd (none-between marks at (shape .states) some (g .counted .counted) (stand .q)
-            (stand .q + stride (each (shape .size)) s) (k .room) same (stand .q + picked (addsOf choices) pick s)
+            (stand .q + stride (each (shape .size)) s) (k .room) same (stand .q + addedBy (addsOf choices) pick s)
             (omega arith) (omega (arith, less)) m);
       }
 
@@ -466,7 +471,7 @@ module _ {choices : List ℕ} {modulus need there : ℕ} {marks : List ℕ} {at 
   -- with no block left the mark of the state itself is raised
   pub gains-end : {s : ℕ} {stand : Stand} {exit : List ℕ} (pick : ℕ → ℕ) → s ≡ 0
       → Ends modulus need there marks at stand exit → Gains choices modulus need there marks at s stand exit pick
-  unfolding picked
+  unfolding firsts
   gains-end {s} {stand} {exit} pick none found =
       let same : stand .q + 0 ≡ stand .q = omega arith in
       let few : stand .apart + 0 ≡ stand .apart = omega arith in
@@ -478,10 +483,10 @@ module _ {choices : List ℕ} {modulus need there : ℕ} {marks : List ℕ} {at 
   pub gains-pick : (b t : ℕ) {stand wider : Stand} {exit : List ℕ} (pick : ℕ → ℕ) → pick b ≡ t
       → With choices t stand wider → Gains choices modulus need there marks at b wider exit pick
       → Gains choices modulus need there marks at (suc b) stand exit pick
-  unfolding picked
+  unfolding firsts
   gains-pick b t {stand} {wider} {exit} pick is w r =
-      let d : ℕ = picked (addsOf choices) pick b in
-      let o : ℕ = picked (otherOf choices) pick b in
+      let d : ℕ = addedBy (addsOf choices) pick b in
+      let o : ℕ = addedBy (otherOf choices) pick b in
       let adds : addsOf choices (pick b) ≡ addsOf choices t = ap (addsOf choices) is in
       let other : otherOf choices (pick b) ≡ otherOf choices t = ap (otherOf choices) is in
       let state : stand .q + (d + addsOf choices (pick b)) ≡ wider .q + d = omega (arith, adds, w .q-is) in
@@ -519,23 +524,23 @@ module _ {l : Layout} {heavy : Heavy} {z vs : List ℕ} {j : ℕ} {choices : Lis
   its-picks b h = its-suits b h .0
 
   -- they add up to the state that it is at after the column, and to what it brings and where it is another
-  pub its-state : (s : ℕ) → s ≤ heavy .n → picked (addsOf choices) its s ≡ state size next s
-  unfolding picked state
+  pub its-state : (s : ℕ) → s ≤ heavy .n → addedBy (addsOf choices) its s ≡ state size next s
+  unfolding firsts state
   its-state zero h = refl
   its-state (suc b) h = ap₂ _+_ (its-state b (omega arith)) (its-suits b (omega arith) .1 .adds-just)
 
-  pub its-least : (s : ℕ) → s ≤ heavy .n → picked (leastOf choices) its s ≤ 2 * broughtIn l heavy vs j s
-  unfolding picked brought
+  pub its-least : (s : ℕ) → s ≤ heavy .n → addedBy (leastOf choices) its s ≤ 2 * broughtIn l heavy vs j s
+  unfolding firsts brought
   its-least zero h = omega arith
   its-least (suc b) h = omega (arith, its-least b (omega arith), its-suits b (omega arith) .1 .least)
 
-  pub its-most : (s : ℕ) → s ≤ heavy .n → 2 * broughtIn l heavy vs j s ≤ picked (mostOf choices) its s
-  unfolding picked brought
+  pub its-most : (s : ℕ) → s ≤ heavy .n → 2 * broughtIn l heavy vs j s ≤ addedBy (mostOf choices) its s
+  unfolding firsts brought
   its-most zero h = omega arith
   its-most (suc b) h = omega (arith, its-most b (omega arith), its-suits b (omega arith) .1 .most)
 
-  pub its-others : (s : ℕ) → s ≤ heavy .n → apartIn l heavy z vs j s ≤ picked (otherOf choices) its s
-  unfolding picked apartIn
+  pub its-others : (s : ℕ) → s ≤ heavy .n → apartIn l heavy z vs j s ≤ addedBy (otherOf choices) its s
+  unfolding firsts apartIn
   its-others zero h = omega arith
   its-others (suc b) h = omega (arith, its-others b (omega arith), its-suits b (omega arith) .1 .other)
 
@@ -548,12 +553,12 @@ module _ {l : Layout} {heavy : Heavy} {z vs : List ℕ} {j : ℕ} {choices : Lis
   its-above {there = there} {marks} {at} {stand} {fresh} g none is m =
       let n : ℕ = heavy .n in
       let whole : n ≤ heavy .n = omega arith in
-      let same : stand .q + picked (addsOf choices) its n ≡ state size next n =
+      let same : stand .q + addedBy (addsOf choices) its n ≡ state size next n =
       omega (arith, none .0, its-state n whole) in
       let raised =
       g .above (broughtIn l heavy vs j n) (omega (arith, none .1 .0, its-least n whole))
       (omega (arith, none .1 .1 .0, its-most n whole)) is
       (subst (λ (v : ℕ). 0 < getD marks (at + v) 0) (sym same) m) in
-      above-less there (apartIn l heavy z vs j n) (stand .apart + picked (otherOf choices) its n) _
+      above-less there (apartIn l heavy z vs j n) (stand .apart + addedBy (otherOf choices) its n) _
       (omega (arith, its-others n whole))
-      (subst (λ (v : ℕ). Above there (stand .apart + picked (otherOf choices) its n) (getD fresh v 0)) same raised)
+      (subst (λ (v : ℕ). Above there (stand .apart + addedBy (otherOf choices) its n) (getD fresh v 0)) same raised)

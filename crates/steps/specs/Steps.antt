@@ -14,7 +14,7 @@ use Rattle.message.specs.Layout.{legal}
 use Rattle.message.specs.declared.Layout.{Layout}
 use Rattle.windows.specs.Windows.{Tables}
 use Rattle.lines.specs.Lines.{unlike}
-use Rattle.states.specs.States.{stride, each, mostStates, Shaped}
+use Rattle.states.specs.States.{stride, each, firsts, mostStates, Shaped}
 use Rattle.states.specs.declared.Shape.{Shape}
 use Rattle.weigh.specs.Weigh.{brought, chunkTop, SeenIn, MoreOnes}
 use Rattle.weigh.specs.declared.Span.{Span}
@@ -84,7 +84,11 @@ pub record Viewed (l : Layout) (y : List ℕ) (heavy : Heavy) (j s left a : ℕ)
 -- ---- choices
 -- What the chunk of a heavy block can be in a column is listed as choices, of four numbers each: what the choice adds to
 -- the number of the state after the column, twice the least and twice the greatest that the chunk brings, and 1 if the
--- chunk can be another than in z.
+-- chunk can be another than in z. A block has few of them: its chunk loses none to eight bits, and none to all of these are
+-- ones.
+abbrev pub mostChoices : ℕ
+mostChoices = 45
+
 abbrev pub addsOf : (choices : List ℕ) (t : ℕ) → ℕ
 addsOf choices t = getD choices (4 * t) 0
 
@@ -134,7 +138,7 @@ Offers l heavy z vs j b choices adds low high =
 
 -- the choices from low on, below high, are those of heavy block b in column j, with so many losses left before, of which
 -- each adds one: they offer its own to each row that crosses the column in this way
-pub record Listed (l : Layout) (y : List ℕ) (heavy : Heavy) (z : List ℕ) (j b left one : ℕ) (choices : List ℕ)
+pub record ChoicesOf (l : Layout) (y : List ℕ) (heavy : Heavy) (z : List ℕ) (j b left one : ℕ) (choices : List ℕ)
     (low high : ℕ) (Way : (next : ℕ → ℕ) (vs : List ℕ) → Type 0) : Type 0 where
   pub order : low ≤ high
   pub small : (t : ℕ) → low ≤ t → t < high → Small choices (left * one) t
@@ -147,18 +151,12 @@ abbrev pub Blocks : Layout → (y : List ℕ) → Heavy → (z : List ℕ) (j : 
     → Type 0
 Blocks l y heavy z j left ones choices from s =
     (b : ℕ) → b < s → (getD from (b + 1) 0 ≤ getD from s 0)
-    × Listed l y heavy z j b (left b) (ones b) choices (getD from b 0) (getD from (b + 1) 0) (λ next vs. next b ≤ left b)
-
--- how many choices a block has with fewer losses than a, at most: with each number of losses, none to all of them are ones
-unfoldable pub below : ℕ → ℕ
-below zero = 0
-below (suc a) = below a + (a + 1)
+    × ChoicesOf l y heavy z j b (left b) (ones b) choices (getD from b 0) (getD from (b + 1) 0) (λ next vs. next b ≤ left b)
 
 -- ---- picks
--- the sum of one number of the choices that are picked for the first s blocks
-unfoldable pub picked : (of pick : ℕ → ℕ) (s : ℕ) → ℕ
-picked of pick zero = 0
-picked of pick (suc b) = picked of pick b + of (pick b)
+-- what one number of each choice that is picked adds up to, over the first s blocks
+abbrev pub addedBy : (of pick : ℕ → ℕ) (s : ℕ) → ℕ
+addedBy of pick s = firsts (λ b. of (pick b)) s
 
 -- a choice is picked for each of the first s blocks: block b has those from entry b of a list on, below the next entry
 abbrev pub Picks : (from : List ℕ) (pick : ℕ → ℕ) (s : ℕ) → Type 0
@@ -178,7 +176,7 @@ pub record Ground (choices from : List ℕ) (shape : Shape) (modulus need : ℕ)
   pub listed : (b t : ℕ) → b < shape .n → getD from b 0 ≤ t → t < getD from (b + 1) 0
       → (4 * t + 4 ≤ length choices) × Small choices (each (shape .size) b * stride (each (shape .size)) b) t
 
--- a sweep stands where its numbers are small
+-- the numbers of where a sweep stands are small
 pub record Low (stand : Stand) : Type 0 where
   pub q-low : stand .q ≤ mostStates
   pub least-low : stand .span .low ≤ 6 * chunkTop
@@ -211,9 +209,9 @@ Ends modulus need there marks at stand fresh =
 -- so it is with all that is picked: the choices so far, and those of the first s blocks
 pub record Gains (choices : List ℕ) (modulus need there : ℕ) (marks : List ℕ) (at s : ℕ) (stand : Stand) (fresh : List ℕ)
     (pick : ℕ → ℕ) : Type 0 where
-  pub above : (n : ℕ) → stand .span .low + picked (leastOf choices) pick s ≤ 2 * n
-      → 2 * n ≤ stand .span .high + picked (mostOf choices) pick s
+  pub above : (n : ℕ) → stand .span .low + addedBy (leastOf choices) pick s ≤ 2 * n
+      → 2 * n ≤ stand .span .high + addedBy (mostOf choices) pick s
       → n % modulus ≡ need
-      → 0 < getD marks (at + (stand .q + picked (addsOf choices) pick s)) 0
-      → Above there (stand .apart + picked (otherOf choices) pick s)
-      (getD fresh (stand .q + picked (addsOf choices) pick s) 0)
+      → 0 < getD marks (at + (stand .q + addedBy (addsOf choices) pick s)) 0
+      → Above there (stand .apart + addedBy (otherOf choices) pick s)
+      (getD fresh (stand .q + addedBy (addsOf choices) pick s) 0)

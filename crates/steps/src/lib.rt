@@ -15,7 +15,7 @@ ghost use Rattle.windows.specs.Windows.{Tables};
 ghost use Rattle.weigh.specs.Weigh.{chunkTop};
 ghost use Rattle.column.specs.Column.{Fit, Light, chunkAt, Crosses, apartIn, Readable};
 ghost use Rattle.steps.specs.Steps.{oneIf, Counts, Fitted, Counted, Above, Raises, Seeable, Viewed};
-ghost use Rattle.steps.specs.Steps.{otherOf, Keeps, Put, Listed, Blocks, Picks, Ground, Low, Stands, With, Ends, Gains};
+ghost use Rattle.steps.specs.Steps.{mostChoices, otherOf, Keeps, Put, ChoicesOf, Blocks, Picks, Ground, Low, Stands, With, Ends, Gains};
 
 // One for a mark, zero for none.
 fn one_if(mark: u8) -> u16
@@ -198,7 +198,7 @@ fn list_share(
     requires { ⌜ (Seeable l (now y) (now totals) (now counts) heavy j × (l .l1 * l .l2 ≤ length (now z)))
         × ((b < heavy .n) × ((a ≤ left) × ((left * one ≤ 65535) × (a ≤ l .nc → 4 * (t + a + 1) ≤ length (now choices))))) ⌝ }
     ensures { λ r. ⌜ (Keeps t (now (choices .entry)) (now (choices .exit)) × ((r ≤ t + a + 1) × (l .nc < a → r ≡ t)))
-        × Listed l (now (y .entry)) heavy (now (z .entry)) j b left one (now (choices .exit)) t r
+        × ChoicesOf l (now (y .entry)) heavy (now (z .entry)) j b left one (now (choices .exit)) t r
         (λ next vs. left ≡ next b + a) ⌝ }
 {
     let v = look_at(l, y, totals, counts, heavy, j, b, left, a);
@@ -239,9 +239,9 @@ fn list_block(
     t: usize,
 ) -> usize
     requires { ⌜ (Seeable l (now y) (now totals) (now counts) heavy j × (l .l1 * l .l2 ≤ length (now z)))
-        × ((b < heavy .n) × ((left * one ≤ 65535) × (4 * (t + 45) ≤ length (now choices)))) ⌝ }
-    ensures { λ r. ⌜ (Keeps t (now (choices .entry)) (now (choices .exit)) × (r ≤ t + 45))
-        × Listed l (now (y .entry)) heavy (now (z .entry)) j b left one (now (choices .exit)) t r
+        × ((b < heavy .n) × ((left * one ≤ 65535) × (4 * (t + mostChoices) ≤ length (now choices)))) ⌝ }
+    ensures { λ r. ⌜ (Keeps t (now (choices .entry)) (now (choices .exit)) × (r ≤ t + mostChoices))
+        × ChoicesOf l (now (y .entry)) heavy (now (z .entry)) j b left one (now (choices .exit)) t r
         (λ next vs. next b ≤ left) ⌝ }
 {
     let most = bits::wide(left);
@@ -282,8 +282,8 @@ fn list_choices(
     choices: &mut [u16],
 ) -> [usize; 7]
     requires { ⌜ (Seeable l (now y) (now totals) (now counts) heavy j × (l .l1 * l .l2 ≤ length (now z)))
-        × (Fitted heavy shape left × (1080 ≤ length (now choices))) ⌝ }
-    ensures { λ r. ⌜ (length (now (choices .exit)) ≡ length (now (choices .entry))) × ((getD r (heavy .n) 0 ≤ 270)
+        × (Fitted heavy shape left × (4 * (6 * mostChoices) ≤ length (now choices))) ⌝ }
+    ensures { λ r. ⌜ (length (now (choices .exit)) ≡ length (now (choices .entry))) × ((getD r (heavy .n) 0 ≤ 6 * mostChoices)
         × Blocks l (now (y .entry)) heavy (now (z .entry)) j (each left) (stride (each (shape .size))) (now (choices .exit)) r
         (heavy .n)) ⌝ }
 {

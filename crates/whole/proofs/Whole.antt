@@ -14,38 +14,11 @@ use Rattle.message.specs.declared.Layout.{Layout}
 use Rattle.consistent.specs.Greedy.{losses}
 use Rattle.consistent.proofs.Greedy.{whole}
 use Rattle.weigh.specs.Weigh.{brought}
+use Rattle.states.specs.States.{firsts}
 use Rattle.column.specs.Column.{Fit, Light, Crosses, readFrom, valueAt}
 use Rattle.column.specs.declared.Heavy.{Heavy}
 use Rattle.column.proofs.Rows.{chunk-stands, string-high, crosses-readable, crosses-brings}
-use Rattle.whole.specs.Whole.{modulus, firsts, Source, legibleIn, brings, bringsIn}
-
--- ---- sums over the first places
--- of what is the same in each
-pub firsts-same : (f g : ℕ → ℕ) (n : ℕ) → ((s : ℕ) → s < n → f s ≡ g s) → firsts f n ≡ firsts g n
-unfolding firsts
-firsts-same f g zero h = refl
-firsts-same f g (suc n) h = omega (arith, firsts-same f g n (λ s k. h s (omega arith)), h n (omega arith))
-
--- of what is the same in each but one
-pub firsts-but : (f g : ℕ → ℕ) (n s : ℕ) → s < n → ((t : ℕ) → t < n → (t ≡ s → ⊥) → f t ≡ g t)
-    → firsts f n + g s ≡ firsts g n + f s
-unfolding firsts
-firsts-but f g zero s k h = absurd (omega arith)
-firsts-but f g (suc n) s k h = go (ℕ-discrete s n) (λ i. firsts-but f g n s i (λ t i d. h t (omega arith) d))
-  where
-    go : Dec (s ≡ n) → (s < n → firsts f n + g s ≡ firsts g n + f s) → firsts f n + f n + g s ≡ firsts g n + g n + f s
-    go (yes e) before = rw e (omega (arith, firsts-same f g n (λ t i. h t (omega arith) (λ d. omega (arith, d, e)))))
-    go (no e) before = omega (arith, before (omega arith), h n (omega arith) (λ d. e (sym d)))
-
--- each is no more than all together
-pub firsts-one : (f : ℕ → ℕ) (n s : ℕ) → s < n → f s ≤ firsts f n
-unfolding firsts
-firsts-one f zero s k = absurd (omega arith)
-firsts-one f (suc n) s k = go (ℕ-discrete s n) (firsts-one f n s)
-  where
-    go : Dec (s ≡ n) → (s < n → f s ≤ firsts f n) → f s ≤ firsts f n + f n
-    go (yes e) before = rw e (omega arith)
-    go (no e) before = omega (arith, before (omega arith))
+use Rattle.whole.specs.Whole.{modulus, Source, legibleIn, brings, bringsIn}
 
 -- ---- where a chunk stands
 -- where the chunk of a block in column j, the block being number i, starts in the row and in its chunk-string

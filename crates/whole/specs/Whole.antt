@@ -1,5 +1,5 @@
 -- What the chunks of a column bring to the total of their chunk-string where they are read whole.
-use Prim.Native.Nat.{ℕ, zero, suc, _+_, _-_, _*_, _<_, _≤_}
+use Prim.Native.Nat.{ℕ, _+_, _-_, _*_, _<_, _≤_}
 use mathlib.Core.Path.{_≡_}
 use mathlib.Core.Bool.{true}
 use mathlib.Core.List.{List}
@@ -9,18 +9,13 @@ use Rattle.vt.specs.Sum.{total}
 use Rattle.message.specs.Layout.{legal}
 use Rattle.message.specs.declared.Layout.{Layout}
 use Rattle.windows.specs.Windows.{Tables}
-use Rattle.states.specs.States.{lefts, each}
+use Rattle.states.specs.States.{each, entryAt}
 use Rattle.column.specs.Column.{Readable}
 use Rattle.column.specs.declared.Heavy.{Heavy}
 
 -- the sum of a chunk-string is below this
 abbrev pub modulus : Layout → ℕ
 modulus l = l .l1 * l .nc + 1
-
--- f summed over the first n places
-unfoldable pub firsts : (f : ℕ → ℕ) (n : ℕ) → ℕ
-firsts f zero = 0
-firsts f (suc n) = firsts f n + f n
 
 -- a received row with its tables, from which the chunk of a block in column j is read
 pub record Source (l : Layout) (y totals counts : List ℕ) (block j : ℕ) : Type 0 where
@@ -59,17 +54,9 @@ OneLess n left next s = (next s + 1 ≡ left s) × ((t : ℕ) → t < n → (t �
 abbrev pub unread : ℕ
 unread = 65535
 
--- where a table has what the chunk of heavy block s brings with e losses left
-abbrev pub entryAt : (s e : ℕ) → ℕ
-entryAt s e = s * lefts + e
-
 -- a table of what the chunks of the heavy blocks bring in column j, by the losses left in each, at most its size
 abbrev pub Readings : Layout → (y : List ℕ) → Heavy → (size : List ℕ) (j : ℕ) (table : List ℕ) → Type 0
 Readings l y heavy size j table =
     (s e : ℕ) → s < heavy .n → e ≤ each size s
     → Legible l (length y) (getD (heavy .block) s 0) (getD (heavy .end) s 0) j e
     → getD table (entryAt s e) 0 ≡ brings l y (getD (heavy .block) s 0) (getD (heavy .end) s 0) j e
-
--- what such a table has for the blocks together, where so many losses are left in each
-abbrev pub readSum : (table left : List ℕ) (n : ℕ) → ℕ
-readSum table left n = firsts (λ s. getD table (entryAt s (getD left s 0)) 0) n

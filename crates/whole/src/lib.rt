@@ -10,9 +10,9 @@ ghost use Rattle.bits.specs.Bits.{AllBits, longest, digits};
 ghost use Rattle.vt.specs.Sum.{total};
 ghost use Rattle.windows.specs.Windows.{Tables};
 ghost use Rattle.consistent.specs.Greedy.{losses};
-ghost use Rattle.states.specs.States.{lefts};
+ghost use Rattle.states.specs.States.{lefts, each, entryAt, addedUp};
 ghost use Rattle.column.specs.Column.{Fit, Readable};
-ghost use Rattle.whole.specs.Whole.{modulus, Source, startAt, Legible, brings, unread, entryAt, Readings, readSum};
+ghost use Rattle.whole.specs.Whole.{modulus, Source, startAt, Legible, brings, unread, Readings};
 
 // In place of what a chunk brings that cannot be read whole: more than a chunk brings.
 pub const UNREAD: usize = 65535;
@@ -116,7 +116,7 @@ pub fn fill(
 // What n blocks bring together where so many losses are left in each, as a table has it.
 pub fn all(n: usize, left: [u8; states::MOST_HEAVY], table: &[u16]) -> usize
     requires { ⌜ (n ≤ 6) × (((s : ℕ) → s < n → getD left s 0 < lefts) × (entryAt n 0 ≤ length (now table))) ⌝ }
-    ensures { λ r. ⌜ (r ≡ readSum (now (table .entry)) left n) × (r ≤ n * unread) ⌝ }
+    ensures { λ r. ⌜ (r ≡ addedUp (now (table .entry)) (each left) n) × (r ≤ n * unread) ⌝ }
 {
     let mut sum: usize = 0;
     let mut s: usize = 0;

@@ -7,8 +7,7 @@ use native.Mathlib.Omega.{arith}
 use lib.ListN.{getD}
 use mir.Syntax.{w8}
 use mir.Val.{Fits}
-use Rattle.states.specs.States.{each}
-use Rattle.whole.specs.Whole.{firsts}
+use Rattle.states.specs.States.{each, firsts}
 use borrow.Author.Needs.{needs}
 use Rattle.costs.proofs.all_losses.Statement.{statement}
 use Rattle.costs.proofs.all_losses.Tie as tie

@@ -6,9 +6,10 @@ use native.Mathlib.Nat.{mod-lt}
 use native.Mathlib.Omega.{arith}
 use borrow.Author.Needs.{needs}
 use lib.ListN.{getD}
+use Rattle.states.specs.States.{firsts}
 use Rattle.column.specs.Column.{valueAt}
 use Rattle.column.proofs.Rows.{crosses-readable}
-use Rattle.whole.specs.Whole.{modulus, firsts}
+use Rattle.whole.specs.Whole.{modulus}
 use Rattle.costs.specs.Costs.{bringsBut}
 use Rattle.costs.proofs.Costs.{one-sum, read-but, asked-source, asked-low}
 use Rattle.costs.proofs.can_lose_in.Statement.{statement}

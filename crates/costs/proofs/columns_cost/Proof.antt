@@ -8,10 +8,9 @@ use native.Mathlib.Omega.{arith}
 use borrow.Author.Needs.{needs}
 use lib.ListN.{length}
 use Rattle.message.proofs.Legal.{legal-bounds, sizes}
-use Rattle.states.specs.States.{each}
+use Rattle.states.specs.States.{each, firsts}
 use Rattle.column.specs.Column.{Light}
 use Rattle.marks.specs.Marks.{Path}
-use Rattle.whole.specs.Whole.{firsts}
 use Rattle.costs.proofs.Costs.{firsts-fall}
 use Rattle.costs.proofs.columns_cost.Statement.{statement}
 use Rattle.costs.proofs.columns_cost.Tie as tie

@@ -4,9 +4,8 @@ use Prim.Native.Nat.{ℕ, _+_, _<_, _≤_}
 use mathlib.Core.List.{List}
 use native.Mathlib.Omega.{arith}
 use borrow.Author.Needs.{needs}
-use Rattle.states.specs.States.{each}
+use Rattle.states.specs.States.{each, firsts}
 use Rattle.column.specs.Column.{Light, Crosses}
-use Rattle.whole.specs.Whole.{firsts}
 use Rattle.costs.proofs.Costs.{costs-none, costs-one, costs-two}
 use Rattle.costs.proofs.cost.Statement.{statement}
 use Rattle.costs.proofs.cost.Tie as tie

@@ -10,8 +10,9 @@ use native.Mathlib.Numerals.{add-one}
 use native.Mathlib.Omega.{arith}
 use borrow.Author.Needs.{needs}
 use lib.ListN.{length, getD, set, length-set}
+use Rattle.states.specs.States.{firsts}
 use Rattle.column.proofs.Rows.{string-high}
-use Rattle.whole.specs.Whole.{modulus, firsts, bringsIn}
+use Rattle.whole.specs.Whole.{modulus, bringsIn}
 use Rattle.costs.specs.Costs.{In, Twice, ReadBut, bringsBut}
 use Rattle.costs.proofs.Costs.{but-own, but-other}
 use Rattle.costs.proofs.Sets.{both-room, both-first, twice-set, next-in}

@@ -55,7 +55,7 @@ fill-apart-requires : tie.Need-fill-apart-requires Inv-loop μ-loop
 fill-apart-requires c κs =
     let p = first (c .before .before .before) .pre .1 in
     let kept = p .1 .0 in
-    ((p .1 .1 .1 .0, omega (arith, p .0)), ((kept .shaped, kept .few), omega (arith, kept .few)))
+    ((p .1 .1 .1 .0, omega (arith, p .0)), (kept .shaped, omega (arith, kept .few)))
 
 loop-holds : tie.Need-loop-holds Inv-loop μ-loop
 loop-holds c = completing-starts _ _ _ _ _ _ _ _ _ _ _ _ refl

@@ -9,16 +9,16 @@ use native.Mathlib.Omega.{arith}
 use borrow.Author.Count.{below-more}
 use borrow.Author.Needs.{needs}
 use lib.ListN.{getD}
-use Rattle.states.specs.States.{each}
+use Rattle.states.specs.States.{each, addedUp}
 use Rattle.column.specs.Column.{Light, Crosses}
-use Rattle.whole.specs.Whole.{OneLess, readSum}
+use Rattle.whole.specs.Whole.{OneLess}
 use Rattle.first.proofs.loses.Statement.{statement}
 use Rattle.first.proofs.loses.Tie as tie
 
 abbrev Inv-loop : tie.InvT-loop
 Inv-loop l y totals counts numbers heavy readings j part q marks base left n strides s₀ s =
     (s ≤ n) × ((t : ℕ) → t < s → (row vs known : List ℕ) (next : ℕ → ℕ) → Light l heavy row known
-    → part ≡ getD known j 0 + readSum readings left (heavy .n)
+    → part ≡ getD known j 0 + addedUp readings (each left) (heavy .n)
     → Crosses l y numbers heavy row j (each left) next vs → OneLess (heavy .n) (each left) next t
     → getD strides t 0 ≤ q → 0 < getD marks (base + (q - getD strides t 0)) 0 → ⊥)
 

@@ -6,10 +6,12 @@ use native.Mathlib.Nat.{mul-le-mul-right}
 use native.Mathlib.Omega.{arith}
 use borrow.Author.Needs.{needs}
 use lib.ListN.{length, getD}
+use Rattle.states.specs.States.{each, firsts, entryAt, addedUp}
 use Rattle.column.specs.Column.{valueAt}
 use Rattle.column.proofs.Rows.{crosses-readable}
-use Rattle.whole.specs.Whole.{firsts, modulus, entryAt, readSum}
-use Rattle.whole.proofs.Whole.{firsts-but, firsts-one, weightOf, weights-sum, kept-legible, kept-read}
+use Rattle.whole.specs.Whole.{modulus}
+use Rattle.states.proofs.Sums.{firsts-but, firsts-one}
+use Rattle.whole.proofs.Whole.{weightOf, weights-sum, kept-legible, kept-read}
 use Rattle.first.proofs.loses_one.Statement.{statement}
 use Rattle.first.proofs.loses_one.Tie as tie
 
@@ -58,7 +60,7 @@ cast-reading c = omega (arith, c .shared-slice-known6 .given (taken c .args .s *
 entry : (c : tie.After-shared-slice-known6) → let a = taken c .args in
     (getD (a .readings .now) (a .s * 13 + c .before .wide .result) 0
     ≡ getD (a .readings .now) (entryAt (a .s) (getD (a .t9) (a .s) 0)) 0)
-    × (getD (a .readings .now) (entryAt (a .s) (getD (a .t9) (a .s) 0)) 0 ≤ readSum (a .readings .now) (a .t9) (a .t6 .n))
+    × (getD (a .readings .now) (entryAt (a .s) (getD (a .t9) (a .s) 0)) 0 ≤ addedUp (a .readings .now) (each (a .t9)) (a .t6 .n))
 entry c =
     let s = taken c in
     let a = s .args in (

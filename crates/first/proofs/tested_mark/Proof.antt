@@ -6,10 +6,11 @@ use native.Mathlib.Omega.{arith}
 use borrow.Author.Needs.{needs}
 use lib.ListN.{getD}
 use Rattle.message.proofs.Legal.{legal-bounds, sizes}
-use Rattle.states.specs.States.{each}
+use Rattle.states.specs.States.{each, firsts, entryAt, addedUp}
 use Rattle.column.proofs.Rows.{string-high}
-use Rattle.whole.specs.Whole.{firsts, modulus, entryAt, readSum}
-use Rattle.whole.proofs.Whole.{firsts-same, weightOf, weights-sum, kept-legible, kept-read}
+use Rattle.whole.specs.Whole.{modulus}
+use Rattle.states.proofs.Sums.{firsts-same}
+use Rattle.whole.proofs.Whole.{weightOf, weights-sum, kept-legible, kept-read}
 use Rattle.marks.specs.Digits.{entryOf}
 use Rattle.marks.proofs.Digits.{entry-low}
 use Rattle.marks.proofs.Paths.{crosses-same}
@@ -127,7 +128,7 @@ returns-3 c =
     let left = entryOf (a .digits .now) (a .q) in
     let same-left : (k : ℕ) → k < a .heavy .n → left k ≡ found k = λ k h. left-is d k h .0 in
     let part : getD (a .known .now) (a .j) 0 + u .all .result
-    ≡ getD (a .known .now) (a .j) 0 + readSum (a .readings .now) (d .digits-of .result) (a .heavy .n) =
+    ≡ getD (a .known .now) (a .j) 0 + addedUp (a .readings .now) (each (d .digits-of .result)) (a .heavy .n) =
     omega (arith, u .all .ensures .0)
     in
     record {

@@ -7,7 +7,7 @@ use native.Mathlib.Omega.{arith}
 use borrow.Author.Count.{below-more}
 use borrow.Author.Needs.{needs}
 use lib.ListN.{length}
-use Rattle.states.specs.States.{each}
+use Rattle.states.specs.States.{each, entryAt}
 use Rattle.near.specs.Near.{SaysIn}
 use Rattle.near.proofs.Near.{next-block, most-added}
 use Rattle.near.proofs.fill_apart.Statement.{statement}
@@ -69,7 +69,7 @@ loop-again c =
           (λ k h e i.
           let low = small k (omega (arith, h, t .loop-test .taken)) in
           let room = mul-le-mul-right {m = k + 1} {n = p .s} 13 (omega (arith, h)) in
-          rw (b .1 .0 (k * 13 + e) (omega (arith, low, i, room))) (p .inv .1 k h e i))
+          rw (b .1 .0 (entryAt k e) (omega (arith, low, i, room))) (p .inv .1 k h e i))
           (λ e i. b .1 .1 e i),
     )
 
@@ -87,9 +87,9 @@ add-up-requires c κs =
     let e = c .before .before in
     let p = start (e .before) .pre in
     let f = p .0 .0 .0 in (
-      (f .few, p .1 .0 .0),
+      (f .few, p .1 .0),
       (
-        (p .1 .1, p .1 .0 .1),
+        p .1 .1,
         record {
           few = f .small;
           long = omega (arith, e .before .loop .inv .0 .1, f .few);

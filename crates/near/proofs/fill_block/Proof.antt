@@ -7,6 +7,7 @@ use borrow.Author.Count.{below-more}
 use borrow.Author.Needs.{needs}
 use lib.ListN.{length, getD, length-set}
 use lib.Seq.{getD-set-same, getD-set-other}
+use Rattle.states.specs.States.{entryAt}
 use Rattle.near.specs.Near.{SaysIn}
 use Rattle.near.proofs.fill_block.Statement.{statement}
 use Rattle.near.proofs.fill_block.Tie as tie
@@ -14,7 +15,7 @@ use Rattle.near.proofs.fill_block.Tie as tie
 abbrev Inv-loop : tie.InvT-loop
 Inv-loop columns before after s size j values₀ most at left₀ values left =
     ((left ≤ size + 1) × (length values ≡ length values₀))
-    × (((i : ℕ) → i < s * 13 → getD values i 0 ≡ getD values₀ i 0)
+    × (((i : ℕ) → i < entryAt s 0 → getD values i 0 ≡ getD values₀ i 0)
     × ((e : ℕ) → e < left → SaysIn columns before after s size j values e))
 
 abbrev μ-loop : tie.MeasureT-loop
@@ -84,7 +85,7 @@ loop-again c =
         λ n h. getD-set-other (p .values) at n v 0 (λ e. omega (arith, e, h)) ∙ p .inv .1 .0 n h,
         below-more _ _
             (λ n h.
-            rw (getD-set-other (p .values) at (a .s * 13 + n) v 0 (λ e. omega (arith, e, h))) (p .inv .1 .1 n h))
+            rw (getD-set-other (p .values) at (entryAt (a .s) n) v 0 (λ e. omega (arith, e, h))) (p .inv .1 .1 n h))
             (rw same (c .most-in .ensures .0 (k .0), c .most-in .ensures .1)),
       ),
     )

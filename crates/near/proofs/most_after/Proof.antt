@@ -7,7 +7,7 @@ use native.Mathlib.Numerals.{add-one}
 use native.Mathlib.Omega.{arith}
 use borrow.Author.Needs.{needs}
 use lib.ListN.{length, getD}
-use Rattle.states.specs.States.{each}
+use Rattle.states.specs.States.{each, firsts}
 use Rattle.near.specs.Near.{mostAfter}
 use Rattle.near.proofs.Near.{next-block}
 use Rattle.near.proofs.most_after.Statement.{statement}
@@ -33,7 +33,7 @@ mul-from : tie.Need-mul-from Inv-loop μ-loop
 mul-from c = search needs
 
 loop-holds : tie.Need-loop-holds Inv-loop μ-loop
-unfolding mostAfter
+unfolding firsts
 loop-holds c = ((omega arith, omega arith), refl)
 
 -- the entry of a block stands in the table
@@ -101,7 +101,7 @@ loop-less : tie.Need-loop-less Inv-loop μ-loop
 loop-less c = search needs
 
 loop-again : tie.Need-loop-again Inv-loop μ-loop
-unfolding mostAfter
+unfolding firsts
 loop-again c =
     let t = c .before .before .before in
     let p = t .before .loop in (
@@ -114,7 +114,7 @@ returns c =
     let p = c .before .loop in
     let a = c .before .before .before .args in
     let e : p .s ≡ a .shape .n = omega (arith, p .inv .0 .0, c .loop-test .left) in
-    p .inv .1 ∙ ap (mostAfter (a .columns) (a .after .now) (each (a .t5)) (a .j)) e
+    p .inv .1 ∙ ap (λ (k : ℕ). mostAfter (a .columns) (a .after .now) (each (a .t5)) (a .j) k) e
 
 pub most-after-spec : {M : Type 1} → statement M
 most-after-spec =

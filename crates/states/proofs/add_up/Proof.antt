@@ -23,7 +23,7 @@ abbrev μ-loop : tie.MeasureT-loop
 some : (c : tie.Start Inv-loop μ-loop) → 0 < length (c .args .sums .now)
 some c =
     let shape = c .args .t1 in
-    omega (arith, stride-pos (each (shape .size)) (shape .n), c .pre .0 .1 .all, c .pre .1 .0 .0)
+    omega (arith, stride-pos (each (shape .size)) (shape .n), c .pre .0 .1 .all, c .pre .1 .0)
 
 -- the block come to has its stride, and there is room for it
 own : (c : tie.In-loop Inv-loop μ-loop) → let shape = c .before .before .before .before .args .t1 in
@@ -39,7 +39,7 @@ room c =
     let s = p .before .before .before in
     let shape = s .args .t1 in
     let up = stride-up (each (shape .size)) (suc (p .loop .s)) (shape .n) (omega (arith, c .loop-test .taken)) in
-    omega (arith, up, s .pre .0 .1 .all, s .pre .1 .0 .0, p .loop .inv .0 .1, length-set (s .args .sums .now) 0 0)
+    omega (arith, up, s .pre .0 .1 .all, s .pre .1 .0, p .loop .inv .0 .1, length-set (s .args .sums .now) 0 0)
 
 slice-write-sums : tie.Need-slice-write-sums Inv-loop μ-loop
 slice-write-sums c = some (c .before .before)
@@ -71,16 +71,16 @@ add-block-requires c κs =
     let s = p .before .before .before in
     let shape = s .args .t1 in
     let b : ℕ = p .loop .s in
-    let listed = s .pre .1 .1 in
+    let valued = s .pre .1 .1 in
     rw (own i) (
-      (room i, omega (arith, i .loop-test .taken, listed .few b (i .loop-test .taken), listed .long)),
+      (room i, omega (arith, i .loop-test .taken, valued .few b (i .loop-test .taken), valued .long)),
       λ e q h l.
           omega (
             arith,
             i .loop-test .taken,
             s .pre .0 .0,
-            sums-low shape (s .args .values .now) listed b (p .loop .inv .0 .0) (p .loop .sums) (p .loop .inv .1) q l,
-            listed .small b e (i .loop-test .taken) h,
+            sums-low shape (s .args .values .now) valued b (p .loop .inv .0 .0) (p .loop .sums) (p .loop .inv .1) q l,
+            valued .small b e (i .loop-test .taken) h,
           ),
     )
 

@@ -6,16 +6,16 @@ use mathlib.Core.Logic.{_⊎_, inl, inr, ⊎-elim}
 use native.Mathlib.Omega.{arith}
 use Rattle.bits.proofs.Laws.{lt-or-ge}
 use Rattle.message.proofs.Legal.{legal-bounds}
-use Rattle.steps.specs.Steps.{Keeps, Listed, below}
+use Rattle.steps.specs.Steps.{Keeps, mostChoices, ChoicesOf}
 use Rattle.steps.proofs.Sweeping.{keeps-same, keeps-then, kept-listed, listed-then, listed-weaken, listed-none}
-use Rattle.steps.proofs.Sweeping.{below-next, below-most}
+use Rattle.steps.proofs.Sweeping.{below, below-next, below-most}
 use Rattle.steps.proofs.list_block.Statement.{statement}
 use Rattle.steps.proofs.list_block.Tie as tie
 
 abbrev Inv-loop : tie.InvT-loop
 Inv-loop l y totals counts heavy z j b left one choices₀ t most end₀ a₀ choices end a =
-    (Keeps t choices₀ choices × ((t ≤ end) × ((end ≤ t + 45) × (a ≤ 9 → end ≤ t + below a))))
-    × Listed l y heavy z j b left one choices t end (λ next vs. (next b ≤ left) × (left < next b + a))
+    (Keeps t choices₀ choices × ((t ≤ end) × ((end ≤ t + mostChoices) × (a ≤ 9 → end ≤ t + below a))))
+    × ChoicesOf l y heavy z j b left one choices t end (λ next vs. (next b ≤ left) × (left < next b + a))
 
 abbrev μ-loop : tie.MeasureT-loop
 μ-loop l y totals counts heavy z j b left one choices₀ t most end₀ a₀ choices end a = most + 1 - a
@@ -89,7 +89,7 @@ loop-again c =
     let e = n .list-share .ensures in
     let order = e .1 .order in
     let nc-high = legal-bounds (a .l) (s .pre .0 .0 .allowed) .nc-high in
-    let most : n .list-share .result ≤ a .t + 45 =
+    let most : n .list-share .result ≤ a .t + mostChoices =
     ⊎-elim
     (λ (h : l .a < 9).
     omega (arith, e .0 .1 .0, i .0 .1 .1 .1 (omega arith), below-next (l .a), below-most (l .a + 1) (omega arith)))

@@ -7,14 +7,14 @@ use native.Mathlib.Omega.{arith}
 use lib.ListN.{length, getD, set, length-set}
 use lib.Seq.{getD-set-same}
 use Rattle.states.specs.States.{stride, each}
-use Rattle.steps.specs.Steps.{Blocks}
+use Rattle.steps.specs.Steps.{mostChoices, Blocks}
 use Rattle.steps.proofs.Sweeping.{blocks-next, adds-low}
 use Rattle.steps.proofs.list_choices.Statement.{statement}
 use Rattle.steps.proofs.list_choices.Tie as tie
 
 abbrev Inv-loop : tie.InvT-loop
 Inv-loop l y totals counts heavy z j choices₀ shape left n from₀ b₀ choices from b =
-    ((length choices ≡ length choices₀) × ((length from ≡ 7) × ((b ≤ n) × (getD from b 0 ≤ 45 * b))))
+    ((length choices ≡ length choices₀) × ((length from ≡ 7) × ((b ≤ n) × (getD from b 0 ≤ mostChoices * b))))
     × Blocks l y heavy z j (each left) (stride (each (shape .size))) choices from b
 
 abbrev μ-loop : tie.MeasureT-loop
@@ -107,7 +107,7 @@ returns c =
     let end : l .b ≡ a .heavy .n = omega (arith, i .0 .1 .1 .0, c .loop-test .left) in (
       i .0 .0,
       (
-        subst (λ (v : ℕ). getD (l .from) v 0 ≤ 270) end (omega (arith, i .0 .1 .1 .1, end, s .pre .0 .0 .few)),
+        subst (λ (v : ℕ). getD (l .from) v 0 ≤ 6 * mostChoices) end (omega (arith, i .0 .1 .1 .1, end, s .pre .0 .0 .few)),
         subst (λ (v : ℕ). Blocks (a .l) (a .y .now) (a .heavy) (a .z .now) (a .j) (each (a .t9))
             (stride (each (a .t7 .size))) (l .choices) (l .from) v) end (i .1),
       ),

@@ -17,7 +17,7 @@ use Rattle.weigh.specs.Weigh.{Wider}
 use Rattle.weigh.specs.declared.Span.{Span}
 use Rattle.column.specs.Column.{valueAt}
 use Rattle.column.proofs.Rows.{crosses-readable}
-use Rattle.steps.specs.Steps.{Viewed, Keeps, Listed}
+use Rattle.steps.specs.Steps.{Viewed, Keeps, ChoicesOf}
 use Rattle.steps.proofs.Sweeping.{ChunkIs, chunk-is, keeps-same, keeps-then, kept-listed, listed-then}
 use Rattle.steps.proofs.Sweeping.{listed-weaken, listed-none, listed-one, ones-first, ones-last}
 use Rattle.steps.proofs.list_share.Statement.{statement}
@@ -26,7 +26,7 @@ use Rattle.steps.proofs.list_share.Tie as tie
 abbrev Inv-loop : tie.InvT-loop
 Inv-loop l y totals counts z j b left a one choices₀ t heavy c other adds seen last none g₀ end₀ choices g end =
     (Keeps t choices₀ choices × ((end + g₀ ≡ t + g) × ((g₀ ≤ g) × (g ≤ a + 1))))
-    × Listed l y heavy z j b left one choices t end
+    × ChoicesOf l y heavy z j b left one choices t end
     (λ next vs. (left ≡ next b + a) × (ones (digits (l .nc) (valueAt l heavy vs j b)) < seen .ones + g))
 
 abbrev μ-loop : tie.MeasureT-loop

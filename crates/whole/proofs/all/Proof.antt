@@ -7,12 +7,13 @@ use native.Mathlib.Numerals.{add-one}
 use native.Mathlib.Omega.{arith}
 use borrow.Author.Needs.{needs}
 use lib.ListN.{length, getD}
-use Rattle.whole.specs.Whole.{firsts, unread, readSum}
+use Rattle.states.specs.States.{each, firsts, addedUp}
+use Rattle.whole.specs.Whole.{unread}
 use Rattle.whole.proofs.all.Statement.{statement}
 use Rattle.whole.proofs.all.Tie as tie
 
 abbrev Inv-loop : tie.InvT-loop
-Inv-loop n table left sum₀ s₀ sum s = ((s ≤ n) × (sum ≤ s * unread)) × (sum ≡ readSum table left s)
+Inv-loop n table left sum₀ s₀ sum s = ((s ≤ n) × (sum ≤ s * unread)) × (sum ≡ addedUp table (each left) s)
 
 abbrev μ-loop : tie.MeasureT-loop
 μ-loop n table left sum₀ s₀ sum s = n - s
@@ -100,7 +101,7 @@ returns c =
     let p = c .before .loop in
     let a = c .before .before .before .args in
     let e : p .s ≡ a .n = omega (arith, p .inv .0 .0, c .loop-test .left) in
-    (p .inv .1 ∙ ap (readSum (a .table .now) (a .t2)) e, rw (← e) (p .inv .0 .1))
+    (p .inv .1 ∙ ap (λ (k : ℕ). addedUp (a .table .now) (each (a .t2)) k) e, rw (← e) (p .inv .0 .1))
 
 pub all-spec : {M : Type 1} → statement M
 all-spec =

@@ -7,8 +7,8 @@ use native.Mathlib.Omega.{arith}
 use borrow.Author.Count.{below-more}
 use borrow.Author.Needs.{needs}
 use lib.ListN.{length, getD}
-use Rattle.states.specs.States.{each}
-use Rattle.whole.specs.Whole.{Legible, brings, entryAt}
+use Rattle.states.specs.States.{each, entryAt}
+use Rattle.whole.specs.Whole.{Legible, brings}
 use Rattle.whole.proofs.fill.Statement.{statement}
 use Rattle.whole.proofs.fill.Tie as tie
 

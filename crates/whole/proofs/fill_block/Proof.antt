@@ -7,7 +7,8 @@ use borrow.Author.Count.{below-more}
 use borrow.Author.Needs.{needs}
 use lib.ListN.{length, getD, length-set}
 use lib.Seq.{getD-set-same, getD-set-other}
-use Rattle.whole.specs.Whole.{Legible, brings, entryAt}
+use Rattle.states.specs.States.{entryAt}
+use Rattle.whole.specs.Whole.{Legible, brings}
 use Rattle.whole.proofs.fill_block.Statement.{statement}
 use Rattle.whole.proofs.fill_block.Tie as tie
 
