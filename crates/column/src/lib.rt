@@ -98,13 +98,13 @@ pub fn place_of(nc: usize, size: usize, from: usize, end: u8, left: u8, next: u8
 }
 
 // The chunks of the heavy blocks in a column: whether they can be matched against the received row, and where.
-struct Found {
-    ok: bool,
-    chunks: weigh::Chunks,
+pub struct Found {
+    pub ok: bool,
+    pub chunks: weigh::Chunks,
 }
 
 // The chunks of the heavy blocks in column j, from what is left at its start and after it.
-fn find_chunks(
+pub fn find_chunks(
     l: Layout,
     y: &[u8],
     numbers: &[u16],

@@ -56,13 +56,22 @@ fn gather_bit(
     gather(left, v, y, p, a - 1, out, n)
 }
 
-// Lists the contents of nc bits that lose just a bits against y from a place on; the answer is how many entries there are.
+// Lists from entry n on the contents of nc bits that lose just a bits against y from a place on; the answer is where the entries end.
+pub fn list_behind(nc: usize, y: &[u8], place: usize, a: u8, out: &mut [u8], n: usize) -> usize
+    requires { ⌜ (nc ≤ 8) × ((place ≤ length (now y)) × (n + 256 ≤ length (now out))) ⌝ }
+    ensures { λ r. ⌜ Gathered (λ w. (w < 2 ^ nc) × (losses (digits nc w) (drop place (now (y .entry))) ≡ a)) 256 n
+        (now (out .entry)) r (now (out .exit)) ⌝ }
+{
+    gather(nc, 0, y, place, bits::wide(a), out, n)
+}
+
+// Lists them from the first entry on; the answer is how many there are.
 pub fn contents(nc: usize, y: &[u8], place: usize, a: u8, out: &mut [u8]) -> usize
     requires { ⌜ (nc ≤ 8) × ((place ≤ length (now y)) × (256 ≤ length (now out))) ⌝ }
     ensures { λ r. ⌜ (r ≤ 256) × ((w : ℕ) → w < 2 ^ nc → losses (digits nc w) (drop place (now (y .entry))) ≡ a
         → Among (now (out .exit)) 0 r w) ⌝ }
 {
-    gather(nc, 0, y, place, bits::wide(a), out, 0)
+    list_behind(nc, y, place, a, out, 0)
 }
 
 // What the sum of a line asks of one of its chunks: the sum of the rest of the line and the total of the chunk's positions, the

@@ -766,8 +766,8 @@ fn fill_marks(
     )
 }
 
-// The marks of the loss states of the heavy blocks with these losses. A row that differs from z in fewer than room
-// chunks of the heavy blocks is near, and nothing is said of it.
+// The marks of the loss states of the heavy blocks with these losses, where they are wanted. A row that differs from z in
+// fewer than room chunks of the heavy blocks is near, and nothing is said of it.
 pub fn prepare(
     l: Layout,
     y: &[u8],
@@ -779,6 +779,7 @@ pub fn prepare(
     known: &[u16],
     z: &[u8],
     room: usize,
+    wanted: bool,
     marks: &mut [u8],
 ) -> Prepared
     requires { ⌜ Fit l (now y) (now numbers) heavy × (Tables (now y) 0 (now totals) (now counts)
@@ -791,6 +792,13 @@ pub fn prepare(
         × (r .kept ≡ true → Through l (r .shape) (now (marks .exit)) own (apartFrom l heavy (now (z .entry)) vs)))) ⌝ }
 {
     let shape = states::shape_of(heavy.n, size);
+    if !wanted {
+        return Prepared {
+            shape,
+            kept: false,
+            none: false,
+        };
+    }
     if states::MOST_STATES < shape.states {
         return Prepared {
             shape,

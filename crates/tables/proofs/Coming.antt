@@ -1,11 +1,11 @@
 -- Rows that come through marked loss states, from one column to the next: what a row has left is what its table has
 -- left, a mark of its state covers what it can still differ in, and a column that it crosses takes it on. Rests on the
 -- laws of states. Assumes nothing.
-use Prim.Native.Nat.{ℕ, zero, _+_, _<_, _≤_}
+use Prim.Native.Nat.{ℕ, zero, suc, _+_, _<_, _≤_}
 use mathlib.Core.Path.{_≡_, sym, subst, _∙_}
 use mathlib.Core.Bool.{Bool, true}
 use mathlib.Core.Logic.{_⊎_, inl, inr, ⊎-elim}
-use mathlib.Core.List.{List}
+use mathlib.Core.List.{List, [], _∷_}
 use native.Mathlib.Nat.{mul-comm}
 use native.Mathlib.Omega.{arith}
 use lib.ListN.{length, getD}
@@ -17,14 +17,17 @@ use Rattle.rows.proofs.Held.{known-stays}
 use Rattle.message.specs.Layout.{rowBits}
 use Rattle.message.specs.declared.Layout.{Layout}
 use Rattle.message.proofs.Legal.{legal-bounds, sizes}
+use Rattle.consistent.specs.Greedy.{inAll}
 use Rattle.lines.specs.Lines.{values}
 use Rattle.found.specs.Found.{Given, Holding, Grown}
 use Rattle.found.proofs.Found.{grown-rows}
-use Rattle.states.specs.States.{state, each, stateOf}
+use Rattle.states.specs.States.{state, each, lefts, entryAt, stateOf}
 use Rattle.states.specs.declared.Shape.{Shape}
 use Rattle.states.proofs.States.{state-low, state-same, state-up, state-only, digitsOf, state-of, digits-most}
 use Rattle.column.specs.Column.{Fit, Light, Crosses, apartIn}
 use Rattle.column.specs.declared.Heavy.{Heavy}
+use Rattle.residues.specs.Residues.{Has}
+use Rattle.sums.specs.Sums.{Short, blockModulus, rest, Holds, restAt, HoldsFrom}
 use Rattle.marks.specs.Marks.{Covers, apartFrom}
 use Rattle.marks.proofs.Paths.{apart-next, path-most, crosses-same}
 use Rattle.tables.specs.Tables.{Sound, Under, ownLeft, ShapeOf, IsMark, Looked, apart, NearKnown, Comes}
@@ -46,6 +49,17 @@ fits {l} given sound =
       inside = sound .inside;
       ascending = sound .ascending;
     }
+
+-- a heavy block has few losses left
+one-of : (counts : List ℕ) (s : ℕ) → getD counts s 0 ≤ inAll counts
+unfolding inAll
+one-of [] s = omega arith
+one-of (a ∷ counts) zero = omega arith
+one-of (a ∷ counts) (suc s) = omega (arith, one-of counts s)
+
+pub few-left : {l : Layout} {m : ℕ} {heavy : Heavy} {t : Table} → Sound l m heavy t → (s : ℕ)
+    → each (t .left) s < lefts
+few-left {t = t} sound s = omega (arith, sound .room, one-of (t .left) s)
 
 -- a table at the start of a column has as much left as the rows under it
 pub left-own : {l : Layout} {y : List ℕ} {heavy : Heavy} {j : ℕ} {t : Table} {x : List ℕ} → Under l y heavy j 0 t x
@@ -90,8 +104,8 @@ left-state {shape = shape} {left} next to of low is =
     same = is own most (sym number)
 
 -- ---- a row under a table at the start of a column
-module _ {l : Layout} {y numbers : List ℕ} {heavy : Heavy} {shape : Shape} {known marks z : List ℕ} {differ j : ℕ}
-    {x : List ℕ} (comes : Comes l y numbers heavy shape known marks z differ j x) where
+module _ {l : Layout} {y numbers : List ℕ} {heavy : Heavy} {shape : Shape} {known marks rests z sets : List ℕ} {differ j : ℕ}
+    {x : List ℕ} (comes : Comes l y numbers heavy shape known marks rests z sets differ j x) where
   -- a mark of its state in a column covers what it can still differ in
   pub comes-covered : (k mark : ℕ) → k ≤ l .l2 → IsMark shape marks k (stateOf shape (ownLeft l y heavy x k)) mark
       → Covers mark (apartFrom l heavy z (values l x) k)
@@ -105,10 +119,11 @@ module _ {l : Layout} {y numbers : List ℕ} {heavy : Heavy} {shape : Shape} {kn
       omega (arith, none, comes-covered k mark h (subst (λ (v : ℕ). IsMark shape marks k v mark) (sym e) is) .0)
 
   -- where that is too little, the row is near
-  pub comes-near : (mark room : ℕ) → j ≤ l .l2 → IsMark shape marks j (stateOf shape (ownLeft l y heavy x j)) mark
-      → ((n : ℕ) → Covers mark n → differ + n < room) → apart l z x < room
-  comes-near mark room h is low =
-      omega (arith, comes .within, low (apartFrom l heavy z (values l x) j) (comes-covered j mark h is))
+  pub comes-near : (k so-far mark room : ℕ) → k ≤ l .l2 → apart l z x ≤ so-far + apartFrom l heavy z (values l x) k
+      → IsMark shape marks k (stateOf shape (ownLeft l y heavy x k)) mark
+      → ((n : ℕ) → Covers mark n → so-far + n < room) → apart l z x < room
+  comes-near k so-far mark room h within is low =
+      omega (arith, within, low (apartFrom l heavy z (values l x) k) (comes-covered k mark h is))
 
   -- it never has more left than at first
   pub comes-most : (k s : ℕ) → k ≤ l .l2 → s < heavy .n → ownLeft l y heavy x k s ≤ each (shape .size) s
@@ -123,9 +138,9 @@ module _ {l : Layout} {y numbers : List ℕ} {heavy : Heavy} {shape : Shape} {kn
       (is (ownLeft l y heavy x k) (λ r g. comes-most k r h (omega (arith, of .blocks))) (sym e) s
       (omega (arith, of .blocks)))
 
-module _ {l : Layout} {y numbers : List ℕ} {heavy : Heavy} {shape : Shape} {known marks z : List ℕ} {differ j : ℕ}
+module _ {l : Layout} {y numbers : List ℕ} {heavy : Heavy} {shape : Shape} {known marks rests z sets : List ℕ} {differ j : ℕ}
     {t : Table} {x : List ℕ} (column : j < l .l2)
-    (u : UnderMarks l y numbers heavy shape known marks z differ j t x) where
+    (u : UnderMarks l y numbers heavy shape known marks rests z sets differ j t x) where
   -- the row loses a bit in the column, or has as much left after it
   pub loses-or-not : {left : List ℕ} → ShapeOf heavy shape left
       → (stateOf shape (ownLeft l y heavy x (j + 1)) < stateOf shape (each (t .left)))
@@ -157,29 +172,70 @@ module _ {l : Layout} {y numbers : List ℕ} {heavy : Heavy} {shape : Shape} {kn
           (omega (arith, up, h))
 
   -- it crosses the column to what it has left after it
-  module _ {next : ℕ → ℕ} (own : (s : ℕ) → s < heavy .n → ownLeft l y heavy x (j + 1) s ≡ next s) {r : ℕ}
-      (crossing : (row vs : List ℕ) → Light l heavy row known → Crosses l y numbers heavy row j (each (t .left)) next vs
-      → apartIn l heavy z vs j (heavy .n) < r) where
-    pub crossed : apartIn l heavy z (values l x) j (heavy .n) < r
-    crossed =
-        crossing (u .1 .row) (values l x) (u .1 .light)
-        (crosses-same l y numbers heavy _ j (values l x) _ _ _ _ (left-own (u .0)) own (u .1 .path .crosses j column))
+  module _ {next : ℕ → ℕ} (own : (s : ℕ) → s < heavy .n → ownLeft l y heavy x (j + 1) s ≡ next s) where
+    crosses : Crosses l y numbers heavy (u .1 .row) j (each (t .left)) next (values l x)
+    crosses = crosses-same l y numbers heavy _ j (values l x) _ _ _ _ (left-own (u .0)) own (u .1 .path .crosses j column)
 
-    -- and comes on
-    module _ (more : ℕ) (add : r ≤ more + 1) where
-      pub comes-next : Comes l y numbers heavy shape known marks z (differ + more) (j + 1) x
-      comes-next =
-          record {
-            row = u .1 .row;
-            light = u .1 .light;
-            path = u .1 .path;
-            through = u .1 .through;
-            within = omega (arith, u .1 .within, apart-next l heavy z (values l x) j column, crossed);
-          }
+    -- so the numbers of losses that it has left after it are choices
+    pub leaves : (can : List ℕ)
+        → ((row vs : List ℕ) (next : ℕ → ℕ) → Crosses l y numbers heavy row j (each (t .left)) next vs
+        → Holds l heavy sets vs j
+        → (Short l → (s : ℕ) → s < heavy .n
+        → Has (blockModulus l) (getD rests (restAt (j + 1) s (next s)) 0) (rest l heavy vs (j + 1) s))
+        → (s : ℕ) → s < heavy .n → 0 < getD can (entryAt s (next s)) 0)
+        → (s : ℕ) → s < heavy .n → 0 < getD can (entryAt s (next s)) 0
+    leaves can choices =
+        choices (u .1 .row) (values l x) next crosses (u .1 .sums)
+        (λ short s h.
+        subst (λ (v : ℕ). Has (blockModulus l) (getD rests (restAt (j + 1) s v) 0) (rest l heavy (values l x) (j + 1) s))
+        (own s h) (u .1 .rest-sums short (j + 1) s (omega arith) (omega arith) h))
 
-      pub under-next : {ok : Bool} {new : Table} → Row (rowBits l) x → Stepped l y heavy j next t ok new
-          → (ok ≡ true) × UnderMarks l y numbers heavy shape known marks z (differ + more) (j + 1) new x
-      under-next row stepped = let n = stepped .under x row (u .0) own in (n .0, (n .1, comes-next))
+    -- and what its heavy blocks bring from there on is in the sets after it
+    module _ (fresh : List ℕ)
+        (after : (row vs : List ℕ) → Light l heavy row known
+        → Crosses l y numbers heavy row j (each (t .left)) next vs
+        → Holds l heavy sets vs j → Holds l heavy fresh vs (j + 1)) where
+      sums-next : Holds l heavy fresh (values l x) (j + 1)
+      sums-next = after (u .1 .row) (values l x) (u .1 .light) crosses (u .1 .sums)
+
+      -- which have it in common with what they can bring
+      pub sums-meet : {ok : Bool}
+          → ((vs : List ℕ) (left : ℕ → ℕ → ℕ) → Holds l heavy fresh vs (j + 1) → HoldsFrom l heavy rests vs left 0
+          → ((s : ℕ) → s < heavy .n → left (j + 1) s ≡ next s) → ok ≡ true)
+          → ok ≡ true
+      sums-meet meets = meets (values l x) (ownLeft l y heavy x) sums-next (u .1 .rest-sums) own
+
+    module _ {r : ℕ}
+        (crossing : (row vs : List ℕ) → Light l heavy row known
+        → Crosses l y numbers heavy row j (each (t .left)) next vs
+        → apartIn l heavy z vs j (heavy .n) < r) where
+      pub crossed : apartIn l heavy z (values l x) j (heavy .n) < r
+      crossed = crossing (u .1 .row) (values l x) (u .1 .light) crosses
+
+      module _ (more : ℕ) (add : r ≤ more + 1) where
+        pub within-next : apart l z x ≤ differ + more + apartFrom l heavy z (values l x) (j + 1)
+        within-next = omega (arith, u .1 .within, apart-next l heavy z (values l x) j column, crossed)
+
+        -- and comes on
+        module _ (fresh : List ℕ)
+            (after : (row vs : List ℕ) → Light l heavy row known
+            → Crosses l y numbers heavy row j (each (t .left)) next vs
+            → Holds l heavy sets vs j → Holds l heavy fresh vs (j + 1)) where
+          comes-next : Comes l y numbers heavy shape known marks rests z fresh (differ + more) (j + 1) x
+          comes-next =
+              record {
+                row = u .1 .row;
+                light = u .1 .light;
+                path = u .1 .path;
+                through = u .1 .through;
+                sums = sums-next fresh after;
+                rest-sums = u .1 .rest-sums;
+                within = within-next;
+              }
+
+          pub under-next : {ok : Bool} {new : Table} → Row (rowBits l) x → Stepped l y heavy j next t ok new
+              → (ok ≡ true) × UnderMarks l y numbers heavy shape known marks rests z fresh (differ + more) (j + 1) new x
+          under-next row stepped = let n = stepped .under x row (u .0) own in (n .0, (n .1, comes-next))
 
 -- ---- the table after a column
 module _ {l : Layout} {y : List ℕ} {heavy : Heavy} {j : ℕ} {next : ℕ → ℕ} {t : Table} {ok : Bool} {new : Table}

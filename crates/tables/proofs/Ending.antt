@@ -9,7 +9,8 @@ use lib.ListN.{length, getD, drop}
 use Rattle.bits.specs.Bits.{number}
 use Rattle.message.specs.declared.Layout.{Layout}
 use Rattle.message.proofs.Fields.{field-room}
-use Rattle.lines.specs.Lines.{values}
+use Rattle.vt.specs.Sum.{sum}
+use Rattle.lines.specs.Lines.{values, line}
 use Rattle.lines.proofs.Lines.{block-line, value-low}
 use Rattle.found.specs.Found.{Given, Sent}
 use Rattle.found.proofs.Found.{sent-parts}
@@ -20,6 +21,11 @@ use Rattle.tables.specs.Tables.{lostBefore, Loses, Sound, Under}
 use Rattle.tables.specs.declared.Table.{Table}
 use Rattle.tables.proofs.Chunk.{chunk-inside, lost-grows, lost-before, chunk-there, chunk-read}
 use Rattle.tables.proofs.Making.{reached-not, end-at}
+
+-- a block of a consistent row has its sum
+pub block-sum : {l : Layout} {numbers y : List ℕ} → Given l numbers y → (x : List ℕ) → Sent l numbers y x → (i : ℕ)
+    → i < l .l1 → sum (line (l .nc) (i * l .l2) 1 (l .l2) (values l x)) ≡ getD numbers i 0
+block-sum {l} given x sent i h = sym (block-line l x (sent .0) i h) ∙ sent-parts given x sent .blocks i h
 
 module _ {l : Layout} {numbers y : List ℕ} {heavy : Heavy} {t : Table} {x : List ℕ} {j : ℕ} (given : Given l numbers y)
     (sent : Sent l numbers y x) (sound : Sound l (length y) heavy t) (u : Under l y heavy j 0 t x) (h : ℕ)
@@ -73,7 +79,5 @@ module _ {l : Layout} {numbers y : List ℕ} {heavy : Heavy} {t : Table} {x : Li
             (u .decided i c (sound .inside h some) b);
         lose = λ z o e. (value-low l x (sent .0) (chunkOf l (t .cells) z), u .loses z o);
         later = later;
-        has-sum =
-            sym (block-line l x (sent .0) i (sound .inside h some))
-            ∙ sent-parts given x sent .blocks i (sound .inside h some);
+        has-sum = block-sum given x sent i (sound .inside h some);
       }

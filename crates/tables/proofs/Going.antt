@@ -18,6 +18,7 @@ use Rattle.states.specs.declared.Shape.{Shape}
 use Rattle.states.proofs.States.{state-same}
 use Rattle.column.specs.Column.{Light, Crosses, apartIn}
 use Rattle.column.specs.declared.Heavy.{Heavy}
+use Rattle.sums.specs.Sums.{Holds}
 use Rattle.marks.specs.Marks.{Covers}
 use Rattle.tables.specs.Tables.{Sound, Whole, ownLeft, ShapeOf, IsMark, Looked, NearKnown, UnderMarks}
 use Rattle.tables.specs.Tables.{Stepped}
@@ -29,8 +30,8 @@ use Rattle.tables.proofs.Coming.{shape-next, state-next, looked-next}
 -- in column c with the table now: what finds the rows under it, from the list slice as it is, finds those of P from the
 -- start
 pub record Going (l : Layout) (y totals counts numbers : List ℕ) (heavy : Heavy) (shape : Shape)
-    (known marks z : List ℕ) (room cap : ℕ) (P : List ℕ → Type 0) (entry : List ℕ) (d : ℕ) (m : Bool) (top : ℕ)
-    (list : List ℕ) (now : Table) (apart e : ℕ) (o : Bool) (c : ℕ) : Type 0 where
+    (known marks rests z : List ℕ) (room cap : ℕ) (P : List ℕ → Type 0) (entry : List ℕ) (d : ℕ) (m : Bool) (top : ℕ)
+    (list : List ℕ) (now : Table) (sets : List ℕ) (apart e : ℕ) (o : Bool) (c : ℕ) : Type 0 where
   pub inside : c ≤ l .l2
   pub holding : Holding l numbers y cap list e o
   pub long : length list ≡ length entry
@@ -40,23 +41,23 @@ pub record Going (l : Layout) (y totals counts numbers : List ℕ) (heavy : Heav
   pub looked : Looked l y totals counts known z apart c
   pub near : NearKnown l numbers y (rowsIn (rowBits l) list e o) z room
   pub joins : (exit : List ℕ) (f : ℕ) (q : Bool)
-      → Grown l numbers y cap (UnderMarks l y numbers heavy shape known marks z apart c now) list e o exit f q
+      → Grown l numbers y cap (UnderMarks l y numbers heavy shape known marks rests z sets apart c now) list e o exit f q
       → Grown l numbers y cap P entry d m exit f q
 
-module _ {l : Layout} {y totals counts numbers : List ℕ} {heavy : Heavy} {shape : Shape} {known marks z : List ℕ}
+module _ {l : Layout} {y totals counts numbers : List ℕ} {heavy : Heavy} {shape : Shape} {known marks rests z : List ℕ}
     {room cap : ℕ} {P : List ℕ → Type 0} {entry : List ℕ} {d : ℕ} {m : Bool} {top : ℕ} {list : List ℕ} {now : Table}
-    {apart e : ℕ} {o : Bool} {c : ℕ}
-    (going : Going l y totals counts numbers heavy shape known marks z room cap P entry d m top list now apart e o
-    c) where
+    {sets : List ℕ} {apart e : ℕ} {o : Bool} {c : ℕ}
+    (going : Going l y totals counts numbers heavy shape known marks rests z room cap P entry d m top list now sets
+    apart e o c) where
   -- the state's mark leaves no room for a row that is not known
   pub going-near : (mark : ℕ) → IsMark shape marks c (stateOf shape (each (now .left))) mark
       → ((n : ℕ) → Covers mark n → apart + n < room) → Grown l numbers y cap P entry d m list e o
   going-near mark is low =
       going .joins list e o
       (grown-none (going .holding)
-      (λ x sent u. going .near x sent (comes-near (u .1) mark room (going .inside) (own-mark x u) low)))
+      (λ x sent u. going .near x sent (comes-near (u .1) c apart mark room (going .inside) (u .1 .within) (own-mark x u) low)))
     where
-      own-mark : (x : List ℕ) → UnderMarks l y numbers heavy shape known marks z apart c now x
+      own-mark : (x : List ℕ) → UnderMarks l y numbers heavy shape known marks rests z sets apart c now x
           → IsMark shape marks c (stateOf shape (ownLeft l y heavy x c)) mark
       own-mark x u =
           let of = going .shaped in
@@ -74,7 +75,7 @@ module _ {l : Layout} {y totals counts numbers : List ℕ} {heavy : Heavy} {shap
 
   -- the rows that lose a bit in the column are found
   module _ (column : c < l .l2) {mid : List ℕ} {f : ℕ} {q : Bool}
-      (g : Grown l numbers y cap (λ x. UnderMarks l y numbers heavy shape known marks z apart c now x
+      (g : Grown l numbers y cap (λ x. UnderMarks l y numbers heavy shape known marks rests z sets apart c now x
       × (stateOf shape (ownLeft l y heavy x (c + 1)) < stateOf shape (each (now .left)))) list e o mid f q) {r : ℕ}
       (crossing : (row vs : List ℕ) → Light l heavy row known
       → Crosses l y numbers heavy row c (each (now .left)) (each (now .left)) vs
@@ -82,7 +83,7 @@ module _ {l : Layout} {y totals counts numbers : List ℕ} {heavy : Heavy} {shap
     -- the others, those that have as much left after it
     abbrev Stays : List ℕ → Type 0
     Stays x =
-        UnderMarks l y numbers heavy shape known marks z apart c now x
+        UnderMarks l y numbers heavy shape known marks rests z sets apart c now x
         × ((s : ℕ) → s < heavy .n → ownLeft l y heavy x (c + 1) s ≡ each (now .left) s)
 
     joined : {exit : List ℕ} {h : ℕ} {p : Bool} → Grown l numbers y cap Stays mid f q exit h p
@@ -108,10 +109,14 @@ module _ {l : Layout} {y totals counts numbers : List ℕ} {heavy : Heavy} {shap
           going-lost (λ x sent u. false≢true (sym fails ∙ stepped .under x (sent .0) (u .0 .0) (u .1) .0))
 
       -- or they are under the next table
-      pub going-next : ok ≡ true → (more : ℕ) → r ≤ more + 1 → more ≤ 6
-          → Going l y totals counts numbers heavy shape known marks z room cap P entry d m top mid new (apart + more)
-          f q (c + 1)
-      going-next went more add few =
+      pub going-next : ok ≡ true → (fresh : List ℕ)
+          → ((row vs : List ℕ) → Light l heavy row known
+          → Crosses l y numbers heavy row c (each (now .left)) (each (now .left)) vs
+          → Holds l heavy sets vs c → Holds l heavy fresh vs (c + 1))
+          → (more : ℕ) → r ≤ more + 1 → more ≤ 6
+          → Going l y totals counts numbers heavy shape known marks rests z room cap P entry d m top mid new fresh
+          (apart + more) f q (c + 1)
+      going-next went fresh after more add few =
           record {
             inside = omega arith;
             holding = grown-holding (going .holding) g;
@@ -123,5 +128,5 @@ module _ {l : Layout} {y totals counts numbers : List ℕ} {heavy : Heavy} {shap
             near = near-stays z room (going .holding) g (going .near);
             joins = λ exit h p k.
                 joined
-                (grown-weaken (λ x sent u. under-next column (u .0) (u .1) crossing more add (sent .0) stepped .1) k);
+                (grown-weaken (λ x sent u. under-next column (u .0) (u .1) crossing more add fresh after (sent .0) stepped .1) k);
           }

@@ -19,10 +19,11 @@ use Rattle.cells.specs.declared.Cells.{Cells}
 use Rattle.windows.specs.Windows.{Tables}
 use Rattle.found.specs.Found.{Sent}
 use Rattle.anchor.specs.Anchor.{over}
-use Rattle.states.specs.States.{state, each, Shaped}
+use Rattle.states.specs.States.{state, each, entryAt, Shaped}
 use Rattle.states.specs.declared.Shape.{Shape}
 use Rattle.column.specs.Column.{chunkAt, Light}
 use Rattle.column.specs.declared.Heavy.{Heavy}
+use Rattle.sums.specs.Sums.{Holds, HoldsFrom}
 use Rattle.marks.specs.Marks.{Path, Through, apartFrom}
 use Rattle.tables.specs.declared.Table.{Table}
 
@@ -112,22 +113,30 @@ apart l z x = over (unlike (values l x) z) 0 (l .l1 * l .l2)
 abbrev pub NearKnown : (l : Layout) (numbers y : List ℕ) → Held → (z : List ℕ) (room : ℕ) → Type 0
 NearKnown l numbers y held z room = (x : List ℕ) → Sent l numbers y x → apart l z x < room → Known held x
 
--- the row x comes through marked loss states, and differs from z in at most differ chunks beside those of the heavy
--- blocks from column j on
-pub record Comes (l : Layout) (y numbers : List ℕ) (heavy : Heavy) (shape : Shape) (known marks z : List ℕ) (differ j : ℕ)
-    (x : List ℕ) : Type 0 where
+-- the row x comes through marked loss states, what its heavy blocks bring from column j on is in their sets, and it differs
+-- from z in at most differ chunks beside those of the heavy blocks from there on
+pub record Comes (l : Layout) (y numbers : List ℕ) (heavy : Heavy) (shape : Shape) (known marks rests z sets : List ℕ)
+    (differ j : ℕ) (x : List ℕ) : Type 0 where
   pub row : List ℕ
   pub light : Light l heavy row known
   pub path : Path l y numbers heavy row (each (shape .size)) (values l x) (ownLeft l y heavy x)
   pub through : Through l shape marks (ownLeft l y heavy x) (apartFrom l heavy z (values l x))
+  pub sums : Holds l heavy sets (values l x) j
+  pub rest-sums : HoldsFrom l heavy rests (values l x) (ownLeft l y heavy x) 0
   pub within : apart l z x ≤ differ + apartFrom l heavy z (values l x) j
 
 -- the row x is under the state, and comes through marked ones
-abbrev pub UnderMarks : (l : Layout) (y numbers : List ℕ) → Heavy → Shape → (known marks z : List ℕ) → (differ j : ℕ)
-    → Table
-    → (x : List ℕ) → Type 0
-UnderMarks l y numbers heavy shape known marks z differ j t x =
-    Under l y heavy j 0 t x × Comes l y numbers heavy shape known marks z differ j x
+abbrev pub UnderMarks : (l : Layout) (y numbers : List ℕ) → Heavy → Shape → (known marks rests z sets : List ℕ)
+    → (differ j : ℕ) → Table → (x : List ℕ) → Type 0
+UnderMarks l y numbers heavy shape known marks rests z sets differ j t x =
+    Under l y heavy j 0 t x × Comes l y numbers heavy shape known marks rests z sets differ j x
+
+-- every consistent row under the state leaves column j with numbers of losses left that are marked
+abbrev pub Leaves : (l : Layout) (y numbers : List ℕ) → Heavy → Shape → (known marks rests z sets : List ℕ)
+    → (differ j : ℕ) → Table → (can : List ℕ) → Type 0
+Leaves l y numbers heavy shape known marks rests z sets differ j t can =
+    (x : List ℕ) → Sent l numbers y x → UnderMarks l y numbers heavy shape known marks rests z sets differ j t x
+    → (s : ℕ) → s < heavy .n → 0 < getD can (entryAt s (ownLeft l y heavy x (j + 1) s)) 0
 
 -- the cells with one more
 abbrev pub pushed : Cells → (i j a place : ℕ) → Cells

@@ -29,6 +29,7 @@ ghost use Rattle.tables.specs.Tables.{
   Looked,
   NearKnown,
   UnderMarks,
+  Leaves,
 };
 use cells::Cells;
 use column::Heavy;
@@ -265,10 +266,12 @@ fn columns(
     shape: Shape,
     known: &[u16],
     marks: &[u8],
+    rests: &[u64],
     z: &[u8],
     room: usize,
     j: usize,
     t: Table,
+    sets: [u64; states::MOST_HEAVY],
     differ: usize,
     cap: usize,
     list: &mut [u8],
@@ -279,11 +282,12 @@ fn columns(
         × (Looked l (now y) (now totals) (now counts) (now known) (now z) differ j
         × NearKnown l (now numbers) (now y) (rowsIn (rowBits l) (now list) (kept .count) (kept .more)) (now z) room))))) ⌝ }
     ensures { λ r. ⌜ Grown l (now (numbers .entry)) (now (y .entry)) cap
-        (UnderMarks l (now (y .entry)) (now (numbers .entry)) heavy shape (now (known .entry)) (now (marks .entry)) (now (z .entry))
-        differ j t)
+        (UnderMarks l (now (y .entry)) (now (numbers .entry)) heavy shape (now (known .entry)) (now (marks .entry))
+        (now (rests .entry)) (now (z .entry)) sets differ j t)
         (now (list .entry)) (kept .count) (kept .more) (now (list .exit)) (r .count) (r .more) ⌝ }
 {
     let mut now = t;
+    let mut held = sets;
     let mut apart = differ;
     let mut k = kept;
     let mut c = j;
@@ -304,10 +308,12 @@ fn columns(
             shape,
             known,
             marks,
+            rests,
             z,
             room,
             c,
             now,
+            held,
             apart,
             cap,
             list,
@@ -334,6 +340,8 @@ fn columns(
             return k;
         }
         now = read.table;
+        let fresh = sums::after(l, y, numbers, heavy, known, c, left, left, held);
+        held = fresh;
         apart += bits::wide(whole) - 1;
         c += 1;
     }
@@ -352,10 +360,12 @@ fn losses_here(
     shape: Shape,
     known: &[u16],
     marks: &[u8],
+    rests: &[u64],
     z: &[u8],
     room: usize,
     j: usize,
     t: Table,
+    sets: [u64; states::MOST_HEAVY],
     differ: usize,
     cap: usize,
     list: &mut [u8],
@@ -367,12 +377,13 @@ fn losses_here(
         × NearKnown l (now numbers) (now y) (rowsIn (rowBits l) (now list) (kept .count) (kept .more)) (now z) room))))) ⌝ }
     ensures { λ r. ⌜ Grown l (now (numbers .entry)) (now (y .entry)) cap
         (λ x. UnderMarks l (now (y .entry)) (now (numbers .entry)) heavy shape (now (known .entry)) (now (marks .entry))
-        (now (z .entry)) differ j t x
+        (now (rests .entry)) (now (z .entry)) sets differ j t x
         × (stateOf shape (ownLeft l (now (y .entry)) heavy x (j + 1)) < stateOf shape (each (t .left))))
         (now (list .entry)) (kept .count) (kept .more) (now (list .exit)) (r .count) (r .more) ⌝ }
 {
     let left = t.left;
     let q = states::number_of(shape, left);
+    let can = rests::choices(l, y, numbers, heavy, j, left, sets, rests);
     let mut k = kept;
     let mut to: usize = 0;
     while to < q {
@@ -388,10 +399,13 @@ fn losses_here(
                 shape,
                 known,
                 marks,
+                rests,
                 z,
                 room,
                 j,
                 t,
+                sets,
+                &can,
                 to,
                 mark,
                 differ,
@@ -416,10 +430,13 @@ fn losses_to(
     shape: Shape,
     known: &[u16],
     marks: &[u8],
+    rests: &[u64],
     z: &[u8],
     room: usize,
     j: usize,
     t: Table,
+    sets: [u64; states::MOST_HEAVY],
+    can: &[u8; rests::CHOICES],
     to: usize,
     mark: u8,
     differ: usize,
@@ -431,14 +448,18 @@ fn losses_to(
         × (Sound l (length (now y)) heavy t × ((j < l .l2) × (ShapeOf heavy shape (t .left)
         × (Looked l (now y) (now totals) (now counts) (now known) (now z) differ j
         × NearKnown l (now numbers) (now y) (rowsIn (rowBits l) (now list) (kept .count) (kept .more)) (now z) room))))))
-        × ((to < stateOf shape (each (t .left))) × IsMark shape (now marks) (j + 1) to mark) ⌝ }
+        × (((to < stateOf shape (each (t .left))) × IsMark shape (now marks) (j + 1) to mark)
+        × Leaves l (now y) (now numbers) heavy shape (now known) (now marks) (now rests) (now z) sets differ j t (now can)) ⌝ }
     ensures { λ r. ⌜ Grown l (now (numbers .entry)) (now (y .entry)) cap
         (λ x. UnderMarks l (now (y .entry)) (now (numbers .entry)) heavy shape (now (known .entry)) (now (marks .entry))
-        (now (z .entry)) differ j t x × (stateOf shape (ownLeft l (now (y .entry)) heavy x (j + 1)) ≡ to))
+        (now (rests .entry)) (now (z .entry)) sets differ j t x × (stateOf shape (ownLeft l (now (y .entry)) heavy x (j + 1)) ≡ to))
         (now (list .entry)) (kept .count) (kept .more) (now (list .exit)) (r .count) (r .more) ⌝ }
 {
     let left = t.left;
     let next = states::losses_left(shape, to);
+    if !rests::all_can(heavy.n, next, can) {
+        return kept;
+    }
     let here = column::crossing(
         l,
         y,
@@ -459,6 +480,10 @@ fn losses_to(
     if !hopeful(mark, apart, room) {
         return kept;
     }
+    let fresh = sums::after(l, y, numbers, heavy, known, j, left, next, sets);
+    if !sums::all_meet(l, heavy, j + 1, next, fresh, rests) {
+        return kept;
+    }
     let s = step(l, y, heavy, j, next, t);
     if !s.ok {
         return kept;
@@ -477,10 +502,12 @@ fn losses_to(
         shape,
         known,
         marks,
+        rests,
         z,
         room,
         j + 1,
         table,
+        fresh,
         apart,
         cap,
         list,
@@ -518,6 +545,19 @@ fn apart_light(l: Layout, heavy: Heavy, row: [u8; 255], z: &[u8]) -> usize
         i += 1;
     }
     count
+}
+
+// With so few columns the loss states of a short layout are gone through in less time than they are marked.
+const FEW_COLUMNS: usize = 3;
+
+// Whether loss states are to be marked.
+fn marks_pay(l: Layout) -> bool
+    requires { ⌜ legal l ≡ true ⌝ }
+{
+    if l.l2 <= FEW_COLUMNS {
+        return !sums::is_short(l);
+    }
+    true
 }
 
 // The most marks of loss states: they are kept where they are enough.
@@ -570,11 +610,15 @@ pub fn tables(
         &known,
         z,
         rest,
+        marks_pay(l),
         &mut marks,
     );
     if p.none {
         return kept;
     }
+    let sets = sums::at_first(l, numbers, heavy);
+    let mut brings: [u64; rests::RESTS] = [0; rests::RESTS];
+    rests::fill(l, y, numbers, heavy, left, &mut brings);
     if p.kept {
         return columns(
             l,
@@ -586,10 +630,12 @@ pub fn tables(
             p.shape,
             &known,
             &marks,
+            &brings,
             z,
             room,
             0,
             t,
+            sets,
             light,
             cap,
             list,
@@ -606,10 +652,12 @@ pub fn tables(
         p.shape,
         &known,
         &marks[0..0],
+        &brings,
         z,
         room,
         0,
         t,
+        sets,
         light,
         cap,
         list,

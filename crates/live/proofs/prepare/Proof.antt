@@ -18,47 +18,42 @@ abbrev begin : tie.After-shape-of → tie.Start
 begin c = known-half c .before .before .before .before
 
 -- where the shape is known, seen from where the marks have room
-abbrev formed : tie.Else2 → tie.After-shape-of
-formed c = c .before .before .before .before .before
+abbrev formed : tie.Else3 → tie.After-shape-of
+formed c = c .before .before .before .before .before .before
 
 shape-of-requires : tie.Need-shape-of-requires
 shape-of-requires c κs = search needs
 
 returns : tie.Need-returns
 returns c =
-    let g = c .before .before .shape-of in (
-      g .ensures .0,
-      (
-        g .ensures .1,
-        λ row vs own light path far. (λ e. false≢true e, λ e. absurd (false≢true e)),
-      ),
-    )
+    let g = c .before .shape-of in
+    (g .ensures .0, (g .ensures .1, λ row vs own light path far. (λ e. false≢true e, λ e. absurd (false≢true e))))
 
-add-if2 : tie.Need-add-if2
-add-if2 c = search needs
+returns-2 : tie.Need-returns-2
+returns-2 c =
+    let g = c .before .before .before .shape-of in
+    (g .ensures .0, (g .ensures .1, λ row vs own light path far. (λ e. false≢true e, λ e. absurd (false≢true e))))
 
-mul-if2 : tie.Need-mul-if2
-mul-if2 c =
-    let h = c .before .before .before .before in
+add-if3 : tie.Need-add-if3
+add-if3 c = search needs
+
+mul-if3 : tie.Need-mul-if3
+mul-if3 c =
+    let h = c .before .before .before .before .before in
     let s = begin h in
     record {
       fits = omega (
         arith,
         mul-le-mul {n₁ = s .args .l .l2 + 1} {m₁ = h .shape-of .result .states} {n₂ = 256} {m₂ = 729}
             (omega (arith, sizes (s .args .l) (legal-bounds (s .args .l) (s .pre .0 .allowed)) .l2-high))
-            (c .before .before .if1 .left),
+            (c .before .before .if2 .left),
       );
     }
 
-returns-2 : tie.Need-returns-2
-returns-2 c =
-    let g = c .before .before .before .before .before .shape-of in (
-      g .ensures .0,
-      (
-        g .ensures .1,
-        λ row vs own light path far. (λ e. false≢true e, λ e. absurd (false≢true e)),
-      ),
-    )
+returns-3 : tie.Need-returns-3
+returns-3 c =
+    let g = c .before .before .before .before .before .before .shape-of in
+    (g .ensures .0, (g .ensures .1, λ row vs own light path far. (λ e. false≢true e, λ e. absurd (false≢true e))))
 
 fill-marks-requires : tie.Need-fill-marks-requires
 fill-marks-requires c κs =
@@ -69,18 +64,18 @@ fill-marks-requires c κs =
       (
         record {
           blocks = g .ensures .0 .0;
-          few = c .before .before .before .before .if1 .left;
+          few = c .before .before .before .before .if2 .left;
           shaped = g .ensures .1;
         },
-        c .before .if2 .left,
+        c .before .if3 .left,
       ),
     )
 
 same-length : tie.Need-same-length
 same-length c = search needs
 
-returns-3 : tie.Need-returns-3
-returns-3 c =
+returns-4 : tie.Need-returns-4
+returns-4 c =
     let f = c .before .before .fill-marks in
     let g = formed (c .before .before .before .before) .shape-of in
     let e = f .ensures .0 in (
@@ -98,9 +93,10 @@ prepare-spec =
     (tie.spec
     shape-of-requires
     returns
-    add-if2
-    mul-if2
     returns-2
+    add-if3
+    mul-if3
+    returns-3
     fill-marks-requires
     same-length
-    returns-3)
+    returns-4)

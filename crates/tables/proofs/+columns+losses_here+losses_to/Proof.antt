@@ -16,11 +16,13 @@ use borrow.Fn.PlainCycle.{Measures, is, falls, and}
 use Rattle.message.proofs.Legal.{legal-bounds, sizes}
 use Rattle.found.specs.Found.{Grown}
 use Rattle.found.proofs.Found.{grown-length, grown-holding, grown-none, grown-nothing, grown-weaken, grown-turn}
-use Rattle.states.specs.States.{each, stateOf}
+use lib.ListN.{getD}
+use Rattle.states.specs.States.{each, entryAt, stateOf}
 use Rattle.tables.specs.Tables.{ownLeft, IsMark, UnderMarks}
 use Rattle.tables.proofs.Making.{no-single}
-use Rattle.tables.proofs.Coming.{fits, near-stays, left-state, comes-marked, comes-near, own-left, crossed}
-use Rattle.tables.proofs.Coming.{comes-next, under-next, shape-next, state-next, looked-next}
+use Rattle.tables.proofs.Coming.{fits, few-left, near-stays, left-state, comes-marked, comes-near, own-left}
+use Rattle.tables.proofs.Coming.{leaves, sums-meet, crossed, within-next, under-next}
+use Rattle.tables.proofs.Coming.{shape-next, state-next, looked-next}
 use Rattle.tables.proofs.Going.{Going, going-near, going-end, going-uncrossed, going-unread, going-next}
 use Rattle.tables.proofs.columns.Reads as columns
 use Rattle.tables.proofs.columns.Kinds as columns-kinds
@@ -36,6 +38,10 @@ use Rattle.column.proofs.crossing.Reads as crossing-reads
 use Rattle.marks.proofs.mark_at.Reads as mark-at-reads
 use Rattle.states.proofs.losses_left.Reads as losses-left-reads
 use Rattle.states.proofs.number_of.Reads as number-of-reads
+use Rattle.rests.proofs.all_can.Reads as all-can-reads
+use Rattle.rests.proofs.choices.Reads as choices-reads
+use Rattle.sums.proofs.after.Reads as after-reads
+use Rattle.sums.proofs.all_meet.Reads as all-meet-reads
 use Rattle.tables.proofs.all_end.Reads as all-end-reads
 use Rattle.tables.proofs.hopeful.Reads as hopeful-reads
 use Rattle.tables.proofs.mend_table.Reads as mend-table-reads
@@ -43,35 +49,35 @@ use Rattle.tables.proofs.step.Reads as step-reads
 use Rattle.tables.proofs.+columns+losses_here+losses_to.{statement}
 use Rattle.tables.proofs.+columns+losses_here+losses_to.Tie.{close}
 
-abbrev μ-columns : Measures 8 columns-kinds.ps ℕ
-μ-columns κs a = 3 * stateOf (a .1 .1 .1 .1 .1 .1 .0) (each (a .1 .1 .1 .1 .1 .1 .1 .1 .1 .1 .1 .1 .0 .left)) + 2
+abbrev μ-columns : Measures 9 columns-kinds.ps ℕ
+μ-columns κs a = 3 * stateOf (a .1 .1 .1 .1 .1 .1 .0) (each (a .1 .1 .1 .1 .1 .1 .1 .1 .1 .1 .1 .1 .1 .0 .left)) + 2
 
-abbrev μ-losses-here : Measures 8 losses-here-kinds.ps ℕ
-μ-losses-here κs a = 3 * stateOf (a .1 .1 .1 .1 .1 .1 .0) (each (a .1 .1 .1 .1 .1 .1 .1 .1 .1 .1 .1 .1 .0 .left)) + 1
+abbrev μ-losses-here : Measures 9 losses-here-kinds.ps ℕ
+μ-losses-here κs a = 3 * stateOf (a .1 .1 .1 .1 .1 .1 .0) (each (a .1 .1 .1 .1 .1 .1 .1 .1 .1 .1 .1 .1 .1 .0 .left)) + 1
 
-abbrev μ-losses-to : Measures 8 losses-to-kinds.ps ℕ
-μ-losses-to κs a = 3 * stateOf (a .1 .1 .1 .1 .1 .1 .0) (each (a .1 .1 .1 .1 .1 .1 .1 .1 .1 .1 .1 .1 .0 .left))
+abbrev μ-losses-to : Measures 10 losses-to-kinds.ps ℕ
+μ-losses-to κs a = 3 * stateOf (a .1 .1 .1 .1 .1 .1 .0) (each (a .1 .1 .1 .1 .1 .1 .1 .1 .1 .1 .1 .1 .1 .0 .left))
 
-abbrev columns-at : ℕ → In 8 columns-kinds.ps
-columns-at t = and 8 columns-kinds.ps (is 8 columns-kinds.ps μ-columns t) columns.Pre
+abbrev columns-at : ℕ → In 9 columns-kinds.ps
+columns-at t = and 9 columns-kinds.ps (is 9 columns-kinds.ps μ-columns t) columns.Pre
 
-abbrev columns-below : ℕ → In 8 columns-kinds.ps
-columns-below t = and 8 columns-kinds.ps (falls 8 columns-kinds.ps _<_ μ-columns t) columns.Pre
+abbrev columns-below : ℕ → In 9 columns-kinds.ps
+columns-below t = and 9 columns-kinds.ps (falls 9 columns-kinds.ps _<_ μ-columns t) columns.Pre
 
-abbrev losses-here-at : ℕ → In 8 losses-here-kinds.ps
+abbrev losses-here-at : ℕ → In 9 losses-here-kinds.ps
 losses-here-at t =
-    and 8 losses-here-kinds.ps (is 8 losses-here-kinds.ps μ-losses-here t) losses-here.Pre
+    and 9 losses-here-kinds.ps (is 9 losses-here-kinds.ps μ-losses-here t) losses-here.Pre
 
-abbrev losses-here-below : ℕ → In 8 losses-here-kinds.ps
+abbrev losses-here-below : ℕ → In 9 losses-here-kinds.ps
 losses-here-below t =
-    and 8 losses-here-kinds.ps (falls 8 losses-here-kinds.ps _<_ μ-losses-here t) losses-here.Pre
+    and 9 losses-here-kinds.ps (falls 9 losses-here-kinds.ps _<_ μ-losses-here t) losses-here.Pre
 
-abbrev losses-to-at : ℕ → In 8 losses-to-kinds.ps
-losses-to-at t = and 8 losses-to-kinds.ps (is 8 losses-to-kinds.ps μ-losses-to t) losses-to.Pre
+abbrev losses-to-at : ℕ → In 10 losses-to-kinds.ps
+losses-to-at t = and 10 losses-to-kinds.ps (is 10 losses-to-kinds.ps μ-losses-to t) losses-to.Pre
 
-abbrev losses-to-below : ℕ → In 8 losses-to-kinds.ps
+abbrev losses-to-below : ℕ → In 10 losses-to-kinds.ps
 losses-to-below t =
-    and 8 losses-to-kinds.ps (falls 8 losses-to-kinds.ps _<_ μ-losses-to t) losses-to.Pre
+    and 10 losses-to-kinds.ps (falls 10 losses-to-kinds.ps _<_ μ-losses-to t) losses-to.Pre
 
 -- what the three functions know of those that they call
 abbrev columns-claims : ℕ → columns-lts.Claims
@@ -88,6 +94,8 @@ columns-claims t = (
   crossing-reads.Learnt,
   step-reads.Asked,
   step-reads.Learnt,
+  after-reads.Asked,
+  after-reads.Learnt,
   wide-reads.Asked,
   wide-reads.Learnt,
   mend-table-reads.Asked,
@@ -98,6 +106,8 @@ abbrev losses-here-claims : ℕ → losses-here-lts.Claims
 losses-here-claims t = (
   number-of-reads.Asked,
   number-of-reads.Learnt,
+  choices-reads.Asked,
+  choices-reads.Learnt,
   mark-at-reads.Asked,
   mark-at-reads.Learnt,
   losses-to-below t,
@@ -108,12 +118,18 @@ abbrev losses-to-claims : ℕ → losses-to-lts.Claims
 losses-to-claims t = (
   losses-left-reads.Asked,
   losses-left-reads.Learnt,
+  all-can-reads.Asked,
+  all-can-reads.Learnt,
   crossing-reads.Asked,
   crossing-reads.Learnt,
   wide-reads.Asked,
   wide-reads.Learnt,
   hopeful-reads.Asked,
   hopeful-reads.Learnt,
+  after-reads.Asked,
+  after-reads.Learnt,
+  all-meet-reads.Asked,
+  all-meet-reads.Learnt,
   step-reads.Asked,
   step-reads.Learnt,
   all-end-reads.Asked,
@@ -123,15 +139,15 @@ losses-to-claims t = (
 )
 
 abbrev columns-Inv-loop : columns-lts.InvT-loop
-columns-Inv-loop l y totals counts numbers heavy shape known marks z room j differ cap list₀ now₀ apart₀ k₀ c₀ list now
-    apart k c =
-    Going l y totals counts numbers heavy shape known marks z room cap
-    (UnderMarks l y numbers heavy shape known marks z apart₀ c₀ now₀) list₀ (k₀ .count) (k₀ .more)
-    (stateOf shape (each (now₀ .left))) list now apart (k .count) (k .more) c
+columns-Inv-loop l y totals counts numbers heavy shape known marks rests z room j differ cap list₀ now₀ held₀ apart₀ k₀ c₀
+    list now held apart k c =
+    Going l y totals counts numbers heavy shape known marks rests z room cap
+    (UnderMarks l y numbers heavy shape known marks rests z held₀ apart₀ c₀ now₀) list₀ (k₀ .count) (k₀ .more)
+    (stateOf shape (each (now₀ .left))) list now held apart (k .count) (k .more) c
 
 abbrev columns-μ-loop : columns-lts.MeasureT-loop
-columns-μ-loop l y totals counts numbers heavy shape known marks z room j differ cap list₀ now₀ apart₀ k₀ c₀ list now
-    apart k c =
+columns-μ-loop l y totals counts numbers heavy shape known marks rests z room j differ cap list₀ now₀ held₀ apart₀ k₀ c₀
+    list now held apart k c =
     l .l2 - c
 
 -- where `columns` starts: the place where all slices are known, and from there, where half of them are, and the start
@@ -142,7 +158,7 @@ Known t = columns-lts.After-slice-known (columns-claims t) (columns-at t) column
 abbrev known-half : (t : ℕ) → Known t
     → columns-lts.After-shared-slice-known4 (columns-claims t) (columns-at t) columns.Post columns-Inv-loop
     columns-μ-loop
-known-half t c = c .before .before .before .before
+known-half t c = c .before .before .before .before .before
 
 abbrev start : (t : ℕ) → Known t → columns-lts.Start (columns-claims t) (columns-at t) columns.Post columns-Inv-loop
     columns-μ-loop
@@ -304,6 +320,15 @@ columns-returns-3 t c =
     going-unread (w .before .before .loop .inv) (w .if1 .taken) (k .before .before .losses-here .ensures)
     (q .before .before .crossing .ensures .0) (q .step .ensures) (not-true _ (c .if4 .taken))
 
+columns-after-requires : (t : ℕ)
+    → columns-lts.Need-after-requires (columns-claims t) (columns-at t) columns.Post columns-Inv-loop
+    columns-μ-loop
+columns-after-requires t c κs =
+    let w = turn t (found t (c .before .before .before)) in
+    let i = w .before .before in
+    let g = i .loop .inv in
+    (fits (start t (i .before) .pre .1 .0) (g .sound), (w .if1 .taken, g .looked .sums))
+
 columns-wide-requires : (t : ℕ)
     → columns-lts.Need-wide-requires (columns-claims t) (columns-at t) columns.Post columns-Inv-loop
     columns-μ-loop
@@ -312,13 +337,13 @@ columns-wide-requires t c κs = search needs
 columns-sub-apart : (t : ℕ)
     → columns-lts.Need-sub-apart (columns-claims t) (columns-at t) columns.Post columns-Inv-loop
     columns-μ-loop
-columns-sub-apart t c = omega (arith, c .wide .ensures, c .before .before .before .before .before .if3 .left)
+columns-sub-apart t c = omega (arith, c .wide .ensures, c .before .before .before .before .before .before .if3 .left)
 
 columns-add-apart : (t : ℕ)
     → columns-lts.Need-add-apart (columns-claims t) (columns-at t) columns.Post columns-Inv-loop
     columns-μ-loop
 columns-add-apart t c =
-    let e = c .before .before .before .before .before in
+    let e = c .before .before .before .before .before .before in
     let i = turn t (e .before .before) .before .before in
     omega (arith, high t i .1, c .wide .ensures, e .before .crossing .ensures .1)
 
@@ -326,27 +351,28 @@ columns-add-c : (t : ℕ)
     → columns-lts.Need-add-c (columns-claims t) (columns-at t) columns.Post columns-Inv-loop
     columns-μ-loop
 columns-add-c t c =
-    let i = turn t (found t (c .before .before .before .before)) .before .before in
+    let i = turn t (found t (c .before .before .before .before .before)) .before .before in
     omega (arith, high t i .0)
 
 columns-loop-less : (t : ℕ)
     → columns-lts.Need-loop-less (columns-claims t) (columns-at t) columns.Post columns-Inv-loop
     columns-μ-loop
 columns-loop-less t c =
-    let w = turn t (found t (c .before .before .before .before)) in
+    let w = turn t (found t (c .before .before .before .before .before)) in
     omega (arith, w .if1 .taken)
 
 columns-loop-again : (t : ℕ)
     → columns-lts.Need-loop-again (columns-claims t) (columns-at t) columns.Post columns-Inv-loop
     columns-μ-loop
 columns-loop-again t c =
-    let f = c .before .before in
+    let f = c .before .before .before in
     let q = f .before .before in
     let k = found t q in
     let w = turn t k in
     let crossing = q .before .before .crossing .ensures in
     going-next (w .before .before .loop .inv) (w .if1 .taken) (k .before .before .losses-here .ensures) (crossing .0)
-    (q .step .ensures) (not-false _ (f .if4 .left)) (c .wide .result - 1)
+    (q .step .ensures) (not-false _ (f .if4 .left)) (c .before .after .result) (c .before .after .ensures)
+    (c .wide .result - 1)
     (omega (arith, c .wide .ensures, q .before .if3 .left)) (omega (arith, c .wide .ensures, crossing .1))
 
 columns-mend-table-requires : (t : ℕ)
@@ -374,17 +400,19 @@ columns-returns-4 t c =
     going-end (e .before .before .loop .inv) (e .if1 .left) (f .mend-table .ensures)
 
 abbrev losses-here-Inv-loop : losses-here-lts.InvT-loop
-losses-here-Inv-loop l y totals counts numbers heavy shape known marks z room j t differ cap list₀ q k₀ to₀ list k to =
+losses-here-Inv-loop l y totals counts numbers heavy shape known marks rests z room j t sets differ cap list₀ q can k₀
+    to₀ list k to =
     Grown l numbers y cap
-    (λ x. UnderMarks l y numbers heavy shape known marks z differ j t x
+    (λ x. UnderMarks l y numbers heavy shape known marks rests z sets differ j t x
     × (stateOf shape (ownLeft l y heavy x (j + 1)) < to)) list₀ (k₀ .count) (k₀ .more) list (k .count) (k .more)
 
 abbrev losses-here-μ-loop : losses-here-lts.MeasureT-loop
-losses-here-μ-loop l y totals counts numbers heavy shape known marks z room j t differ cap list₀ q k₀ to₀ list k to =
+losses-here-μ-loop l y totals counts numbers heavy shape known marks rests z room j t sets differ cap list₀ q can k₀
+    to₀ list k to =
     q - to
 
 -- where `losses_here` starts: the place where all is at hand, and from there, where half of the slices are known, and the
--- start; and the start, seen from where the state's number is known
+-- start; and the start, seen from where the choices are known
 abbrev Here-known : ℕ → Type 0
 Here-known t = losses-here-lts.After-left (losses-here-claims t) (losses-here-at t) losses-here.Post
     losses-here-Inv-loop losses-here-μ-loop
@@ -392,7 +420,7 @@ Here-known t = losses-here-lts.After-left (losses-here-claims t) (losses-here-at
 abbrev here-half : (t : ℕ) → Here-known t
     → losses-here-lts.After-shared-slice-known4 (losses-here-claims t) (losses-here-at t) losses-here.Post
     losses-here-Inv-loop losses-here-μ-loop
-here-half t c = c .before .before .before .before .before
+here-half t c = c .before .before .before .before .before .before
 
 abbrev entered : (t : ℕ) → Here-known t
     → losses-here-lts.Start (losses-here-claims t) (losses-here-at t) losses-here.Post
@@ -400,15 +428,15 @@ abbrev entered : (t : ℕ) → Here-known t
 entered t c = here-half t c .before .before .before .before
 
 abbrev enter : (t : ℕ)
-    → losses-here-lts.After-number-of (losses-here-claims t) (losses-here-at t) losses-here.Post
+    → losses-here-lts.After-choices (losses-here-claims t) (losses-here-at t) losses-here.Post
     losses-here-Inv-loop losses-here-μ-loop
     → losses-here-lts.Start (losses-here-claims t) (losses-here-at t) losses-here.Post
     losses-here-Inv-loop losses-here-μ-loop
-enter t c = entered t (c .before)
+enter t c = entered t (c .before .before)
 
 -- the next column is one, or the end of the last
 next-low : (t : ℕ)
-    (c : losses-here-lts.After-number-of (losses-here-claims t) (losses-here-at t) losses-here.Post
+    (c : losses-here-lts.After-choices (losses-here-claims t) (losses-here-at t) losses-here.Post
     losses-here-Inv-loop losses-here-μ-loop)
     → enter t c .args .j + 1 ≤ 255
 next-low t c =
@@ -423,6 +451,14 @@ losses-here-number-of-requires t c κs =
     let p = entered t c .pre .1 in
     let of = p .1 .1 .1 .1 .0 in
     (omega (arith, of .blocks, p .1 .1 .0 .few), of .shaped)
+
+losses-here-choices-requires : (t : ℕ)
+    → losses-here-lts.Need-choices-requires (losses-here-claims t) (losses-here-at t) losses-here.Post
+    losses-here-Inv-loop losses-here-μ-loop
+losses-here-choices-requires t c κs =
+    let p = entered t (c .before) .pre .1 in
+    let sound = p .1 .1 .0 in
+    (fits (p .0) sound, (p .1 .1 .1 .0, λ s h. few-left sound s))
 
 losses-here-loop-holds : (t : ℕ)
     → losses-here-lts.Need-loop-holds (losses-here-claims t) (losses-here-at t) losses-here.Post
@@ -443,7 +479,7 @@ losses-here-losses-to-requires : (t : ℕ)
     → losses-here-lts.Need-losses-to-requires (losses-here-claims t) (losses-here-at t) losses-here.Post
     losses-here-Inv-loop losses-here-μ-loop
 losses-here-losses-to-requires t c κs =
-    let m = c .before .before in
+    let m = c .before .before .before in
     let i = m .before in
     let n = i .before .before in
     let s = enter t n in
@@ -451,14 +487,20 @@ losses-here-losses-to-requires t c κs =
     let v = i .before .loop .inv in
     let a = s .args in
     let below : i .before .loop .to < stateOf (a .shape) (each (a .t .left)) =
-    omega (arith, i .loop-test .taken, n .number-of .ensures)
+    omega (arith, i .loop-test .taken, n .before .number-of .ensures)
     in
     let holding = grown-holding (p .1 .0) v in
     let near = near-stays (a .z .now) (a .room) (p .1 .0) v (p .1 .1 .1 .1 .1 .1) in
     let of = p .1 .1 .1 .1 .0 in
     let looked = p .1 .1 .1 .1 .1 .0 in (
       omega (arith, s .pre .0),
-      ((p .0, (holding, (p .1 .1 .0, (p .1 .1 .1 .0, (of, (looked, near)))))), (below, m .mark-at .ensures)),
+      (
+        (p .0, (holding, (p .1 .1 .0, (p .1 .1 .1 .0, (of, (looked, near)))))),
+        (
+          (below, m .mark-at .ensures),
+          λ x sent u. leaves (p .1 .1 .1 .0) u (λ r h. refl) (n .choices .result) (n .choices .ensures),
+        ),
+      ),
     )
 
 losses-here-add-to : (t : ℕ)
@@ -483,7 +525,7 @@ losses-here-loop-again t c =
     let f : List ℕ → ℕ = λ (x : List ℕ). stateOf (a .shape) (ownLeft (a .l) (a .y .now) (a .heavy) x (a .j + 1)) in
     let v = l .loop .inv in
     ⊎-elim
-    (λ w. rw (w .5, w .6) (grown-turn (p .1 .0) f (l .loop .to) (λ x sent u e. (u, e)) v (w .2 .ensures)))
+    (λ w. rw (w .6, w .7) (grown-turn (p .1 .0) f (l .loop .to) (λ x sent u e. (u, e)) v (w .3 .ensures)))
     (λ w. rw (w .1, w .2)
     (grown-turn (p .1 .0) f (l .loop .to)
     (λ x sent u e. comes-marked (u .1) (a .j + 1) (l .loop .to) (m .mark-at .result) (omega (arith, p .1 .1 .1 .0))
@@ -500,7 +542,7 @@ losses-here-returns : (t : ℕ)
     → losses-here-lts.Need-returns (losses-here-claims t) (losses-here-at t) losses-here.Post
     losses-here-Inv-loop losses-here-μ-loop
 losses-here-returns t c =
-    let n = c .before .before .number-of .ensures in
+    let n = c .before .before .before .number-of .ensures in
     grown-weaken (λ x sent u. (u .0, omega (arith, u .1, n, c .loop-test .left))) (c .before .loop .inv)
 
 -- where `losses_to` starts: the place where all is at hand, and from there, where half of the slices are known, and the
@@ -510,26 +552,44 @@ To-known t = losses-to-lts.After-left (losses-to-claims t) (losses-to-at t) loss
 
 abbrev to-half : (t : ℕ) → To-known t
     → losses-to-lts.After-shared-slice-known4 (losses-to-claims t) (losses-to-at t) losses-to.Post
-to-half t c = c .before .before .before .before .before
+to-half t c = c .before .before .before .before .before .before
 
 abbrev begun : (t : ℕ) → To-known t → losses-to-lts.Start (losses-to-claims t) (losses-to-at t) losses-to.Post
 begun t c = to-half t c .before .before .before .before
 
--- the place where what is left in the lower state is known, the function's start seen from there, and that place seen
--- from where the step is made
+-- the place where what is left in the lower state is known, and the function's start seen from there; that place, seen from
+-- where the column is crossed; that one, seen from where it is known in how many chunks a row differs there; this one,
+-- seen from where the sets after the column are; and these, seen from where the step is made
 abbrev Lower : ℕ → Type 0
 Lower t = losses-to-lts.After-losses-left (losses-to-claims t) (losses-to-at t) losses-to.Post
 
 abbrev begin : (t : ℕ) → Lower t → losses-to-lts.Start (losses-to-claims t) (losses-to-at t) losses-to.Post
 begin t c = begun t (c .before)
 
-abbrev lowered : (t : ℕ) → losses-to-lts.After-step (losses-to-claims t) (losses-to-at t) losses-to.Post → Lower t
-lowered t c = c .before .before .before .before .before .before
+abbrev lowered : (t : ℕ) → losses-to-lts.After-crossing (losses-to-claims t) (losses-to-at t) losses-to.Post → Lower t
+lowered t c = c .before .before .before
+
+abbrev from-wide : (t : ℕ) → losses-to-lts.After-wide (losses-to-claims t) (losses-to-at t) losses-to.Post → Lower t
+from-wide t c = lowered t (c .before .before)
+
+abbrev differing : (t : ℕ) → losses-to-lts.After-after (losses-to-claims t) (losses-to-at t) losses-to.Post
+    → losses-to-lts.After-wide (losses-to-claims t) (losses-to-at t) losses-to.Post
+differing t c = c .before .before .before
+
+abbrev from-sets : (t : ℕ) → losses-to-lts.After-after (losses-to-claims t) (losses-to-at t) losses-to.Post → Lower t
+from-sets t c = from-wide t (differing t c)
+
+abbrev freshened : (t : ℕ) → losses-to-lts.After-step (losses-to-claims t) (losses-to-at t) losses-to.Post
+    → losses-to-lts.After-after (losses-to-claims t) (losses-to-at t) losses-to.Post
+freshened t c = c .before .before .before
+
+abbrev from-step : (t : ℕ) → losses-to-lts.After-step (losses-to-claims t) (losses-to-at t) losses-to.Post → Lower t
+from-step t c = from-sets t (freshened t c)
 
 -- a row at that state after the column has so much left
 own-next : (t : ℕ) (c : Lower t) → let a = begin t c .args in (x : List ℕ)
-    → UnderMarks (a .l) (a .y .now) (a .numbers .now) (a .heavy) (a .shape) (a .known .now) (a .marks .now) (a .z .now)
-    (a .differ) (a .j) (a .t) x × (stateOf (a .shape) (ownLeft (a .l) (a .y .now) (a .heavy) x (a .j + 1)) ≡ a .to)
+    → UnderMarks (a .l) (a .y .now) (a .numbers .now) (a .heavy) (a .shape) (a .known .now) (a .marks .now)
+    (a .rests .now) (a .z .now) (a .sets) (a .differ) (a .j) (a .t) x × (stateOf (a .shape) (ownLeft (a .l) (a .y .now) (a .heavy) x (a .j + 1)) ≡ a .to)
     → (s : ℕ) → s < a .heavy .n → ownLeft (a .l) (a .y .now) (a .heavy) x (a .j + 1) s ≡ each (c .losses-left .result) s
 own-next t c x u =
     let a = begin t c .args in
@@ -539,9 +599,9 @@ own-next t c x u =
 
 -- the number of chunks that a row can differ in so far stays low
 apart-low : (t : ℕ) (c : losses-to-lts.After-wide (losses-to-claims t) (losses-to-at t) losses-to.Post)
-    → begin t (c .before .before .before) .args .differ + (c .wide .result - 1) ≤ 4000
+    → begin t (from-wide t c) .args .differ + (c .wide .result - 1) ≤ 4000
 apart-low t c =
-    let s = begin t (c .before .before .before) in
+    let s = begin t (from-wide t c) in
     let p = s .pre .1 .0 in
     let size = sizes (s .args .l) (legal-bounds (s .args .l) (p .0 .is-legal)) in
     let crossing = c .before .before .crossing .ensures .1 in
@@ -554,21 +614,39 @@ losses-to-losses-left-requires t c κs =
     let of = p .1 .1 .1 .1 .0 in
     (omega (arith, of .blocks, p .1 .1 .0 .few), of .shaped)
 
-losses-to-crossing-requires : (t : ℕ)
-    → losses-to-lts.Need-crossing-requires (losses-to-claims t) (losses-to-at t) losses-to.Post
-losses-to-crossing-requires t c κs =
-    let p = begin t c .pre .1 .0 in
-    let k = p .1 .1 .1 .1 .1 .0 in
-    (fits (p .0) (p .1 .1 .0), (k .tables, (p .1 .1 .1 .0, (k .sums, k .others))))
+losses-to-all-can-requires : (t : ℕ)
+    → losses-to-lts.Need-all-can-requires (losses-to-claims t) (losses-to-at t) losses-to.Post
+losses-to-all-can-requires t c κs = begin t c .pre .1 .0 .1 .1 .0 .few
 
 losses-to-returns : (t : ℕ)
     → losses-to-lts.Need-returns (losses-to-claims t) (losses-to-at t) losses-to.Post
 losses-to-returns t c =
     let n = c .before .before in
+    let s = begin t n in
+    let a = s .args in
+    let p = s .pre .1 .0 in
+    grown-nothing (p .1 .0)
+    (λ x sent u.
+    false≢true
+    (sym (not-true _ (c .if1 .taken))
+    ∙ c .before .all-can .ensures
+    (λ r h. subst (λ (v : ℕ). 0 < getD (a .can .now) (entryAt r v) 0) (own-next t n x u r h) (s .pre .1 .1 .1 x sent (u .0) r h))))
+
+losses-to-crossing-requires : (t : ℕ)
+    → losses-to-lts.Need-crossing-requires (losses-to-claims t) (losses-to-at t) losses-to.Post
+losses-to-crossing-requires t c κs =
+    let p = begin t (c .before .before) .pre .1 .0 in
+    let k = p .1 .1 .1 .1 .1 .0 in
+    (fits (p .0) (p .1 .1 .0), (k .tables, (p .1 .1 .1 .0, (k .sums, k .others))))
+
+losses-to-returns-2 : (t : ℕ)
+    → losses-to-lts.Need-returns-2 (losses-to-claims t) (losses-to-at t) losses-to.Post
+losses-to-returns-2 t c =
+    let n = lowered t (c .before) in
     let p = begin t n .pre .1 .0 in
     grown-nothing (p .1 .0)
     (λ x sent u.
-    omega (arith, crossed (p .1 .1 .1 .0) (u .0) (own-next t n x u) (c .before .crossing .ensures .0), c .if1 .taken))
+    omega (arith, crossed (p .1 .1 .1 .0) (u .0) (own-next t n x u) (c .before .crossing .ensures .0), c .if2 .taken))
 
 losses-to-wide-requires : (t : ℕ)
     → losses-to-lts.Need-wide-requires (losses-to-claims t) (losses-to-at t) losses-to.Post
@@ -576,7 +654,7 @@ losses-to-wide-requires t c κs = search needs
 
 losses-to-sub-apart : (t : ℕ)
     → losses-to-lts.Need-sub-apart (losses-to-claims t) (losses-to-at t) losses-to.Post
-losses-to-sub-apart t c = omega (arith, c .wide .ensures, c .before .if1 .left)
+losses-to-sub-apart t c = omega (arith, c .wide .ensures, c .before .if2 .left)
 
 losses-to-add-apart : (t : ℕ)
     → losses-to-lts.Need-add-apart (losses-to-claims t) (losses-to-at t) losses-to.Post
@@ -586,64 +664,96 @@ losses-to-hopeful-requires : (t : ℕ)
     → losses-to-lts.Need-hopeful-requires (losses-to-claims t) (losses-to-at t) losses-to.Post
 losses-to-hopeful-requires t c κs = apart-low t c
 
-losses-to-returns-2 : (t : ℕ)
-    → losses-to-lts.Need-returns-2 (losses-to-claims t) (losses-to-at t) losses-to.Post
-losses-to-returns-2 t c =
+losses-to-returns-3 : (t : ℕ)
+    → losses-to-lts.Need-returns-3 (losses-to-claims t) (losses-to-at t) losses-to.Post
+losses-to-returns-3 t c =
     let w = c .before .before in
     let f = w .before .before in
-    let n = f .before in
+    let n = lowered t f in
     let s = begin t n in
     let a = s .args in
     let p = s .pre .1 .0 in
-    let add : f .crossing .result ≤ w .wide .result - 1 + 1 = omega (arith, w .wide .ensures, w .before .if1 .left) in
+    let add : f .crossing .result ≤ w .wide .result - 1 + 1 = omega (arith, w .wide .ensures, w .before .if2 .left) in
     grown-none (p .1 .0)
     (λ x sent u.
     let own = own-next t n x u in
-    let next = comes-next (p .1 .1 .1 .0) (u .0) own (f .crossing .ensures .0) (w .wide .result - 1) add in
+    let within = within-next (p .1 .1 .1 .0) (u .0) own (f .crossing .ensures .0) (w .wide .result - 1) add in
     p .1 .1 .1 .1 .1 .1 x sent
-    (comes-near next (a .mark) (a .room) (omega (arith, p .1 .1 .1 .0))
-    (subst (λ (v : ℕ). IsMark (a .shape) (a .marks .now) (a .j + 1) v (a .mark)) (sym (u .1)) (s .pre .1 .1 .1))
-    (λ m k. c .before .hopeful .ensures m (not-true _ (c .if2 .taken)) k)))
+    (comes-near (u .0 .1) (a .j + 1) _ (a .mark) (a .room) (omega (arith, p .1 .1 .1 .0)) within
+    (subst (λ (v : ℕ). IsMark (a .shape) (a .marks .now) (a .j + 1) v (a .mark)) (sym (u .1)) (s .pre .1 .1 .0 .1))
+    (λ m k. c .before .hopeful .ensures m (not-true _ (c .if3 .taken)) k)))
+
+losses-to-after-requires : (t : ℕ)
+    → losses-to-lts.Need-after-requires (losses-to-claims t) (losses-to-at t) losses-to.Post
+losses-to-after-requires t c κs =
+    let p = begin t (from-wide t (c .before .before)) .pre .1 .0 in
+    (fits (p .0) (p .1 .1 .0), (p .1 .1 .1 .0, p .1 .1 .1 .1 .1 .0 .sums))
+
+losses-to-add-all-meet : (t : ℕ)
+    → losses-to-lts.Need-add-all-meet (losses-to-claims t) (losses-to-at t) losses-to.Post
+losses-to-add-all-meet t c =
+    let s = begin t (from-sets t c) in
+    let size = sizes (s .args .l) (legal-bounds (s .args .l) (s .pre .1 .0 .0 .is-legal)) in
+    omega (arith, size .l2-high, s .pre .1 .0 .1 .1 .1 .0)
+
+losses-to-all-meet-requires : (t : ℕ)
+    → losses-to-lts.Need-all-meet-requires (losses-to-claims t) (losses-to-at t) losses-to.Post
+losses-to-all-meet-requires t c κs =
+    let p = begin t (from-sets t c) .pre .1 .0 in
+    (p .0 .is-legal, (p .1 .1 .0 .few, omega (arith, p .1 .1 .1 .0)))
+
+losses-to-returns-4 : (t : ℕ)
+    → losses-to-lts.Need-returns-4 (losses-to-claims t) (losses-to-at t) losses-to.Post
+losses-to-returns-4 t c =
+    let m = c .before in
+    let g = m .before in
+    let n = from-sets t g in
+    let p = begin t n .pre .1 .0 in
+    grown-nothing (p .1 .0)
+    (λ x sent u.
+    false≢true
+    (sym (not-true _ (c .if4 .taken))
+    ∙ sums-meet (p .1 .1 .1 .0) (u .0) (own-next t n x u) (g .after .result) (g .after .ensures) (m .all-meet .ensures)))
 
 losses-to-step-requires : (t : ℕ)
     → losses-to-lts.Need-step-requires (losses-to-claims t) (losses-to-at t) losses-to.Post
 losses-to-step-requires t c κs =
-    let p = begin t (c .before .before .before .before .before) .pre .1 .0 in
+    let p = begin t (from-sets t (c .before .before)) .pre .1 .0 in
     (p .0 .is-legal, (p .0 .bits, (p .0 .short, (p .1 .1 .0, p .1 .1 .1 .0))))
 
-losses-to-returns-3 : (t : ℕ)
-    → losses-to-lts.Need-returns-3 (losses-to-claims t) (losses-to-at t) losses-to.Post
-losses-to-returns-3 t c =
+losses-to-returns-5 : (t : ℕ)
+    → losses-to-lts.Need-returns-5 (losses-to-claims t) (losses-to-at t) losses-to.Post
+losses-to-returns-5 t c =
     let q = c .before .before in
-    let n = lowered t q in
+    let n = from-step t q in
     let p = begin t n .pre .1 .0 in
     grown-nothing (p .1 .0)
     (λ x sent u.
-    false≢true (sym (not-true _ (c .if3 .taken)) ∙ q .step .ensures .under x (sent .0) (u .0 .0) (own-next t n x u) .0))
+    false≢true (sym (not-true _ (c .if5 .taken)) ∙ q .step .ensures .under x (sent .0) (u .0 .0) (own-next t n x u) .0))
 
 losses-to-all-end-requires : (t : ℕ)
     → losses-to-lts.Need-all-end-requires (losses-to-claims t) (losses-to-at t) losses-to.Post
 losses-to-all-end-requires t c κs =
     let q = c .before .before .before in
-    let p = begin t (lowered t q) .pre .1 .0 in
+    let p = begin t (from-step t q) .pre .1 .0 in
     (p .0, (p .1 .1 .1 .1 .1 .0 .tables, (q .step .ensures .sound, p .1 .1 .1 .0)))
 
-losses-to-returns-4 : (t : ℕ)
-    → losses-to-lts.Need-returns-4 (losses-to-claims t) (losses-to-at t) losses-to.Post
-losses-to-returns-4 t c =
+losses-to-returns-6 : (t : ℕ)
+    → losses-to-lts.Need-returns-6 (losses-to-claims t) (losses-to-at t) losses-to.Post
+losses-to-returns-6 t c =
     let e = c .before in
     let q = e .before .before .before .before in
-    let n = lowered t q in
+    let n = from-step t q in
     let p = begin t n .pre .1 .0 in
     grown-nothing (p .1 .0)
     (λ x sent u.
     let under = q .step .ensures .under x (sent .0) (u .0 .0) (own-next t n x u) .1 in
-    false≢true (sym (not-true _ (c .if4 .taken)) ∙ e .all-end .ensures x sent under))
+    false≢true (sym (not-true _ (c .if6 .taken)) ∙ e .all-end .ensures x sent under))
 
 losses-to-add-columns : (t : ℕ)
     → losses-to-lts.Need-add-columns (losses-to-claims t) (losses-to-at t) losses-to.Post
 losses-to-add-columns t c =
-    let s = begin t (lowered t (c .before .before .before .before .before)) in
+    let s = begin t (from-step t (c .before .before .before .before .before)) in
     let size = sizes (s .args .l) (legal-bounds (s .args .l) (s .pre .1 .0 .0 .is-legal)) in
     omega (arith, size .l2-high, s .pre .1 .0 .1 .1 .1 .0)
 
@@ -652,20 +762,20 @@ losses-to-columns-requires : (t : ℕ)
 losses-to-columns-requires t c κs =
     let e = c .before .before .before .before in
     let q = e .before .before in
-    let w = q .before .before .before in
+    let w = differing t (freshened t q) in
     let f = w .before .before in
-    let n = f .before in
+    let n = lowered t f in
     let s = begin t n in
     let p = s .pre .1 .0 in
     let of = p .1 .1 .1 .1 .0 in
-    let went = not-false _ (e .if3 .left) in
+    let went = not-false _ (e .if5 .left) in
     let stepped = q .step .ensures in
-    let lower = left-state (n .losses-left .result) (s .args .to) of (s .pre .1 .1 .0) (n .losses-left .ensures) in
+    let lower = left-state (n .losses-left .result) (s .args .to) of (s .pre .1 .1 .0 .0) (n .losses-left .ensures) in
     let few : w .wide .result - 1 ≤ 6 = omega (arith, w .wide .ensures, f .crossing .ensures .1) in
     let inside : s .args .j + 1 ≤ s .args .l .l2 = omega (arith, p .1 .1 .1 .0) in
     let shaped = shape-next stepped went of (lower .1) in
     let looked = looked-next few (p .1 .1 .1 .1 .1 .0) in (
-      omega (arith, s .pre .0, state-next stepped went of, lower .0, s .pre .1 .1 .0),
+      omega (arith, s .pre .0, state-next stepped went of, lower .0, s .pre .1 .1 .0 .0),
       (p .0, (p .1 .0, (stepped .sound, (inside, (shaped, (looked, p .1 .1 .1 .1 .1 .1)))))),
     )
 
@@ -673,21 +783,22 @@ losses-to-same-length : (t : ℕ)
     → losses-to-lts.Need-same-length (losses-to-claims t) (losses-to-at t) losses-to.Post
 losses-to-same-length t c = search needs
 
-losses-to-returns-5 : (t : ℕ)
-    → losses-to-lts.Need-returns-5 (losses-to-claims t) (losses-to-at t) losses-to.Post
-losses-to-returns-5 t c =
+losses-to-returns-7 : (t : ℕ)
+    → losses-to-lts.Need-returns-7 (losses-to-claims t) (losses-to-at t) losses-to.Post
+losses-to-returns-7 t c =
     let d = c .before .before in
     let e = d .before .before .before .before .before in
     let q = e .before .before in
-    let w = q .before .before .before in
+    let g = freshened t q in
+    let w = differing t g in
     let f = w .before .before in
-    let n = f .before in
+    let n = lowered t f in
     let p = begin t n .pre .1 .0 in
-    let add : f .crossing .result ≤ w .wide .result - 1 + 1 = omega (arith, w .wide .ensures, w .before .if1 .left) in
+    let add : f .crossing .result ≤ w .wide .result - 1 + 1 = omega (arith, w .wide .ensures, w .before .if2 .left) in
     grown-weaken
     (λ x sent u.
-    under-next (p .1 .1 .1 .0) (u .0) (own-next t n x u) (f .crossing .ensures .0) (w .wide .result - 1) add (sent .0)
-    (q .step .ensures) .1)
+    under-next (p .1 .1 .1 .0) (u .0) (own-next t n x u) (f .crossing .ensures .0) (w .wide .result - 1) add
+    (g .after .result) (g .after .ensures) (sent .0) (q .step .ensures) .1)
     (d .columns .ensures)
 
 pub +columns+losses-here+losses-to-spec : {M : Type 1} → statement M
@@ -709,6 +820,7 @@ pub +columns+losses-here+losses-to-spec : {M : Type 1} → statement M
     (columns-step-requires t)
     (columns-same-length-3 t)
     (columns-returns-3 t)
+    (columns-after-requires t)
     (columns-wide-requires t)
     (columns-sub-apart t)
     (columns-add-apart t)
@@ -723,6 +835,7 @@ pub +columns+losses-here+losses-to-spec : {M : Type 1} → statement M
     losses-here-Inv-loop
     losses-here-μ-loop
     (losses-here-number-of-requires t)
+    (losses-here-choices-requires t)
     (losses-here-loop-holds t)
     (losses-here-add-mark-at t)
     (losses-here-mark-at-requires t)
@@ -735,18 +848,24 @@ pub +columns+losses-here+losses-to-spec : {M : Type 1} → statement M
     λ t. losses-to-lts.spec (losses-to-claims t) (losses-to-at t)
     losses-to.Post
     (losses-to-losses-left-requires t)
-    (losses-to-crossing-requires t)
+    (losses-to-all-can-requires t)
     (losses-to-returns t)
+    (losses-to-crossing-requires t)
+    (losses-to-returns-2 t)
     (losses-to-wide-requires t)
     (losses-to-sub-apart t)
     (losses-to-add-apart t)
     (losses-to-hopeful-requires t)
-    (losses-to-returns-2 t)
-    (losses-to-step-requires t)
     (losses-to-returns-3 t)
-    (losses-to-all-end-requires t)
+    (losses-to-after-requires t)
+    (losses-to-add-all-meet t)
+    (losses-to-all-meet-requires t)
     (losses-to-returns-4 t)
+    (losses-to-step-requires t)
+    (losses-to-returns-5 t)
+    (losses-to-all-end-requires t)
+    (losses-to-returns-6 t)
     (losses-to-add-columns t)
     (losses-to-columns-requires t)
     (losses-to-same-length t)
-    (losses-to-returns-5 t)
+    (losses-to-returns-7 t)

@@ -20,7 +20,8 @@ use Rattle.found.proofs.Found.{grown-weaken, grown-none, grown-nothing, grown-t
 use Rattle.states.specs.States.{each}
 use Rattle.marks.specs.Marks.{Path, Through, apartFrom}
 use Rattle.tables.specs.Tables.{Under, ownLeft, ShapeOf, Looked, Comes, apart}
-use Rattle.tables.proofs.Coming.{fits}
+use Rattle.tables.proofs.Coming.{fits, few-left}
+use Rattle.tables.proofs.Ending.{block-sum}
 use Rattle.tables.proofs.Own.{in-hand, own-path}
 use Rattle.tables.proofs.tables.Statement.{statement}
 use Rattle.tables.proofs.tables.Tie as tie
@@ -42,7 +43,7 @@ abbrev sums-at : tie.After-apart-light → tie.After-light-sums
 sums-at c = c .before .before .before .before .before
 
 abbrev compared : tie.After-prepare → tie.After-apart-light
-compared c = c .before .before .before .before
+compared c = c .before .before .before .before .before
 
 abbrev summed : tie.After-prepare → tie.After-light-sums
 summed c = sums-at (compared c)
@@ -50,12 +51,19 @@ summed c = sums-at (compared c)
 abbrev start : tie.After-prepare → tie.Start
 start c = entry (summed c)
 
--- where the marks are made, seen from where the columns begin with them, and without
-abbrev marked : tie.After-columns-arg → tie.After-prepare
+-- where the marks are made, seen from where the table of rests is filled
+abbrev prepared : tie.After-fill → tie.After-prepare
+prepared c = c .before .before .before .before .before
+
+-- where it is filled, seen from where the columns begin with the marks, and without
+abbrev marked : tie.After-columns-arg → tie.After-fill
 marked c = c .before .before .before .before .before .before
 
-abbrev unmarked : tie.After-known6 → tie.After-prepare
-unmarked c = c .before .before .before .before
+abbrev lent : tie.After-columns-arg3 → tie.After-brings2
+lent c = c .before .before .before .before .before .before
+
+abbrev unmarked : tie.After-columns-arg3 → tie.After-fill
+unmarked c = lent c .before
 
 high : (s : tie.Start) → Sizes (s .args .l)
 high s = sizes (s .args .l) (legal-bounds (s .args .l) (s .pre .0 .0 .is-legal))
@@ -108,9 +116,12 @@ slice-aggregate-prepare c = search needs
 slice-aggregate-prepare-2 : tie.Need-slice-aggregate-prepare-2
 slice-aggregate-prepare-2 c = search needs
 
+marks-pay-requires : tie.Need-marks-pay-requires
+marks-pay-requires c κs = entry (sums-at (c .before .before)) .pre .0 .0 .is-legal
+
 prepare-requires : tie.Need-prepare-requires
 prepare-requires c κs =
-    let b = sums-at (c .before .before .before) in
+    let b = sums-at (c .before .before .before .before) in
     let s = entry b in
     let long = b .light-sums .kept .1 .1 .1 .1 .1 .0 in
     (fits (s .pre .0 .0) (s .pre .1 .0 .0), (s .pre .1 .1 .0, (omega (arith, high s .l2-high, long), s .pre .1 .1 .1 .0)))
@@ -127,20 +138,20 @@ within c x sent u =
 -- one that differs from z in fewer chunks of the heavy blocks than are asked for is known
 near-known : (c : tie.After-prepare) → let s = start c in let a = s .args in
     (x : List ℕ) → Sent (a .l) (a .numbers .now) (a .y .now) x → Under (a .l) (a .y .now) (a .heavy) 0 0 (a .t) x
-    → apartFrom (a .l) (a .heavy) (a .z .now) (values (a .l) x) 0 < c .before .before .before .if2 .rest
+    → apartFrom (a .l) (a .heavy) (a .z .now) (values (a .l) x) 0 < c .before .before .before .before .if2 .rest
     → Known (rowsIn (rowBits (a .l)) (a .list .now) (a .kept .count) (a .kept .more)) x
 near-known c x sent u near =
     start c .pre .1 .1 .1 .1 x sent
     (⊎-elim
     (λ w. omega (arith, near, within c x sent u, w .1, w .0 .taken))
     (λ w. absurd (omega (arith, near, w .1)))
-    (c .before .before .before .if2 .came))
+    (c .before .before .before .before .if2 .came))
 
 abbrev Near : tie.After-prepare → List ℕ → Type 0
 Near c x =
     let a = start c .args in
     Under (a .l) (a .y .now) (a .heavy) 0 0 (a .t) x
-    × (apartFrom (a .l) (a .heavy) (a .z .now) (values (a .l) x) 0 < c .before .before .before .if2 .rest)
+    × (apartFrom (a .l) (a .heavy) (a .z .now) (values (a .l) x) 0 < c .before .before .before .before .if2 .rest)
 
 returns-2 : tie.Need-returns-2
 returns-2 c =
@@ -168,15 +179,39 @@ looked c =
       small = omega (arith, compared c .apart-light .ensures .1);
     }
 
+at-first-requires : tie.Need-at-first-requires
+at-first-requires c κs =
+    let s = start (c .before .before) in
+    let p = s .pre in
+    let sound = p .1 .0 .0 in
+    (p .0 .0 .is-legal, (sound .few, λ r h. omega (arith, sound .inside r h, p .0 .0 .count)))
+
+slice-aggregate-fill : tie.Need-slice-aggregate-fill
+slice-aggregate-fill c = search needs
+
+fill-requires : tie.Need-fill-requires
+fill-requires c κs =
+    let p = start (c .before .before .before .before) .pre in
+    let sound = p .1 .0 .0 in
+    (fits (p .0 .0) sound, (λ r h. few-left sound r, omega arith))
+
+-- the table of rests when it is filled
+abbrev brings : tie.After-fill → List ℕ
+brings c = c .fill .last .1 .1 .1 .1 .1 .0
+
 -- that a row under the first table comes through marked states, where the marks let its own through
-comes : (c : tie.After-prepare) (marks : List ℕ) → let a = start c .args in
+comes : (d : tie.After-fill) (marks : List ℕ) → let c = prepared d in let a = start c .args in
     (x : List ℕ) → Sent (a .l) (a .numbers .now) (a .y .now) x → Under (a .l) (a .y .now) (a .heavy) 0 0 (a .t) x
     → Through (a .l) (c .prepare .result .shape) marks (ownLeft (a .l) (a .y .now) (a .heavy) x)
     (apartFrom (a .l) (a .heavy) (a .z .now) (values (a .l) x))
     → Comes (a .l) (a .y .now) (a .numbers .now) (a .heavy) (c .prepare .result .shape)
-    (summed c .light-sums .last .1 .1 .1 .1 .1 .0) marks (a .z .now) (compared c .apart-light .result) 0 x
-comes c marks x sent u t =
-    let a = start c .args in
+    (summed c .light-sums .last .1 .1 .1 .1 .1 .0) marks (brings d) (a .z .now) (d .before .before .at-first .result)
+    (compared c .apart-light .result) 0 x
+comes d marks x sent u t =
+    let c = prepared d in
+    let s = start c in
+    let a = s .args in
+    let inside = s .pre .1 .0 .0 .inside in
     record {
       row = start c .args .t .row;
       light = summed c .light-sums .ensures;
@@ -185,6 +220,9 @@ comes c marks x sent u t =
           (ownLeft (a .l) (a .y .now) (a .heavy) x))
           (sym (c .prepare .ensures .0 .1)) (path (start c) x sent u);
       through = t;
+      sums = d .before .before .at-first .ensures (values (a .l) x)
+          (λ r h. block-sum (s .pre .0 .0) x sent (getD (a .heavy .block) r 0) (inside r h));
+      rest-sums = d .fill .ensures .0 _ _ _ (path s x sent u);
       within = within c x sent u;
     }
 
@@ -204,9 +242,12 @@ slice-aggregate-columns c = search needs
 slice-aggregate-columns-2 : tie.Need-slice-aggregate-columns-2
 slice-aggregate-columns-2 c = search needs
 
+slice-aggregate-columns-3 : tie.Need-slice-aggregate-columns-3
+slice-aggregate-columns-3 c = search needs
+
 columns-requires : tie.Need-columns-requires
 columns-requires c κs =
-    let q = marked c in
+    let q = prepared (marked c) in
     let p = start q .pre in
     (p .0 .0, (p .0 .1, (p .1 .0 .0, (omega arith, (shape-of q, (looked q, p .1 .1 .1 .1))))))
 
@@ -216,8 +257,9 @@ same-length c = search needs
 returns-3 : tie.Need-returns-3
 returns-3 c =
     let m = c .before .before .before in
-    let q = marked m in
-    let kept = m .before .before .before .if4 .taken in
+    let d = marked m in
+    let q = prepared d in
+    let kept = m .before .before .before .before .if4 .taken in
     let a = start q .args in
     let h = start q .pre .0 .1 in
     let g = q .prepare .ensures .1 .1 in
@@ -227,17 +269,17 @@ returns-3 c =
     {C = Near q x
     ⊎ (Under (a .l) (a .y .now) (a .heavy) 0 0 (a .t) x
     × Comes (a .l) (a .y .now) (a .numbers .now) (a .heavy) (q .prepare .result .shape)
-    (summed q .light-sums .last .1 .1 .1 .1 .1 .0) (q .prepare .last .1 .1 .1 .1 .1 .1 .1 .1 .1 .1 .0) (a .z .now)
-    (compared q .apart-light .result) 0 x)}
+    (summed q .light-sums .last .1 .1 .1 .1 .1 .0) (q .prepare .last .1 .1 .1 .1 .1 .1 .1 .1 .1 .1 .1 .0)
+    (brings d) (a .z .now) (d .before .before .at-first .result) (compared q .apart-light .result) 0 x)}
     (λ near. inl (u, near))
     (λ far.
-    inr (u, comes q _ x sent u (g _ _ _ (summed q .light-sums .ensures) (path (start q) x sent u) far .1 kept)))
+    inr (u, comes d _ x sent u (g _ _ _ (summed q .light-sums .ensures) (path (start q) x sent u) far .1 kept)))
     (lt-or-ge (apartFrom (a .l) (a .heavy) (a .z .now) (values (a .l) x) 0) _))
     (grown-then h (grown-none h {P = Near q} (λ x sent p. near-known q x sent (p .0) (p .1)))
     (c .before .before .columns .ensures))
 
-slice-aggregate-columns-3 : tie.Need-slice-aggregate-columns-3
-slice-aggregate-columns-3 c = search needs
+slice-aggregate-columns-4 : tie.Need-slice-aggregate-columns-4
+slice-aggregate-columns-4 c = search needs
 
 sub-columns : tie.Need-sub-columns
 sub-columns c = search needs
@@ -248,9 +290,12 @@ part-columns-start c = search needs
 part-columns-end : tie.Need-part-columns-end
 part-columns-end c = search needs
 
+slice-aggregate-columns-5 : tie.Need-slice-aggregate-columns-5
+slice-aggregate-columns-5 c = search needs
+
 columns-requires-2 : tie.Need-columns-requires-2
 columns-requires-2 c κs =
-    let q = unmarked (c .before .before .before) in
+    let q = prepared (unmarked c) in
     let p = start q .pre in
     (p .0 .0, (p .0 .1, (p .1 .0 .0, (omega arith, (shape-of q, (looked q, p .1 .1 .1 .1))))))
 
@@ -260,8 +305,7 @@ same-length-2 c = search needs
 returns-4 : tie.Need-returns-4
 returns-4 c =
     let m = c .before .before .before in
-    let q = unmarked (m .before .before .before) in
-    grown-weaken (λ x sent u. (u, comes q _ x sent u (λ j h k. absurd (omega (arith, k)))))
+    grown-weaken (λ x sent u. (u, comes (unmarked m) _ x sent u (λ j h k. absurd (omega (arith, k)))))
     (c .before .before .columns2 .ensures)
 
 pub tables-spec : {M : Type 1} → statement M
@@ -276,18 +320,24 @@ tables-spec =
     apart-light-requires
     sub-rest
     slice-aggregate-prepare
+    marks-pay-requires
     slice-aggregate-prepare-2
     prepare-requires
     returns-2
+    at-first-requires
+    slice-aggregate-fill
+    fill-requires
     slice-aggregate-columns
     slice-aggregate-columns-2
+    slice-aggregate-columns-3
     columns-requires
     same-length
     returns-3
-    slice-aggregate-columns-3
+    slice-aggregate-columns-4
     sub-columns
     part-columns-start
     part-columns-end
+    slice-aggregate-columns-5
     columns-requires-2
     same-length-2
     returns-4)

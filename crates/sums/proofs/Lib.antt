@@ -1,0 +1,4 @@
+-- The laws that the proofs of this crate and of the crates above rest on.
+pub mod Listed
+pub mod Rest
+mod Brought
