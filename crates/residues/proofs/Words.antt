@@ -1,9 +1,9 @@
 -- The bits of a word: how they stand after a shift, a remainder and a union. Assumes nothing.
 use Prim.Native.Nat.{ℕ, zero, suc, _+_, _-_, _*_, _/_, _%_, _^_, _<_, _≤_, min, max}
-use mathlib.Core.Path.{_≡_, refl, sym, ap, _∙_}
+use mathlib.Core.Path.{_≡_, refl, sym, ap, ap₂, _∙_}
 use mathlib.Core.Logic.{⊎-elim}
-use mathlib.Core.Path.{ap₂}
-use native.Mathlib.Nat.{zero-div, mod-lt, mod-eq-of-lt, add-mod, add-comm, add-mul, one-mul, add-mul-mod-self-right, div-add-mod'}
+use native.Mathlib.Nat.{zero-div, mod-lt, mod-eq-of-lt, add-mod, add-comm, add-mul, one-mul}
+use native.Mathlib.Nat.{add-mul-mod-self-right, div-add-mod'}
 use native.Mathlib.Omega.{arith}
 use Rattle.bits.proofs.Laws.{lt-or-ge}
 use lib.Bits.{bitAnd, bitOr, and-step, and-shr, or-step, or-shr, or-comm}

@@ -1,6 +1,5 @@
 -- The laws of specs/, for the proofs of this crate.
 mod Totals
-mod Blocks
 mod HeavyBlocks
 mod Losses
 mod Counts

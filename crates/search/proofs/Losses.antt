@@ -21,7 +21,8 @@ use Rattle.lines.specs.Lines.{values}
 use Rattle.lines.proofs.Lines.{value-at}
 use Rattle.found.specs.Found.{Given, Sent}
 use Rattle.found.proofs.Found.{sent-parts}
-use Rattle.search.specs.Patterns.{lostIn, Loses, Tried}
+use Rattle.pieces.specs.Pieces.{Loses, Tried}
+use Rattle.search.specs.Patterns.{lostIn}
 
 -- ---- numbers that stand inside a piece
 number-front : (k n : ℕ) (z : List ℕ) → k ≤ n → number k (take n z) ≡ number k z

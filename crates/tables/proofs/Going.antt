@@ -128,5 +128,6 @@ module _ {l : Layout} {y totals counts numbers : List ℕ} {heavy : Heavy} {shap
             near = near-stays z room (going .holding) g (going .near);
             joins = λ exit h p k.
                 joined
-                (grown-weaken (λ x sent u. under-next column (u .0) (u .1) crossing more add fresh after (sent .0) stepped .1) k);
+                (grown-weaken
+                (λ x sent u. under-next column (u .0) (u .1) crossing more add fresh after (sent .0) stepped .1) k);
           }

@@ -27,8 +27,8 @@ use Rattle.search.proofs.+patterns.Lts-patterns as patterns-lts
 use Rattle.anchor.proofs.near_anchor.Reads as near-anchor-reads
 use Rattle.anchor.proofs.set_anchor.Reads as set-anchor-reads
 use Rattle.floor.proofs.above.Reads as above-reads
+use Rattle.pieces.proofs.try_block.Reads as try-block-reads
 use Rattle.search.proofs.one_pattern.Reads as one-pattern-reads
-use Rattle.search.proofs.try_block.Reads as try-block-reads
 use Rattle.search.proofs.+patterns.{statement}
 use Rattle.search.proofs.+patterns.Tie.{close}
 

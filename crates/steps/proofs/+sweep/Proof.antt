@@ -11,7 +11,8 @@ use borrow.Fn.PlainCycle.{Measures, is, falls, and}
 use lib.ListN.{getD, length}
 use Rattle.bits.proofs.Laws.{lt-or-ge}
 use Rattle.states.specs.States.{stride, each}
-use Rattle.steps.specs.Steps.{Raises, Small, Picks, Stands, Gains}
+use Rattle.choices.specs.Choices.{Small}
+use Rattle.steps.specs.Steps.{Raises, Picks, Stands, Gains}
 use Rattle.steps.proofs.Sweeping.{raises-same, raises-then, ground-stays, stands-low, stands-inside, stands-with}
 use Rattle.steps.proofs.Sweeping.{gains-none, gains-more, gains-end, gains-pick}
 use Rattle.steps.proofs.sweep.Reads as sweep

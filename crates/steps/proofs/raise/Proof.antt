@@ -8,7 +8,8 @@ use native.Mathlib.Omega.{arith}
 use lib.ListN.{getD}
 use Rattle.states.specs.States.{state, stride, each}
 use Rattle.column.proofs.Rows.{StringLow, string-low, known-low, crosses-brings}
-use Rattle.steps.specs.Steps.{Seeable, broughtIn, Offers}
+use Rattle.choices.specs.Choices.{Seeable, Offers}
+use Rattle.steps.specs.Steps.{broughtIn}
 use Rattle.steps.proofs.Sweeping.{its, its-picks, its-above}
 use Rattle.steps.proofs.raise.Statement.{statement}
 use Rattle.steps.proofs.raise.Tie as tie

@@ -87,7 +87,8 @@ returns-3 c row vs light x holds short s h =
 
 -- the chunks are placed
 placed : (c : tie.After-list Inv-loop μ-loop) → let a = start c .args in
-    Placed (a .l) (length (a .y .now)) (a .heavy) (a .j) (each (a .left)) (each (a .next)) (found c .find-chunks .result .chunks)
+    Placed (a .l) (length (a .y .now)) (a .heavy) (a .j) (each (a .left)) (each (a .next))
+    (found c .find-chunks .result .chunks)
 placed c = found c .find-chunks .ensures .1 (not-false _ (c .before .if3 .left))
 
 slice-aggregate-list-chunks : tie.Need-slice-aggregate-list-chunks Inv-loop μ-loop
@@ -183,7 +184,8 @@ loop-again c =
           let own = rest-next (a .l) (a .heavy) vs (v .s) (a .j) (s .pre .1 .0) in
           let here =
           subst (λ (w : ℕ). Has (blockModulus (a .l)) (getD (a .t9) w 0) (rest (a .l) (a .heavy) vs (a .j) w)) e has in
-          subst (λ (w : ℕ). Has (blockModulus (a .l)) (c .set-after .result) (rest (a .l) (a .heavy) vs (a .j + 1) w)) (sym e)
+          subst (λ (w : ℕ). Has (blockModulus (a .l)) (c .set-after .result) (rest (a .l) (a .heavy) vs (a .j + 1) w))
+          (sym e)
           (c .set-after .ensures (valueAt (a .l) (a .heavy) vs (a .j)) (rest (a .l) (a .heavy) vs (a .j + 1) (v .s))
           (all .0) (all .1 .0) (all .1 .1)
           (subst (λ (w : ℕ). Has (blockModulus (a .l)) (getD (a .t9) (v .s) 0) w) own here))),

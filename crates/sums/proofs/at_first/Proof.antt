@@ -80,7 +80,8 @@ loop-again c =
     in (
       (
         omega (arith, inside),
-        ⊎-elim (λ w. rw (w .2) (length-set (p .loop .sets) (p .loop .s) _ ∙ i .0 .1)) (λ w. rw (w .1) (i .0 .1)) (c .if1 .came),
+        ⊎-elim (λ w. rw (w .2) (length-set (p .loop .sets) (p .loop .s) _ ∙ i .0 .1)) (λ w. rw (w .1) (i .0 .1))
+            (c .if1 .came),
       ),
       λ t h low m k is.
           ⊎-elim
@@ -104,7 +105,8 @@ returns c vs sums short s h =
     let a = c .before .before .before .args in
     let whole = rest-whole (a .l) (a .t3) vs s ∙ sums s h in
     c .before .loop .inv .1 s (omega (arith, c .loop-test .left, c .before .loop .inv .0 .0))
-    (omega (arith, whole, mod-lt (rest (a .l) (a .t3) vs 0 s) {m = blockModulus (a .l)} (omega arith), short .blocks)) _ (rest (a .l) (a .t3) vs 0 s) whole
+    (omega (arith, whole, mod-lt (rest (a .l) (a .t3) vs 0 s) {m = blockModulus (a .l)} (omega arith), short .blocks))
+    _ (rest (a .l) (a .t3) vs 0 s) whole
 
 pub at-first-spec : {M : Type 1} → statement M
 at-first-spec =

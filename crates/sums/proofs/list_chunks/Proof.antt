@@ -58,7 +58,8 @@ module _ (nc : ℕ) (y : List ℕ) (chunks : Chunks) (list from : List ℕ) (s :
 
 abbrev Inv-loop : tie.InvT-loop
 Inv-loop nc y list₀ chunks n from₀ end₀ s₀ list from end s =
-    (((s ≤ n) × (length from ≡ 7)) × (getD from s 0 ≡ end)) × (Listing nc y chunks list from s × (length list ≡ length list₀))
+    (((s ≤ n) × (length from ≡ 7)) × (getD from s 0 ≡ end))
+    × (Listing nc y chunks list from s × (length list ≡ length list₀))
 
 abbrev μ-loop : tie.MeasureT-loop
 μ-loop nc y list₀ chunks n from₀ end₀ s₀ list from end s = n - s

@@ -589,7 +589,8 @@ from-step t c = from-sets t (freshened t c)
 -- a row at that state after the column has so much left
 own-next : (t : ℕ) (c : Lower t) → let a = begin t c .args in (x : List ℕ)
     → UnderMarks (a .l) (a .y .now) (a .numbers .now) (a .heavy) (a .shape) (a .known .now) (a .marks .now)
-    (a .rests .now) (a .z .now) (a .sets) (a .differ) (a .j) (a .t) x × (stateOf (a .shape) (ownLeft (a .l) (a .y .now) (a .heavy) x (a .j + 1)) ≡ a .to)
+    (a .rests .now) (a .z .now) (a .sets) (a .differ) (a .j) (a .t) x
+    × (stateOf (a .shape) (ownLeft (a .l) (a .y .now) (a .heavy) x (a .j + 1)) ≡ a .to)
     → (s : ℕ) → s < a .heavy .n → ownLeft (a .l) (a .y .now) (a .heavy) x (a .j + 1) s ≡ each (c .losses-left .result) s
 own-next t c x u =
     let a = begin t c .args in
@@ -630,7 +631,8 @@ losses-to-returns t c =
     false≢true
     (sym (not-true _ (c .if1 .taken))
     ∙ c .before .all-can .ensures
-    (λ r h. subst (λ (v : ℕ). 0 < getD (a .can .now) (entryAt r v) 0) (own-next t n x u r h) (s .pre .1 .1 .1 x sent (u .0) r h))))
+    (λ r h. subst (λ (v : ℕ). 0 < getD (a .can .now) (entryAt r v) 0) (own-next t n x u r h)
+    (s .pre .1 .1 .1 x sent (u .0) r h))))
 
 losses-to-crossing-requires : (t : ℕ)
     → losses-to-lts.Need-crossing-requires (losses-to-claims t) (losses-to-at t) losses-to.Post

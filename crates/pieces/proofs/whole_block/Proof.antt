@@ -1,4 +1,4 @@
--- `search::whole_block` meets its contract: a block without a loss is the next nb bits, so these have its sum. Rests on
+-- `pieces::whole_block` meets its contract: a block without a loss is the next nb bits, so these have its sum. Rests on
 -- Blocks.antt. Assumes nothing.
 use borrow.Author.Needs.{needs}
 use Prim.Native.Nat.{_-_, _≤_}
@@ -10,9 +10,9 @@ use lib.Seq.{length-take-le}
 use Rattle.bits.proofs.Laws.{bits-take}
 use Rattle.message.specs.Layout.{blockBits}
 use Rattle.message.proofs.Legal.{Bounds, Sizes, legal-bounds, sizes}
-use Rattle.search.proofs.Blocks.{sum-within, whole-not, whole-put}
-use Rattle.search.proofs.whole_block.Statement.{statement}
-use Rattle.search.proofs.whole_block.Tie as tie
+use Rattle.pieces.proofs.Blocks.{sum-within, whole-not, whole-put}
+use Rattle.pieces.proofs.whole_block.Statement.{statement}
+use Rattle.pieces.proofs.whole_block.Tie as tie
 
 bounds : (c : tie.Start) → Bounds (c .args .l)
 bounds c = legal-bounds (c .args .l) (c .pre .0)

@@ -1,4 +1,4 @@
--- `search::mended_block` meets its contract: a block with one loss is the mended string of the next nb - 1 bits.
+-- `pieces::mended_block` meets its contract: a block with one loss is the mended string of the next nb - 1 bits.
 -- Assumes nothing.
 use borrow.Author.Needs.{needs}
 use Prim.Native.Nat.{_+_, _-_, _*_, _≤_}
@@ -10,9 +10,9 @@ use Rattle.bits.proofs.Laws.{bits-take}
 use Rattle.vt.specs.Mend.{mended as mendedBits}
 use Rattle.message.specs.Layout.{blockBits}
 use Rattle.message.proofs.Legal.{Bounds, Sizes, legal-bounds, sizes}
-use Rattle.search.proofs.Blocks.{one-not, one-put, too-short, MendedNext, mended-next, starts-mended}
-use Rattle.search.proofs.mended_block.Statement.{statement}
-use Rattle.search.proofs.mended_block.Tie as tie
+use Rattle.pieces.proofs.Blocks.{one-not, one-put, too-short, MendedNext, mended-next, starts-mended}
+use Rattle.pieces.proofs.mended_block.Statement.{statement}
+use Rattle.pieces.proofs.mended_block.Tie as tie
 
 bounds : (c : tie.Start) → Bounds (c .args .l)
 bounds c = legal-bounds (c .args .l) (c .pre .0)

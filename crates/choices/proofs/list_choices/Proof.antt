@@ -1,5 +1,5 @@
--- `steps::list_choices` meets its contract. The loop's invariant: the choices of the blocks before b are listed. Rests on
--- Sweeping.antt. Assumes nothing.
+-- `choices::list_choices` meets its contract. The loop's invariant: the choices of the blocks before b are listed. Rests
+-- on Listing.antt. Assumes nothing.
 use borrow.Author.Needs.{needs}
 use Prim.Native.Nat.{ℕ, _+_, _-_, _*_, _<_, _≤_}
 use mathlib.Core.Path.{_≡_, refl, subst, _∙_}
@@ -7,10 +7,10 @@ use native.Mathlib.Omega.{arith}
 use lib.ListN.{length, getD, set, length-set}
 use lib.Seq.{getD-set-same}
 use Rattle.states.specs.States.{stride, each}
-use Rattle.steps.specs.Steps.{mostChoices, Blocks}
-use Rattle.steps.proofs.Sweeping.{blocks-next, adds-low}
-use Rattle.steps.proofs.list_choices.Statement.{statement}
-use Rattle.steps.proofs.list_choices.Tie as tie
+use Rattle.choices.specs.Choices.{mostChoices, Blocks}
+use Rattle.choices.proofs.Listing.{blocks-next, adds-low}
+use Rattle.choices.proofs.list_choices.Statement.{statement}
+use Rattle.choices.proofs.list_choices.Tie as tie
 
 abbrev Inv-loop : tie.InvT-loop
 Inv-loop l y totals counts heavy z j choices₀ shape left n from₀ b₀ choices from b =

@@ -1,9 +1,9 @@
--- `steps::put_choice` meets its contract. Rests on Sweeping.antt. Assumes nothing.
+-- `choices::put_choice` meets its contract. Rests on Listing.antt. Assumes nothing.
 use borrow.Author.Needs.{needs}
 use native.Mathlib.Omega.{arith}
-use Rattle.steps.proofs.Sweeping.{one-long, two-long, three-long, four-keeps, four-put}
-use Rattle.steps.proofs.put_choice.Statement.{statement}
-use Rattle.steps.proofs.put_choice.Tie as tie
+use Rattle.choices.proofs.Listing.{one-long, two-long, three-long, four-keeps, four-put}
+use Rattle.choices.proofs.put_choice.Statement.{statement}
+use Rattle.choices.proofs.put_choice.Tie as tie
 
 mul-at : tie.Need-mul-at
 mul-at c = search needs

@@ -1,11 +1,11 @@
--- `search::try_block` meets its contract: none and one loss are settled by the block's bits, two or more by how many
+-- `pieces::try_block` meets its contract: none and one loss are settled by the block's bits, two or more by how many
 -- bits remain. Assumes nothing.
 use borrow.Author.Needs.{needs}
 use native.Mathlib.Omega.{arith}
 use Rattle.message.proofs.Legal.{legal-bounds, sizes}
-use Rattle.search.proofs.Blocks.{too-many, too-short, tried-more}
-use Rattle.search.proofs.try_block.Statement.{statement}
-use Rattle.search.proofs.try_block.Tie as tie
+use Rattle.pieces.proofs.Blocks.{too-many, too-short, tried-more}
+use Rattle.pieces.proofs.try_block.Statement.{statement}
+use Rattle.pieces.proofs.try_block.Tie as tie
 
 mul-s : tie.Need-mul-s
 mul-s c = search needs

@@ -1,5 +1,5 @@
--- `steps::list_share` meets its contract. The loop's invariant: the choices with fewer than g ones more than were received
--- are listed. Rests on Sweeping.antt. Assumes nothing.
+-- `choices::list_share` meets its contract. The loop's invariant: the choices with fewer than g ones more than were
+-- received are listed. Rests on Listing.antt. Assumes nothing.
 use borrow.Author.Needs.{needs}
 use Prim.Native.Nat.{ℕ, _+_, _-_, _*_, _<_, _≤_}
 use mathlib.Core.Path.{_≡_, refl, sym, subst, ap, _∙_}
@@ -17,11 +17,11 @@ use Rattle.weigh.specs.Weigh.{Wider}
 use Rattle.weigh.specs.declared.Span.{Span}
 use Rattle.column.specs.Column.{valueAt}
 use Rattle.column.proofs.Rows.{crosses-readable}
-use Rattle.steps.specs.Steps.{Viewed, Keeps, ChoicesOf}
-use Rattle.steps.proofs.Sweeping.{ChunkIs, chunk-is, keeps-same, keeps-then, kept-listed, listed-then}
-use Rattle.steps.proofs.Sweeping.{listed-weaken, listed-none, listed-one, ones-first, ones-last}
-use Rattle.steps.proofs.list_share.Statement.{statement}
-use Rattle.steps.proofs.list_share.Tie as tie
+use Rattle.choices.specs.Choices.{Viewed, Keeps, ChoicesOf}
+use Rattle.choices.proofs.Listing.{ChunkIs, chunk-is, keeps-same, keeps-then, kept-listed, listed-then}
+use Rattle.choices.proofs.Listing.{listed-weaken, listed-none, listed-one, ones-first, ones-last}
+use Rattle.choices.proofs.list_share.Statement.{statement}
+use Rattle.choices.proofs.list_share.Tie as tie
 
 abbrev Inv-loop : tie.InvT-loop
 Inv-loop l y totals counts z j b left a one choices₀ t heavy c other adds seen last none g₀ end₀ choices g end =

@@ -1,4 +1,4 @@
--- `steps::look_at` meets its contract. Assumes nothing.
+-- `choices::look_at` meets its contract. Assumes nothing.
 use borrow.Author.Needs.{needs}
 use Prim.Native.Nat.{ℕ, _+_, _-_, _*_, _≤_}
 use mathlib.Core.Path.{_≡_, refl, sym, ap, ap₂, subst, _∙_}
@@ -9,9 +9,9 @@ use lib.ListN.{length, getD, take, drop}
 use Rattle.message.proofs.Legal.{legal-bounds}
 use Rattle.weigh.specs.Weigh.{SeenIn, MoreOnes}
 use Rattle.column.specs.Column.{chunkAt}
-use Rattle.steps.proofs.Sweeping.{ChunkIs, chunk-is}
-use Rattle.steps.proofs.look_at.Statement.{statement}
-use Rattle.steps.proofs.look_at.Tie as tie
+use Rattle.choices.proofs.Listing.{ChunkIs, chunk-is}
+use Rattle.choices.proofs.look_at.Statement.{statement}
+use Rattle.choices.proofs.look_at.Tie as tie
 
 -- where the function starts, seen from where the losses are known, and from where the block is
 abbrev start : tie.After-wide → tie.Start

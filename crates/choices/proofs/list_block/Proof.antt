@@ -1,16 +1,16 @@
--- `steps::list_block` meets its contract. The loop's invariant: the choices with fewer losses than a are listed, and these
--- are few. Rests on Sweeping.antt. Assumes nothing.
+-- `choices::list_block` meets its contract. The loop's invariant: the choices with fewer losses than a are listed, and
+-- these are few. Rests on Listing.antt. Assumes nothing.
 use borrow.Author.Needs.{needs}
 use Prim.Native.Nat.{_+_, _-_, _<_, _≤_}
 use mathlib.Core.Logic.{_⊎_, inl, inr, ⊎-elim}
 use native.Mathlib.Omega.{arith}
 use Rattle.bits.proofs.Laws.{lt-or-ge}
 use Rattle.message.proofs.Legal.{legal-bounds}
-use Rattle.steps.specs.Steps.{Keeps, mostChoices, ChoicesOf}
-use Rattle.steps.proofs.Sweeping.{keeps-same, keeps-then, kept-listed, listed-then, listed-weaken, listed-none}
-use Rattle.steps.proofs.Sweeping.{below, below-next, below-most}
-use Rattle.steps.proofs.list_block.Statement.{statement}
-use Rattle.steps.proofs.list_block.Tie as tie
+use Rattle.choices.specs.Choices.{Keeps, mostChoices, ChoicesOf}
+use Rattle.choices.proofs.Listing.{keeps-same, keeps-then, kept-listed, listed-then, listed-weaken, listed-none}
+use Rattle.choices.proofs.Listing.{below, below-next, below-most}
+use Rattle.choices.proofs.list_block.Statement.{statement}
+use Rattle.choices.proofs.list_block.Tie as tie
 
 abbrev Inv-loop : tie.InvT-loop
 Inv-loop l y totals counts heavy z j b left one choices₀ t most end₀ a₀ choices end a =

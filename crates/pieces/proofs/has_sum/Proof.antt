@@ -1,12 +1,12 @@
--- `search::has_sum` meets its contract: where enough bits remain, their sum decides. Assumes nothing.
+-- `pieces::has_sum` meets its contract: where enough bits remain, their sum decides. Assumes nothing.
 use borrow.Author.Needs.{needs}
 use Prim.Native.Nat.{ℕ}
 use mathlib.Core.Path.{ap, _∙_}
 use native.Mathlib.Omega.{arith}
 use lib.Dec.{eqb}
-use Rattle.search.proofs.Blocks.{sum-short, sum-decides}
-use Rattle.search.proofs.has_sum.Statement.{statement}
-use Rattle.search.proofs.has_sum.Tie as tie
+use Rattle.pieces.proofs.Blocks.{sum-short, sum-decides}
+use Rattle.pieces.proofs.has_sum.Statement.{statement}
+use Rattle.pieces.proofs.has_sum.Tie as tie
 
 returns : tie.Need-returns
 returns c =

@@ -1,4 +1,4 @@
--- `search::put_block` meets its contract. The loop's invariant: the row is what it was, with the first j numbers pasted
+-- `pieces::put_block` meets its contract. The loop's invariant: the row is what it was, with the first j numbers pasted
 -- in. Assumes nothing.
 use borrow.Author.Needs.{needs}
 use Prim.Native.Nat.{ℕ, _+_, _-_, _*_, _<_, _≤_}
@@ -10,8 +10,8 @@ use lib.Seq.{paste, paste-zero}
 use Rattle.bits.proofs.Copy.{paste-next, paste-whole}
 use Rattle.message.specs.Read.{fields}
 use Rattle.message.proofs.Fields.{fields-at, length-fields, field-room}
-use Rattle.search.proofs.put_block.Statement.{statement}
-use Rattle.search.proofs.put_block.Tie as tie
+use Rattle.pieces.proofs.put_block.Statement.{statement}
+use Rattle.pieces.proofs.put_block.Tie as tie
 
 abbrev Inv-loop : tie.InvT-loop
 Inv-loop nc l2 bits row₀ i at j₀ row j =

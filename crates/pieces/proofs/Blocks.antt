@@ -21,7 +21,7 @@ use Rattle.message.proofs.Fields.{fields-at, length-fields}
 use Rattle.consistent.specs.Greedy.{losses}
 use Rattle.consistent.proofs.Greedy.{losses-most, piece, whole}
 use Rattle.consistent.proofs.Rule.{block-not-one, block-mended}
-use Rattle.search.specs.Patterns.{hasSum, Loses, Tried}
+use Rattle.pieces.specs.Pieces.{hasSum, Loses, Tried}
 
 -- ---- whether the next nb bits have a sum
 module _ (nb s : ℕ) (rest : List ℕ) where

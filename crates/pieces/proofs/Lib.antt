@@ -1,0 +1,2 @@
+-- The laws of specs/, for the proofs of this crate.
+mod Blocks
