@@ -34,9 +34,14 @@ chunkAt l heavy j s = getD (heavy .block) s 0 * l .l2 + j
 abbrev pub valueAt : Layout → Heavy → (vs : List ℕ) (j s : ℕ) → ℕ
 valueAt l heavy vs j s = getD vs (chunkAt l heavy j s) 0
 
--- the bits that it would be matched against start here, plus the losses up to the end of its block
+-- the bits that the chunk of a block in column j is matched against, with so many losses left, start here, plus the losses
+-- up to the end of the block
+abbrev pub startAt : Layout → (block j left : ℕ) → ℕ
+startAt l block j left = (block * l .l2 + j) * l .nc + left
+
+-- so it is with that of heavy block s
 abbrev pub readFrom : Layout → Heavy → (left : ℕ → ℕ) (j s : ℕ) → ℕ
-readFrom l heavy left j s = chunkAt l heavy j s * l .nc + left s
+readFrom l heavy left j s = startAt l (getD (heavy .block) s 0) j (left s)
 
 -- the row in hand with the numbers v of the first k heavy blocks in column j
 unfoldable pub filled : Layout → Heavy → (v : ℕ → ℕ) (j k : ℕ) (row : List ℕ) → List ℕ

@@ -14,7 +14,7 @@ use Rattle.weigh.specs.Weigh.{SeenIn, MoreOnes, Wider}
 use Rattle.weigh.specs.declared.Seen.{Seen}
 use Rattle.weigh.specs.declared.Span.{Span}
 use Rattle.weigh.proofs.Spans.{ones-between, one-wider}
-use Rattle.whole.specs.Whole.{startAt}
+use Rattle.column.specs.Column.{startAt}
 use Rattle.costs.specs.Costs.{Repairs}
 
 module _ {l : Layout} {y : List ℕ} {block end j left sum : ℕ} {set : List ℕ} {v part : ℕ}

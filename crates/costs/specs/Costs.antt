@@ -12,9 +12,9 @@ use Rattle.message.specs.declared.Layout.{Layout}
 use Rattle.windows.specs.Windows.{Tables}
 use Rattle.consistent.specs.Greedy.{losses}
 use Rattle.states.specs.States.{each}
-use Rattle.column.specs.Column.{Fit, Light, Crosses, Readable}
+use Rattle.column.specs.Column.{Fit, Light, Crosses, Readable, startAt}
 use Rattle.column.specs.declared.Heavy.{Heavy}
-use Rattle.whole.specs.Whole.{modulus, startAt, legibleIn, bringsIn}
+use Rattle.whole.specs.Whole.{modulus, legibleIn, bringsIn}
 
 -- a residue is in a set: its entry is not zero
 abbrev pub In : (set : List ℕ) (r : ℕ) → Type 0

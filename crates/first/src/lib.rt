@@ -18,9 +18,6 @@ ghost use Rattle.marks.specs.Digits.{Within, entryOf, Digits};
 ghost use Rattle.near.specs.Near.{Sized, most};
 ghost use Rattle.first.specs.First.{Read, Goes, FirstMark};
 
-// The entries of a table of readings: thirteen for each of six blocks.
-const READINGS: usize = 78;
-
 // One more than the level of the state that lies down lower, for a block that has losses left; at most three.
 fn raised(levels: &[u8], q: usize, down: usize, left: u8) -> u8
     requires { ⌜ q ≤ length (now levels) ⌝ }
@@ -351,7 +348,7 @@ fn complete_column(
     let states = shape.states;
     let strides = shape.stride;
     let size = shape.size;
-    let mut readings: [u16; READINGS] = [0; READINGS];
+    let mut readings: [u16; states::ENTRIES] = [0; states::ENTRIES];
     whole::fill(l, y, totals, counts, numbers, heavy, size, j, &mut readings);
     let mut apart: [u16; states::MOST_STATES] = [0; states::MOST_STATES];
     near::fill_apart(columns, shape, before, after, j, &mut apart);

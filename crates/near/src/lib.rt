@@ -106,9 +106,6 @@ fn fill_block(
     }
 }
 
-// The entries of a table of values: thirteen for each of six blocks.
-const VALUES: usize = 78;
-
 // What the tables say of all heavy blocks together, for each loss state at column j.
 pub fn fill_apart(
     columns: usize,
@@ -127,7 +124,7 @@ pub fn fill_apart(
 {
     let n = shape.n;
     let size = shape.size;
-    let mut values: [u16; VALUES] = [0; VALUES];
+    let mut values: [u16; states::ENTRIES] = [0; states::ENTRIES];
     let mut s: usize = 0;
     while s < n {
         fill_block(columns, before, after, s, size[s], j, &mut values);

@@ -1,3 +1,3 @@
 -- The laws of specs/, for the proofs of this crate and of the crates that stand on it.
 pub mod Rests
-pub mod Chosen
+pub mod Leaving

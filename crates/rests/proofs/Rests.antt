@@ -23,14 +23,14 @@ use Rattle.residues.specs.Residues.{Has}
 use Rattle.states.specs.States.{lefts, each}
 use Rattle.sums.specs.Sums.{Short, blockModulus, rest, restAt, HoldsFrom}
 use Rattle.sums.proofs.Rest.{rest-next, rest-end}
-use Rattle.rests.specs.Rests.{Source, CanBe, Brings, Filled, FilledColumn}
+use Rattle.rests.specs.Rests.{ShortChunk, CanBe, Brings, Filled, FilledColumn}
 
 -- the blocks of a short layout have at most twenty chunks
 pub short-columns : (l : Layout) → legal l ≡ true → Short l → l .l2 ≤ 20
 short-columns l e short = omega (arith, short .blocks, mul-le-mul-left (l .l2) (legal-bounds l e .nc-low))
 
 -- where a chunk stands, and where its first position does in its block
-pub record Stands (l : Layout) (block c : ℕ) : Type 0 where
+pub record Low (l : Layout) (block c : ℕ) : Type 0 where
   pub nc-high : l .nc ≤ 8
   pub column : c < 20
   pub chunk : block * l .l2 + c < 255
@@ -38,8 +38,8 @@ pub record Stands (l : Layout) (block c : ℕ) : Type 0 where
   pub modulus : l .l2 * l .nc ≤ 62
   pub first : c * l .nc ≤ 62
 
-pub source-stands : {l : Layout} {y : List ℕ} {block c : ℕ} → Source l y block c → Stands l block c
-source-stands {l} {y} {block} {c} s =
+pub short-low : {l : Layout} {y : List ℕ} {block c : ℕ} → ShortChunk l y block c → Low l block c
+short-low {l} {y} {block} {c} s =
     let k = chunk-stands l (s .allowed) block c (s .inside) (s .column) .1 in
     record {
       nc-high = legal-bounds l (s .allowed) .nc-high;
@@ -50,23 +50,16 @@ source-stands {l} {y} {block} {c} s =
       first = omega (arith, field-room (l .l2) (l .nc) c (s .column), s .is-short .blocks);
     }
 
--- the entries of heavy block s in column c are filled for the first n numbers of losses, and all others stay
-pub record Filling (l : Layout) (y : List ℕ) (block end c s n : ℕ) (entry exit : List ℕ) : Type 0 where
-  pub long : length exit ≡ length entry
-  pub others : (i : ℕ) → (i < restAt c s 0) ⊎ (restAt c s lefts ≤ i) → getD exit i 0 ≡ getD entry i 0
-  pub put : (left : ℕ) → left < n → (next : ℕ) → next ≤ left
-      → Brings l y block end c left next (getD entry (restAt (c + 1) s next) 0) (getD exit (restAt c s left) 0)
-
 module _ (l : Layout) (y : List ℕ) (block end c s : ℕ) where
-  pub filling-starts : (entry : List ℕ) → Filling l y block end c s 0 entry entry
-  filling-starts entry = record { long = refl; others = λ i h. refl; put = λ left h. absurd (omega (arith, h)) }
+  pub filled-starts : (entry : List ℕ) → Filled l y block end c s 0 entry entry
+  filled-starts entry = record { long = refl; others = λ i h. refl; put = λ left h. absurd (omega (arith, h)) }
 
   -- one entry more, from the entries of the next column, which stay
-  pub filling-next : (n : ℕ) (entry exit : List ℕ) → Filling l y block end c s n entry exit
+  pub filled-next : (n : ℕ) (entry exit : List ℕ) → Filled l y block end c s n entry exit
       → n < lefts → s < 6 → restAt (c + 2) 0 0 ≤ length exit → (at v : ℕ) → at ≡ restAt c s n
       → ((next : ℕ) → next ≤ n → Brings l y block end c n next (getD exit (c * 78 + s * 13 + 78 + next) 0) v)
-      → Filling l y block end c s (n + 1) entry (set exit at v)
-  filling-next n entry exit f low few room at v is brings =
+      → Filled l y block end c s (n + 1) entry (set exit at v)
+  filled-next n entry exit f low few room at v is brings =
       record {
         long = length-set exit at v ∙ f .long;
         others = λ i h.
@@ -95,7 +88,7 @@ module _ (l : Layout) (y : List ℕ) (block end c s : ℕ) where
 -- a block more of a column is filled: its entries are others than those of the blocks before it and of the next column
 pub column-next : (l : Layout) (y : List ℕ) (heavy : Heavy) (size : List ℕ) (c n : ℕ) (entry before exit : List ℕ)
     → ((s : ℕ) → s < n + 1 → each size s < lefts) → n < 6 → FilledColumn l y heavy size c n entry before
-    → Filled l y (getD (heavy .block) n 0) (getD (heavy .end) n 0) c n (each size n) before exit
+    → Filled l y (getD (heavy .block) n 0) (getD (heavy .end) n 0) c n (each size n + 1) before exit
     → FilledColumn l y heavy size c (n + 1) entry exit
 column-next l y heavy size c n entry before exit small few f b =
     record {
@@ -115,7 +108,7 @@ column-next l y heavy size c n entry before exit small few f b =
           ))))
           (f .put t left next k low down))
           (λ left next low down.
-          rw (← (f .behind (restAt (c + 1) n next) (omega arith))) (b .put left next low down))
+          rw (← (f .behind (restAt (c + 1) n next) (omega arith))) (b .put left (omega (arith, low)) next down))
           s h left next;
     }
 

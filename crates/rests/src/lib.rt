@@ -8,11 +8,11 @@ ghost use mathlib.Core.List.{List};
 ghost use Prim.Native.Nat.{ℕ, _+_, _*_, _<_, _≤_};
 ghost use lib.ListN.{length, getD};
 ghost use Rattle.residues.specs.Residues.{Has};
-ghost use Rattle.states.specs.States.{lefts, each, entryAt};
+ghost use Rattle.states.specs.States.{lefts, each, entries, entryAt};
 ghost use Rattle.column.specs.Column.{Fit, Crosses};
 ghost use Rattle.marks.specs.Marks.{Path};
 ghost use Rattle.sums.specs.Sums.{Short, blockModulus, rest, Holds, HoldsFrom, restAt};
-ghost use Rattle.rests.specs.Rests.{Source, Brings, Filled, FilledColumn, Marked};
+ghost use Rattle.rests.specs.Rests.{ShortChunk, Brings, Filled, FilledColumn, Marked};
 
 // The set of what the chunk of a block in column c brings with what those behind it bring, where it is read with so much left at its
 // start and after it: each of its contents is tried. None where it cannot be read so.
@@ -26,7 +26,7 @@ fn with_chunk(
     next: u8,
     behind: u64,
 ) -> u64
-    requires { ⌜ Source l (now y) block c × (left < lefts) ⌝ }
+    requires { ⌜ ShortChunk l (now y) block c × (left < lefts) ⌝ }
     ensures { λ r. ⌜ Brings l (now (y .entry)) block end c left next behind r ⌝ }
 {
     let nc = l.nc;
@@ -54,7 +54,7 @@ fn with_chunks(
     rests: &[u64],
     at: usize,
 ) -> u64
-    requires { ⌜ (Source l (now y) block c × (left < lefts)) × (at + lefts ≤ length (now rests)) ⌝ }
+    requires { ⌜ (ShortChunk l (now y) block c × (left < lefts)) × (at + lefts ≤ length (now rests)) ⌝ }
     ensures { λ r. ⌜ ((next : ℕ) → next ≤ left
         → Brings l (now (y .entry)) block end c left next (getD (now (rests .entry)) (at + next) 0) r) ⌝ }
 {
@@ -79,13 +79,13 @@ fn fill_block(
     most: u8,
     rests: &mut [u64],
 )
-    requires { ⌜ Source l (now y) block c × (((s < 6) × (most < lefts)) × (restAt (c + 2) 0 0 ≤ length (now rests))) ⌝ }
-    ensures { λ _. ⌜ Filled l (now (y .entry)) block end c s most (now (rests .entry)) (now (rests .exit)) ⌝ }
+    requires { ⌜ ShortChunk l (now y) block c × (((s < 6) × (most < lefts)) × (restAt (c + 2) 0 0 ≤ length (now rests))) ⌝ }
+    ensures { λ _. ⌜ Filled l (now (y .entry)) block end c s (most + 1) (now (rests .entry)) (now (rests .exit)) ⌝ }
 {
-    let own = c * sums::COLUMN + s * states::LEFTS;
+    let own = c * states::ENTRIES + s * states::LEFTS;
     let mut left: u8 = 0;
     while left <= most {
-        let set = with_chunks(l, y, block, end, c, left, rests, own + sums::COLUMN);
+        let set = with_chunks(l, y, block, end, c, left, rests, own + states::ENTRIES);
         rests[own + bits::wide(left)] = set;
         left += 1;
     }
@@ -134,7 +134,7 @@ pub fn fill(
     if !sums::is_short(l) {
         return;
     }
-    let end = l.l2 * sums::COLUMN;
+    let end = l.l2 * states::ENTRIES;
     let n = heavy.n;
     let mut s: usize = 0;
     while s < n {
@@ -148,9 +148,6 @@ pub fn fill(
     }
 }
 
-// The entries of a table of choices: one for each of six blocks and each number of losses.
-pub const CHOICES: usize = 78;
-
 // Marks with how many losses left heavy block s can leave column c, with so many at its start: what it is to bring from there on is among
 // what its chunk brings with those behind it.
 fn mark_block(
@@ -163,14 +160,15 @@ fn mark_block(
     left: u8,
     set: u64,
     rests: &[u64],
-    can: &mut [u8; CHOICES],
+    can: &mut [u8; states::ENTRIES],
 )
-    requires { ⌜ (Source l (now y) block c × (((s < 6) × (left < lefts)) × (restAt (c + 2) 0 0 ≤ length (now rests))))
-        × (length (now can) ≡ 78) ⌝ }
-    ensures { λ _. ⌜ Marked l (now (y .entry)) block end c s left set (now (rests .entry)) (now (can .entry)) (now (can .exit)) ⌝ }
+    requires { ⌜ (ShortChunk l (now y) block c × (((s < 6) × (left < lefts)) × (restAt (c + 2) 0 0 ≤ length (now rests))))
+        × (length (now can) ≡ entries) ⌝ }
+    ensures { λ _. ⌜ Marked l (now (y .entry)) block end c s left set (now (rests .entry)) (now (can .entry)) (left + 1)
+        (now (can .exit)) ⌝ }
 {
     let own = s * states::LEFTS;
-    let behind = (c + 1) * sums::COLUMN + own;
+    let behind = (c + 1) * states::ENTRIES + own;
     let mut next: u8 = 0;
     while next <= left {
         let n = bits::wide(next);
@@ -184,7 +182,7 @@ fn mark_block(
 
 // With how many losses left each heavy block can leave column c; with a layout that is not short nothing is known, and each number is
 // marked.
-pub fn choices(
+pub fn exits(
     l: Layout,
     y: &[u8],
     numbers: &[u16],
@@ -193,7 +191,7 @@ pub fn choices(
     left: [u8; states::MOST_HEAVY],
     sets: [u64; states::MOST_HEAVY],
     rests: &[u64],
-) -> [u8; CHOICES]
+) -> [u8; states::ENTRIES]
     requires { ⌜ Fit l (now y) (now numbers) heavy × ((c < l .l2) × ((s : ℕ) → s < heavy .n → each left s < lefts)) ⌝ }
     ensures { λ r. ⌜ ((row vs : List ℕ) (next : ℕ → ℕ) → Crosses l (now (y .entry)) (now (numbers .entry)) heavy row c (each left) next vs
         → Holds l heavy sets vs c
@@ -202,13 +200,13 @@ pub fn choices(
         → (s : ℕ) → s < heavy .n → 0 < getD r (entryAt s (next s)) 0) ⌝ }
 {
     if !sums::is_short(l) {
-        return [1; CHOICES];
+        return [1; states::ENTRIES];
     }
     if rests.len() < RESTS {
-        return [1; CHOICES];
+        return [1; states::ENTRIES];
     }
     let n = heavy.n;
-    let mut can: [u8; CHOICES] = [0; CHOICES];
+    let mut can: [u8; states::ENTRIES] = [0; states::ENTRIES];
     let mut s: usize = 0;
     while s < n {
         mark_block(
@@ -229,14 +227,14 @@ pub fn choices(
 }
 
 // Whether all of n heavy blocks can leave a column with so many losses left.
-pub fn all_can(n: usize, next: [u8; states::MOST_HEAVY], can: &[u8; CHOICES]) -> bool
+pub fn all_can(n: usize, next: [u8; states::MOST_HEAVY], can: &[u8; states::ENTRIES]) -> bool
     requires { ⌜ n ≤ 6 ⌝ }
     ensures { λ r. ⌜ (((s : ℕ) → s < n → 0 < getD (now (can .entry)) (entryAt s (each next s)) 0) → r ≡ true) ⌝ }
 {
     let mut s: usize = 0;
     while s < n {
         let at = s * states::LEFTS + bits::wide(next[s]);
-        if CHOICES <= at {
+        if states::ENTRIES <= at {
             return true;
         }
         if can[at] == 0 {

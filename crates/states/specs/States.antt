@@ -46,6 +46,10 @@ firsts f (suc n) = firsts f n + f n
 abbrev pub entryAt : (s e : ℕ) → ℕ
 entryAt s e = s * lefts + e
 
+-- it has so many entries
+abbrev pub entries : ℕ
+entries = 78
+
 -- what the values of the first n blocks add up to, where block s has left s losses left
 abbrev pub addedUp : (values : List ℕ) (left : ℕ → ℕ) (n : ℕ) → ℕ
 addedUp values left n = firsts (λ s. getD values (entryAt s (left s)) 0) n

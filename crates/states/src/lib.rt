@@ -15,6 +15,9 @@ pub const MOST_STATES: usize = 729;
 // The numbers of losses that tables tell apart, none to twelve.
 pub const LEFTS: usize = 13;
 
+// The entries of a table that has one for each block and each number of losses left.
+pub const ENTRIES: usize = 78;
+
 // The loss states: how many losses each block has at most, what one counts in the number of a state, and how many states there are.
 pub struct Shape {
     pub n: usize,

@@ -1,4 +1,4 @@
--- A column allows a chunk beside which the others bring what is missing; and the chunks of a row that crosses it are listed.
+-- A chunk completes its column if the others bring what is missing beside it; and the chunks of a row that crosses it are listed.
 -- Rests on the laws of column. Assumes nothing.
 use Prim.Native.Nat.{ℕ, zero, suc, _+_, _*_, _%_, _<_, _≤_}
 use mathlib.Core.Path.{_≡_, refl, ap, _∙_}
@@ -20,8 +20,8 @@ use Rattle.weigh.specs.declared.Chunks.{Chunks}
 use Rattle.column.specs.Column.{valueAt, Crosses, Placed}
 use Rattle.column.specs.declared.Heavy.{Heavy}
 use Rattle.column.proofs.Rows.{crosses-can}
-use Rattle.sums.specs.declared.Ask.{Ask}
-use Rattle.sums.specs.Sums.{Allows, Listing, othersBring}
+use Rattle.sums.specs.declared.Beside.{Beside}
+use Rattle.sums.specs.Sums.{Completes, Listing, othersBring}
 
 -- what chunk b of a column brings
 abbrev own : (nc : ℕ) (block : List ℕ) (vs : ℕ → ℕ) → ℕ → ℕ
@@ -44,11 +44,11 @@ others-own nc block vs s n h =
     in
     omega (arith, but, none, brought-firsts nc block vs n)
 
--- so a column allows a chunk with which they bring what it is to have
-pub others-allow : (nc m part : ℕ) (block : List ℕ) (vs : ℕ → ℕ) (s n : ℕ) → s < n → (ask : Ask) → ask .modulus ≡ m
-    → ask .first ≡ getD block s 0 * nc + 1 → Has m (ask .others) (part + othersBring nc block vs s n)
-    → (part + brought nc block vs n) % m ≡ ask .want → Allows nc ask (vs s)
-others-allow nc m part block vs s n h ask modulus first has sum =
+-- so a chunk with which they bring what the column is to have completes it
+pub others-complete : (nc m part : ℕ) (block : List ℕ) (vs : ℕ → ℕ) (s n : ℕ) → s < n → (beside : Beside) → beside .modulus ≡ m
+    → beside .first ≡ getD block s 0 * nc + 1 → Has m (beside .others) (part + othersBring nc block vs s n)
+    → (part + brought nc block vs n) % m ≡ beside .want → Completes nc beside (vs s)
+others-complete nc m part block vs s n h beside modulus first has sum =
     let all : part + othersBring nc block vs s n + own nc block vs s ≡ part + brought nc block vs n =
     omega (arith, others-own nc block vs s n h)
     in

@@ -13,11 +13,11 @@ use Rattle.consistent.specs.Greedy.{losses}
 use Rattle.lines.specs.Lines.{line}
 use Rattle.contents.specs.Contents.{Among}
 use Rattle.residues.specs.Residues.{Has}
-use Rattle.states.specs.States.{firsts, entryAt}
+use Rattle.states.specs.States.{firsts, entries, entryAt}
 use Rattle.weigh.specs.declared.Chunks.{Chunks}
 use Rattle.column.specs.Column.{chunkAt}
 use Rattle.column.specs.declared.Heavy.{Heavy}
-use Rattle.sums.specs.declared.Ask.{Ask}
+use Rattle.sums.specs.declared.Beside.{Beside}
 
 -- a layout whose blocks and chunk-strings are short: the residues of their sums are the bits of a word
 pub record Short (l : Layout) : Type 0 where
@@ -37,13 +37,10 @@ abbrev pub Holds : Layout → Heavy → (sets vs : List ℕ) (c : ℕ) → Type 
 Holds l heavy sets vs c =
     Short l → (s : ℕ) → s < heavy .n → Has (blockModulus l) (getD sets s 0) (rest l heavy vs c s)
 
--- a table of such sets has so many entries for each column: one for each of six blocks and each number of losses
-abbrev pub columnEntries : ℕ
-columnEntries = 78
-
--- that of heavy block s with so many losses left at the start of column c stands here
+-- a table that has for each column one with an entry for each heavy block and each number of losses left has here that of
+-- heavy block s with so many left at the start of column c
 abbrev pub restAt : (c s left : ℕ) → ℕ
-restAt c s left = c * columnEntries + entryAt s left
+restAt c s left = c * entries + entryAt s left
 
 -- the table holds, from column low on, what the heavy blocks of a row with the chunks vs and the losses own left bring
 abbrev pub HoldsFrom : Layout → Heavy → (rests vs : List ℕ) (own : ℕ → ℕ → ℕ) (low : ℕ) → Type 0
@@ -56,10 +53,10 @@ HoldsFrom l heavy rests vs own low =
 abbrev pub Weighs : (nc m first : ℕ) → Type 0
 Weighs nc m first = (nc ≤ 8) × (((1 ≤ m) × (m ≤ 63)) × ((1 ≤ first) × (first ≤ longest + 1)))
 
--- what a column asks of a chunk allows it to be v: its others can bring so much that the column has its sum with it
-abbrev pub Allows : (nc : ℕ) (ask : Ask) (v : ℕ) → Type 0
-Allows nc ask v =
-    (a : ℕ) × (Has (ask .modulus) (ask .others) a × ((a + total (ask .first) (digits nc v)) % ask .modulus ≡ ask .want))
+-- the number v completes a chunk's column: its others can bring so much that the column has its sum with it
+abbrev pub Completes : (nc : ℕ) (beside : Beside) (v : ℕ) → Type 0
+Completes nc beside v =
+    (a : ℕ) × (Has (beside .modulus) (beside .others) a × ((a + total (beside .first) (digits nc v)) % beside .modulus ≡ beside .want))
 
 -- the contents that the first n chunks can be are listed one behind the other, those of chunk s from its entry on
 pub record Listing (nc : ℕ) (y : List ℕ) (chunks : Chunks) (list from : List ℕ) (n : ℕ) : Type 0 where

@@ -18,16 +18,13 @@ ghost use Rattle.residues.specs.Residues.{Has};
 ghost use Rattle.states.specs.States.{each};
 ghost use Rattle.weigh.specs.Weigh.{brought};
 ghost use Rattle.column.specs.Column.{Fit, Light, Crosses};
-ghost use Rattle.sums.specs.Sums.{Short, blockModulus, rest, Holds, HoldsFrom, Weighs, Allows, Listing, othersBring};
+ghost use Rattle.sums.specs.Sums.{Short, blockModulus, rest, Holds, HoldsFrom, Weighs, Completes, Listing, othersBring};
 
 // The most contents of the chunks of a column: 256 for each of six blocks.
 const CONTENTS: usize = 1536;
 
 // Where the contents of a block begin, and where those of the last one end.
 const PARTS: usize = 7;
-
-// The entries of a column in a table of rests: one for each of six blocks and each number of losses.
-pub const COLUMN: usize = 78;
 
 // Whether a layout's blocks and chunk-strings are short.
 pub fn is_short(l: Layout) -> bool
@@ -65,25 +62,28 @@ pub fn with_each(
     r
 }
 
-// What a column asks of one of its chunks: the set of what the others bring, modulo a number; where the chunk's first bit stands; and
-// what they are to bring with it.
-pub struct Ask {
+// What stands beside a chunk in its column: the set of what the others bring, modulo a number; where the chunk's first bit stands; and what
+// they are to bring with it.
+pub struct Beside {
     pub others: u64,
     pub modulus: usize,
     pub first: usize,
     pub want: usize,
 }
 
-// Whether a column allows a content.
-fn allows(table: &[u16; 256], nc: usize, ask: Ask, v: u8) -> bool
-    requires { ⌜ (now table ≡ weights) × (Weighs nc (ask .modulus) (ask .first) × (ask .want < 64)) ⌝ }
-    ensures { λ r. ⌜ (Allows nc ask v → r ≡ true) ⌝ }
+// Whether a content completes its column: the others can bring what is missing beside it.
+fn completes(table: &[u16; 256], nc: usize, beside: Beside, v: u8) -> bool
+    requires { ⌜ (now table ≡ weights) × (Weighs nc (beside .modulus) (beside .first) × (beside .want < 64)) ⌝ }
+    ensures { λ r. ⌜ (Completes nc beside v → r ≡ true) ⌝ }
 {
-    let own = lines::chunk_total(table, nc, v, ask.first);
-    residues::holds(residues::moved_on(ask.others, ask.modulus, own), ask.want)
+    let own = lines::chunk_total(table, nc, v, beside.first);
+    residues::holds(
+        residues::moved_on(beside.others, beside.modulus, own),
+        beside.want,
+    )
 }
 
-// A set moved back by each of the contents from low to high that the column allows.
+// A set moved back by each of the contents from low to high that completes its column.
 fn without_each(
     nc: usize,
     m: usize,
@@ -92,10 +92,10 @@ fn without_each(
     low: usize,
     high: usize,
     set: u64,
-    ask: Ask,
+    beside: Beside,
 ) -> u64
-    requires { ⌜ (Weighs nc m first × (high ≤ length (now list))) × (Weighs nc (ask .modulus) (ask .first) × (ask .want < 64)) ⌝ }
-    ensures { λ r. ⌜ ((v n : ℕ) → Among (now (list .entry)) low high v → Allows nc ask v
+    requires { ⌜ (Weighs nc m first × (high ≤ length (now list))) × (Weighs nc (beside .modulus) (beside .first) × (beside .want < 64)) ⌝ }
+    ensures { λ r. ⌜ ((v n : ℕ) → Among (now (list .entry)) low high v → Completes nc beside v
         → Has m set (n + total first (digits nc v)) → Has m r n) ⌝ }
 {
     let table = vt::weights();
@@ -103,7 +103,7 @@ fn without_each(
     let mut k = low;
     while k < high {
         let v = list[k];
-        if allows(&table, nc, ask, v) {
+        if completes(&table, nc, beside, v) {
             let by = lines::chunk_total(&table, nc, v, first);
             r = residues::together(r, residues::moved_back(set, m, by));
         }
@@ -163,7 +163,7 @@ fn other_sums(
 }
 
 // The set of heavy block s after column j, which has so much beside the chunks of the heavy blocks and is to have the sum want: the set
-// before it moved back by each content of the block's chunk that the column allows. The contents of all chunks there are listed.
+// before it moved back by each content of the block's chunk that completes the column. The contents of all chunks there are listed.
 fn set_after(
     l: Layout,
     heavy: Heavy,
@@ -184,7 +184,7 @@ fn set_after(
         → Has (blockModulus l) set (k + total (j * l .nc + 1) (digits (l .nc) (vs s))) → Has (blockModulus l) r k) ⌝ }
 {
     let nc = l.nc;
-    let ask = Ask {
+    let beside = Beside {
         others: other_sums(l, heavy.n, heavy.block, list, from, known, s),
         modulus: l.l1 * nc + 1,
         first: bits::wide(heavy.block[s]) * nc + 1,
@@ -198,7 +198,7 @@ fn set_after(
         from[s],
         from[s + 1],
         set,
-        ask,
+        beside,
     )
 }
 
@@ -283,7 +283,7 @@ pub fn all_meet(
     let n = heavy.n;
     let mut s: usize = 0;
     while s < n {
-        let at = c * COLUMN + s * states::LEFTS + bits::wide(left[s]);
+        let at = c * states::ENTRIES + s * states::LEFTS + bits::wide(left[s]);
         if rests.len() <= at {
             return true;
         }

@@ -176,7 +176,7 @@ module _ {l : Layout} {y numbers : List ℕ} {heavy : Heavy} {shape : Shape} {kn
     crosses : Crosses l y numbers heavy (u .1 .row) j (each (t .left)) next (values l x)
     crosses = crosses-same l y numbers heavy _ j (values l x) _ _ _ _ (left-own (u .0)) own (u .1 .path .crosses j column)
 
-    -- so the numbers of losses that it has left after it are choices
+    -- so the numbers of losses that it has left after it are marked
     pub leaves : (can : List ℕ)
         → ((row vs : List ℕ) (next : ℕ → ℕ) → Crosses l y numbers heavy row j (each (t .left)) next vs
         → Holds l heavy sets vs j
@@ -184,8 +184,8 @@ module _ {l : Layout} {y numbers : List ℕ} {heavy : Heavy} {shape : Shape} {kn
         → Has (blockModulus l) (getD rests (restAt (j + 1) s (next s)) 0) (rest l heavy vs (j + 1) s))
         → (s : ℕ) → s < heavy .n → 0 < getD can (entryAt s (next s)) 0)
         → (s : ℕ) → s < heavy .n → 0 < getD can (entryAt s (next s)) 0
-    leaves can choices =
-        choices (u .1 .row) (values l x) next crosses (u .1 .sums)
+    leaves can exits =
+        exits (u .1 .row) (values l x) next crosses (u .1 .sums)
         (λ short s h.
         subst (λ (v : ℕ). Has (blockModulus l) (getD rests (restAt (j + 1) s v) 0) (rest l heavy (values l x) (j + 1) s))
         (own s h) (u .1 .rest-sums short (j + 1) s (omega arith) (omega arith) h))

@@ -383,7 +383,7 @@ fn losses_here(
 {
     let left = t.left;
     let q = states::number_of(shape, left);
-    let can = rests::choices(l, y, numbers, heavy, j, left, sets, rests);
+    let can = rests::exits(l, y, numbers, heavy, j, left, sets, rests);
     let mut k = kept;
     let mut to: usize = 0;
     while to < q {
@@ -436,7 +436,7 @@ fn losses_to(
     j: usize,
     t: Table,
     sets: [u64; states::MOST_HEAVY],
-    can: &[u8; rests::CHOICES],
+    can: &[u8; states::ENTRIES],
     to: usize,
     mark: u8,
     differ: usize,

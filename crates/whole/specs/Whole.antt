@@ -10,7 +10,7 @@ use Rattle.message.specs.Layout.{legal}
 use Rattle.message.specs.declared.Layout.{Layout}
 use Rattle.windows.specs.Windows.{Tables}
 use Rattle.states.specs.States.{each, entryAt}
-use Rattle.column.specs.Column.{Readable}
+use Rattle.column.specs.Column.{Readable, startAt}
 use Rattle.column.specs.declared.Heavy.{Heavy}
 
 -- the sum of a chunk-string is below this
@@ -25,10 +25,6 @@ pub record Source (l : Layout) (y totals counts : List ℕ) (block j : ℕ) : Ty
   pub tables : Tables y 0 totals counts
   pub inside : block < l .l1
   pub column : j < l .l2
-
--- with e losses left in its block the chunk's bits start here, plus the losses up to the end of the block
-abbrev pub startAt : Layout → (block j e : ℕ) → ℕ
-startAt l block j e = (block * l .l2 + j) * l .nc + e
 
 -- with e losses left it can be read whole: the next nc bits of a received row of so many bits are there
 abbrev pub Legible : Layout → (size block end j e : ℕ) → Type 0

@@ -11,8 +11,8 @@ ghost use Rattle.vt.specs.Sum.{total};
 ghost use Rattle.windows.specs.Windows.{Tables};
 ghost use Rattle.consistent.specs.Greedy.{losses};
 ghost use Rattle.states.specs.States.{lefts, each, entryAt, addedUp};
-ghost use Rattle.column.specs.Column.{Fit, Readable};
-ghost use Rattle.whole.specs.Whole.{modulus, Source, startAt, Legible, brings, unread, Readings};
+ghost use Rattle.column.specs.Column.{Fit, Readable, startAt};
+ghost use Rattle.whole.specs.Whole.{modulus, Source, Legible, brings, unread, Readings};
 
 // In place of what a chunk brings that cannot be read whole: more than a chunk brings.
 pub const UNREAD: usize = 65535;

@@ -13,7 +13,7 @@ use Rattle.vt.specs.Ones.{ones}
 use Rattle.vt.specs.Sum.{total}
 use Rattle.message.proofs.Legal.{Bounds, legal-bounds}
 use Rattle.column.proofs.Rows.{string-high}
-use Rattle.whole.specs.Whole.{startAt}
+use Rattle.column.specs.Column.{startAt}
 use Rattle.whole.proofs.Whole.{Stands, stands}
 use Rattle.costs.specs.Costs.{Repairs}
 use Rattle.costs.proofs.OneLost.{lost-between, brings-between}

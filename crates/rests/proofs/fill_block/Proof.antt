@@ -5,13 +5,14 @@ use native.Mathlib.Omega.{arith}
 use borrow.Author.Needs.{needs}
 use lib.ListN.{length}
 use Rattle.states.specs.States.{lefts}
-use Rattle.rests.proofs.Rests.{source-stands, Filling, filling-starts, filling-next}
+use Rattle.rests.specs.Rests.{Filled}
+use Rattle.rests.proofs.Rests.{short-low, filled-starts, filled-next}
 use Rattle.rests.proofs.fill_block.Statement.{statement}
 use Rattle.rests.proofs.fill_block.Tie as tie
 
 abbrev Inv-loop : tie.InvT-loop
 Inv-loop l y block end c s most rests₀ own left₀ rests left =
-    (left ≤ most + 1) × Filling l y block end c s left rests₀ rests
+    (left ≤ most + 1) × Filled l y block end c s left rests₀ rests
 
 abbrev μ-loop : tie.MeasureT-loop
 μ-loop l y block end c s most rests₀ own left₀ rests left = most + 1 - left
@@ -23,7 +24,7 @@ start c = c .before .before .before
 mul-own : tie.Need-mul-own Inv-loop μ-loop
 mul-own c =
     let p = c .before .before .pre in
-    record { fits = omega (arith, source-stands (p .0) .column) }
+    record { fits = omega (arith, short-low (p .0) .column) }
 
 mul-own-2 : tie.Need-mul-own-2 Inv-loop μ-loop
 mul-own-2 c =
@@ -33,10 +34,10 @@ mul-own-2 c =
 add-own : tie.Need-add-own Inv-loop μ-loop
 add-own c =
     let p = c .before .before .pre in
-    record { fits = omega (arith, source-stands (p .0) .column, p .1 .0 .0) }
+    record { fits = omega (arith, short-low (p .0) .column, p .1 .0 .0) }
 
 loop-holds : tie.Need-loop-holds Inv-loop μ-loop
-loop-holds c = (omega arith, filling-starts _ _ _ _ _ _ _)
+loop-holds c = (omega arith, filled-starts _ _ _ _ _ _ _)
 
 -- the entry of a turn stands in the table, and so do those of the next column
 stands : (c : tie.In-loop Inv-loop μ-loop) → let i = c .before in let a = start i .args in
@@ -48,7 +49,7 @@ stands c =
       omega (arith, c .loop-test .taken, p .1 .0 .1),
       (
         omega (arith, p .1 .0 .0, p .1 .1, i .loop .inv .1 .long),
-        omega (arith, source-stands (p .0) .column, p .1 .0 .0),
+        omega (arith, short-low (p .0) .column, p .1 .0 .0),
       ),
     )
 
@@ -90,7 +91,7 @@ loop-again c =
     let i = t .before in
     let p = start i .pre in (
       omega (arith, t .loop-test .taken),
-      filling-next _ _ _ _ _ _ (i .loop .left) _ (i .loop .rests) (i .loop .inv .1) (stands t .0) (p .1 .0 .0)
+      filled-next _ _ _ _ _ _ (i .loop .left) _ (i .loop .rests) (i .loop .inv .1) (stands t .0) (p .1 .0 .0)
           (omega (arith, p .1 .1, i .loop .inv .1 .long)) _ _ (omega (arith, c .wide .ensures))
           (c .before .with-chunks .ensures),
     )
@@ -104,7 +105,7 @@ returns c =
     record {
       long = f .long;
       others = f .others;
-      put = λ left next h k. f .put left (omega (arith, h, c .loop-test .left)) next k;
+      put = λ left h. f .put left (omega (arith, h, c .loop-test .left));
     }
 
 pub fill-block-spec : {M : Type 1} → statement M

@@ -9,14 +9,15 @@ use borrow.Author.Needs.{needs}
 use lib.ListN.{length, getD}
 use Rattle.residues.specs.Residues.{Has}
 use Rattle.sums.specs.Sums.{blockModulus, restAt}
-use Rattle.rests.proofs.Rests.{source-stands}
-use Rattle.rests.proofs.Chosen.{Marking, marking-starts, marking-next, marking-passes}
+use Rattle.rests.specs.Rests.{Marked}
+use Rattle.rests.proofs.Rests.{short-low}
+use Rattle.rests.proofs.Leaving.{marked-starts, marked-next, marked-passes}
 use Rattle.rests.proofs.mark_block.Statement.{statement}
 use Rattle.rests.proofs.mark_block.Tie as tie
 
 abbrev Inv-loop : tie.InvT-loop
 Inv-loop l y block end c s left set rests can₀ own behind next₀ can next =
-    Marking l y block end c s left set rests can₀ next can
+    Marked l y block end c s left set rests can₀ next can
 
 abbrev μ-loop : tie.MeasureT-loop
 μ-loop l y block end c s left set rests can₀ own behind next₀ can next = left + 1 - next
@@ -36,20 +37,20 @@ mul-own c =
 add-behind : tie.Need-add-behind Inv-loop μ-loop
 add-behind c =
     let p = c .before .before .pre .0 in
-    record { fits = omega (arith, source-stands (p .0) .column) }
+    record { fits = omega (arith, short-low (p .0) .column) }
 
 mul-behind : tie.Need-mul-behind Inv-loop μ-loop
 mul-behind c =
     let p = c .before .before .pre .0 in
-    record { fits = omega (arith, source-stands (p .0) .column) }
+    record { fits = omega (arith, short-low (p .0) .column) }
 
 add-behind-2 : tie.Need-add-behind-2 Inv-loop μ-loop
 add-behind-2 c =
     let p = c .before .before .pre .0 in
-    record { fits = omega (arith, source-stands (p .0) .column, p .1 .0 .0) }
+    record { fits = omega (arith, short-low (p .0) .column, p .1 .0 .0) }
 
 loop-holds : tie.Need-loop-holds Inv-loop μ-loop
-loop-holds c = marking-starts _ _ _ _ _ _ _ _ _ _
+loop-holds c = marked-starts _ _ _ _ _ _ _ _ _ _
 
 wide-requires : tie.Need-wide-requires Inv-loop μ-loop
 wide-requires c κs = search needs
@@ -63,7 +64,7 @@ stands c =
     let p = start i .pre .0 in
     let low : i .loop .next < 13 = omega (arith, c .before .loop-test .taken, p .1 .0 .1) in
     let own : start i .args .s * 13 + c .wide .result < 78 = omega (arith, low, p .1 .0 .0, c .wide .ensures) in
-    ((low, own), (omega (arith, own, p .1 .1), omega (arith, own, source-stands (p .0) .column)))
+    ((low, own), (omega (arith, own, p .1 .1), omega (arith, own, short-low (p .0) .column)))
 
 add-with-chunk : tie.Need-add-with-chunk Inv-loop μ-loop
 add-with-chunk c = record { fits = omega (arith, stands c .1 .1) }
@@ -106,10 +107,10 @@ loop-again c =
     let k = stands t in
     ⊎-elim
     (λ w. rw (w .1)
-    (marking-next _ _ _ _ _ _ _ _ _ _ (i .loop .next) (i .loop .can) m _ (omega (arith, t .wide .ensures))
+    (marked-next _ _ _ _ _ _ _ _ _ _ (i .loop .next) (i .loop .can) m _ (omega (arith, t .wide .ensures))
     (omega (arith, k .0 .1, start i .pre .1, m .long))))
     (λ w. rw (w .1)
-    (marking-passes _ _ _ _ _ _ _ _ _ _ (i .loop .next) (i .loop .can) m
+    (marked-passes _ _ _ _ _ _ _ _ _ _ (i .loop .next) (i .loop .can) m
     (λ v n can b among.
     false≢true (sym (w .0 .left) ∙ d .meet .ensures (blockModulus (a .l)) _ among
     (d .before .with-chunk .ensures v n can
@@ -122,7 +123,7 @@ returns c =
     record {
       long = m .long;
       stay = m .stay;
-      put = λ next v n h. m .put next (omega (arith, h, c .loop-test .left)) v n;
+      put = λ next h. m .put next (omega (arith, h, c .loop-test .left));
     }
 
 pub mark-block-spec : {M : Type 1} → statement M

@@ -9,8 +9,8 @@ use borrow.Author.Tests.{not-true, not-false}
 use lib.ListN.{length, drop}
 use Rattle.bits.specs.Bits.{digits}
 use Rattle.consistent.specs.Greedy.{losses}
-use Rattle.rests.specs.Rests.{startAt}
-use Rattle.rests.proofs.Rests.{source-stands}
+use Rattle.column.specs.Column.{startAt}
+use Rattle.rests.proofs.Rests.{short-low}
 use Rattle.rests.proofs.with_chunk.Statement.{statement}
 use Rattle.rests.proofs.with_chunk.Tie as tie
 
@@ -30,7 +30,7 @@ chunk-is c =
     let s = c .before .before .before in
     let a = s .args in
     let e = ap (λ (v : ℕ). v * a .l .l2 + a .c) (c .before .wide .ensures) in
-    let k = source-stands (s .pre .0) in
+    let k = short-low (s .pre .0) in
     (e, rw e (omega (arith, k .chunk), k .start))
 
 -- where its bits would start
@@ -65,7 +65,7 @@ add-from-2 c = record { fits = omega (arith, from-is c .1) }
 place-of-requires : tie.Need-place-of-requires
 place-of-requires c κs =
     let s = c .before .before .before .before in
-    (source-stands (s .pre .0) .nc-high, (s .pre .0 .received, omega (arith, from-is c .1)))
+    (short-low (s .pre .0) .nc-high, (s .pre .0 .received, omega (arith, from-is c .1)))
 
 returns : tie.Need-returns
 returns c v n can h =
@@ -85,27 +85,27 @@ slice-aggregate-contents c = search needs
 contents-requires : tie.Need-contents-requires
 contents-requires c κs =
     let s = begin (c .before .before .before .before .before) in
-    (source-stands (s .pre .0) .nc-high, (omega (arith, c .before .if2 .left), omega arith))
+    (short-low (s .pre .0) .nc-high, (omega (arith, c .before .if2 .left), omega arith))
 
 mul-with-each : tie.Need-mul-with-each
 mul-with-each c =
     let s = begin (placed (c .before .before)) in
-    record { fits = omega (arith, source-stands (s .pre .0) .modulus) }
+    record { fits = omega (arith, short-low (s .pre .0) .modulus) }
 
 add-with-each : tie.Need-add-with-each
 add-with-each c =
     let s = begin (placed (c .before .before)) in
-    record { fits = omega (arith, source-stands (s .pre .0) .modulus) }
+    record { fits = omega (arith, short-low (s .pre .0) .modulus) }
 
 mul-with-each-2 : tie.Need-mul-with-each-2
 mul-with-each-2 c =
     let s = begin (placed (c .before .before)) in
-    record { fits = omega (arith, source-stands (s .pre .0) .first) }
+    record { fits = omega (arith, short-low (s .pre .0) .first) }
 
 add-with-each-2 : tie.Need-add-with-each-2
 add-with-each-2 c =
     let s = begin (placed (c .before .before)) in
-    record { fits = omega (arith, source-stands (s .pre .0) .first) }
+    record { fits = omega (arith, short-low (s .pre .0) .first) }
 
 slice-aggregate-with-each : tie.Need-slice-aggregate-with-each
 slice-aggregate-with-each c = search needs
@@ -113,7 +113,7 @@ slice-aggregate-with-each c = search needs
 with-each-requires : tie.Need-with-each-requires
 with-each-requires c κs =
     let d = c .before .before .before in
-    let k = source-stands (begin (placed d) .pre .0) in
+    let k = short-low (begin (placed d) .pre .0) in
     let long : length (d .contents .last .1 .1 .1 .1 .0) ≡ 256 = search needs in (
       (k .nc-high, ((omega arith, omega (arith, k .modulus)), (omega arith, omega (arith, k .first)))),
       omega (arith, long, d .contents .ensures .0),

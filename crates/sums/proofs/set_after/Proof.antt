@@ -1,11 +1,11 @@
--- `sums::set_after` meets its contract: the chunk of a row is one that the column allows. Assumes nothing.
+-- `sums::set_after` meets its contract: the chunk of a row completes the column. Assumes nothing.
 use Prim.Native.Nat.{ℕ, _+_, _*_, _<_, _≤_}
 use mathlib.Core.Path.{_≡_, refl, sym, ap, subst, _∙_}
 use native.Mathlib.Nat.{mul-le-mul-right}
 use native.Mathlib.Omega.{arith}
 use lib.ListN.{getD}
 use Rattle.message.proofs.Legal.{legal-bounds}
-use Rattle.sums.proofs.Brought.{others-allow}
+use Rattle.sums.proofs.Brought.{others-complete}
 use borrow.Author.Needs.{needs}
 use borrow.Author.Needs.{needs}
 use Rattle.sums.proofs.set_after.Statement.{statement}
@@ -103,7 +103,7 @@ returns c vs k low among sum h =
     let others = w .before .before .before .other-sums .ensures vs low (λ b i d. among b i) in
     let first = ap (λ (v : ℕ). v * a .l .nc + 1) (w .wide .ensures) in
     c .without-each .ensures (vs (a .s)) k (among (a .s) some)
-    (others-allow (a .l .nc) _ (a .known) (a .t2 .block) vs (a .s) (a .t2 .n) some _ refl first others sum) h
+    (others-complete (a .l .nc) _ (a .known) (a .t2 .block) vs (a .s) (a .t2 .n) some _ refl first others sum) h
 
 pub set-after-spec : {M : Type 1} → statement M
 set-after-spec =

@@ -12,16 +12,16 @@ use Rattle.bits.proofs.Laws.{lt-or-ge}
 use Rattle.vt.specs.Sum.{total}
 use Rattle.contents.specs.Contents.{Among}
 use Rattle.residues.specs.Residues.{Has}
-use Rattle.sums.specs.Sums.{Allows}
+use Rattle.sums.specs.Sums.{Completes}
 use Rattle.sums.proofs.without_each.Statement.{statement}
 use Rattle.sums.proofs.without_each.Tie as tie
 
 abbrev Inv-loop : tie.InvT-loop
-Inv-loop nc m first list low high set ask table r₀ k₀ r k =
-    (v n : ℕ) → Among list low k v → Allows nc ask v → Has m set (n + total first (digits nc v)) → Has m r n
+Inv-loop nc m first list low high set beside table r₀ k₀ r k =
+    (v n : ℕ) → Among list low k v → Completes nc beside v → Has m set (n + total first (digits nc v)) → Has m r n
 
 abbrev μ-loop : tie.MeasureT-loop
-μ-loop nc m first list low high set ask table r₀ k₀ r k = high - k
+μ-loop nc m first list low high set beside table r₀ k₀ r k = high - k
 
 weights-requires : tie.Need-weights-requires Inv-loop μ-loop
 weights-requires c κs = search needs
@@ -32,13 +32,13 @@ loop-holds c v n among = absurd (omega (arith, among .1 .0, among .1 .1 .0))
 shared-slice-read-v : tie.Need-shared-slice-read-v Inv-loop μ-loop
 shared-slice-read-v c = search needs
 
-allows-requires : tie.Need-allows-requires Inv-loop μ-loop
-allows-requires c κs =
+completes-requires : tie.Need-completes-requires Inv-loop μ-loop
+completes-requires c κs =
     let w = c .before .before .before .before in
     (w .weights .ensures, w .before .before .pre .1)
 
--- the loop, seen from where `allows` has answered
-abbrev turn : tie.After-allows Inv-loop μ-loop → tie.In-loop Inv-loop μ-loop
+-- the loop, seen from where `completes` has answered
+abbrev turn : tie.After-completes Inv-loop μ-loop → tie.In-loop Inv-loop μ-loop
 turn c = c .before .before .before
 
 chunk-total-requires : tie.Need-chunk-total-requires Inv-loop μ-loop
@@ -60,13 +60,13 @@ loop-less : tie.Need-loop-less Inv-loop μ-loop
 loop-less c = search needs
 
 loop-again : tie.Need-loop-again Inv-loop μ-loop
-loop-again c v n among allows has =
+loop-again c v n among completes has =
     let p = turn (c .before) .before in
     let a = p .before .before .before .args in
     let k = p .loop .k in
     let i = among .1 in
     let earlier : among .0 < k → Has (a .m) (p .loop .r) n =
-    λ h. p .loop .inv v n (among .0, (i .0, (h, i .1 .1))) allows has in
+    λ h. p .loop .inv v n (among .0, (i .0, (h, i .1 .1))) completes has in
     let own : k ≤ among .0 → getD (a .list .now) k 0 ≡ v =
     λ h. let e : among .0 ≡ k = omega (arith, i .1 .0) in rw e at (i .1 .1) in
     let which = lt-or-ge (among .0) k in
@@ -82,13 +82,13 @@ loop-again c v n among allows has =
     rw (w .1)
     (⊎-elim earlier
     (λ h.
-    absurd (false≢true (sym (w .0 .left) ∙ c .before .allows .ensures (rw (own h) allows)))) which))
+    absurd (false≢true (sym (w .0 .left) ∙ c .before .completes .ensures (rw (own h) completes)))) which))
     (c .if1 .came)
 
 returns : tie.Need-returns Inv-loop μ-loop
-returns c v n among allows has =
+returns c v n among completes has =
     let k = among .1 in
-    c .before .loop .inv v n (among .0, (k .0, (omega (arith, k .1 .0, c .loop-test .left), k .1 .1))) allows has
+    c .before .loop .inv v n (among .0, (k .0, (omega (arith, k .1 .0, c .loop-test .left), k .1 .1))) completes has
 
 pub without-each-spec : {M : Type 1} → statement M
 without-each-spec =
@@ -99,7 +99,7 @@ without-each-spec =
     weights-requires
     loop-holds
     shared-slice-read-v
-    allows-requires
+    completes-requires
     chunk-total-requires
     moved-back-requires
     together-requires

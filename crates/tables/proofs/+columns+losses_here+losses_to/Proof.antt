@@ -39,7 +39,7 @@ use Rattle.marks.proofs.mark_at.Reads as mark-at-reads
 use Rattle.states.proofs.losses_left.Reads as losses-left-reads
 use Rattle.states.proofs.number_of.Reads as number-of-reads
 use Rattle.rests.proofs.all_can.Reads as all-can-reads
-use Rattle.rests.proofs.choices.Reads as choices-reads
+use Rattle.rests.proofs.exits.Reads as exits-reads
 use Rattle.sums.proofs.after.Reads as after-reads
 use Rattle.sums.proofs.all_meet.Reads as all-meet-reads
 use Rattle.tables.proofs.all_end.Reads as all-end-reads
@@ -106,8 +106,8 @@ abbrev losses-here-claims : ℕ → losses-here-lts.Claims
 losses-here-claims t = (
   number-of-reads.Asked,
   number-of-reads.Learnt,
-  choices-reads.Asked,
-  choices-reads.Learnt,
+  exits-reads.Asked,
+  exits-reads.Learnt,
   mark-at-reads.Asked,
   mark-at-reads.Learnt,
   losses-to-below t,
@@ -412,7 +412,7 @@ losses-here-μ-loop l y totals counts numbers heavy shape known marks rests z ro
     q - to
 
 -- where `losses_here` starts: the place where all is at hand, and from there, where half of the slices are known, and the
--- start; and the start, seen from where the choices are known
+-- start; and the start, seen from where the exits are known
 abbrev Here-known : ℕ → Type 0
 Here-known t = losses-here-lts.After-left (losses-here-claims t) (losses-here-at t) losses-here.Post
     losses-here-Inv-loop losses-here-μ-loop
@@ -428,7 +428,7 @@ abbrev entered : (t : ℕ) → Here-known t
 entered t c = here-half t c .before .before .before .before
 
 abbrev enter : (t : ℕ)
-    → losses-here-lts.After-choices (losses-here-claims t) (losses-here-at t) losses-here.Post
+    → losses-here-lts.After-exits (losses-here-claims t) (losses-here-at t) losses-here.Post
     losses-here-Inv-loop losses-here-μ-loop
     → losses-here-lts.Start (losses-here-claims t) (losses-here-at t) losses-here.Post
     losses-here-Inv-loop losses-here-μ-loop
@@ -436,7 +436,7 @@ enter t c = entered t (c .before .before)
 
 -- the next column is one, or the end of the last
 next-low : (t : ℕ)
-    (c : losses-here-lts.After-choices (losses-here-claims t) (losses-here-at t) losses-here.Post
+    (c : losses-here-lts.After-exits (losses-here-claims t) (losses-here-at t) losses-here.Post
     losses-here-Inv-loop losses-here-μ-loop)
     → enter t c .args .j + 1 ≤ 255
 next-low t c =
@@ -452,10 +452,10 @@ losses-here-number-of-requires t c κs =
     let of = p .1 .1 .1 .1 .0 in
     (omega (arith, of .blocks, p .1 .1 .0 .few), of .shaped)
 
-losses-here-choices-requires : (t : ℕ)
-    → losses-here-lts.Need-choices-requires (losses-here-claims t) (losses-here-at t) losses-here.Post
+losses-here-exits-requires : (t : ℕ)
+    → losses-here-lts.Need-exits-requires (losses-here-claims t) (losses-here-at t) losses-here.Post
     losses-here-Inv-loop losses-here-μ-loop
-losses-here-choices-requires t c κs =
+losses-here-exits-requires t c κs =
     let p = entered t (c .before) .pre .1 in
     let sound = p .1 .1 .0 in
     (fits (p .0) sound, (p .1 .1 .1 .0, λ s h. few-left sound s))
@@ -498,7 +498,7 @@ losses-here-losses-to-requires t c κs =
         (p .0, (holding, (p .1 .1 .0, (p .1 .1 .1 .0, (of, (looked, near)))))),
         (
           (below, m .mark-at .ensures),
-          λ x sent u. leaves (p .1 .1 .1 .0) u (λ r h. refl) (n .choices .result) (n .choices .ensures),
+          λ x sent u. leaves (p .1 .1 .1 .0) u (λ r h. refl) (n .exits .result) (n .exits .ensures),
         ),
       ),
     )
@@ -837,7 +837,7 @@ pub +columns+losses-here+losses-to-spec : {M : Type 1} → statement M
     losses-here-Inv-loop
     losses-here-μ-loop
     (losses-here-number-of-requires t)
-    (losses-here-choices-requires t)
+    (losses-here-exits-requires t)
     (losses-here-loop-holds t)
     (losses-here-add-mark-at t)
     (losses-here-mark-at-requires t)

@@ -14,7 +14,7 @@ use Rattle.vt.specs.Sum.{total}
 use Rattle.message.proofs.Legal.{legal-bounds}
 use Rattle.weigh.specs.Weigh.{brought}
 use Rattle.column.proofs.Rows.{string-high}
-use Rattle.whole.specs.Whole.{startAt}
+use Rattle.column.specs.Column.{startAt}
 use Rattle.whole.proofs.Whole.{Stands, stands}
 use Rattle.whole.proofs.can_lose_one.Statement.{statement}
 use Rattle.whole.proofs.can_lose_one.Tie as tie

@@ -7,7 +7,8 @@ use borrow.Author.Needs.{needs}
 use lib.ListN.{take, drop}
 use Rattle.vt.specs.Sum.{total}
 use Rattle.message.proofs.Legal.{legal-bounds}
-use Rattle.whole.specs.Whole.{startAt, brings, unread}
+use Rattle.column.specs.Column.{startAt}
+use Rattle.whole.specs.Whole.{brings, unread}
 use Rattle.whole.proofs.Whole.{Stands, stands}
 use Rattle.whole.proofs.reading.Statement.{statement}
 use Rattle.whole.proofs.reading.Tie as tie

@@ -1,4 +1,4 @@
--- `rests::choices` meets its contract. The loop's invariant: the numbers of losses with which the blocks passed can
+-- `rests::exits` meets its contract. The loop's invariant: the numbers of losses with which the blocks passed can
 -- leave the column are marked. The measure is what is left of the blocks. Assumes nothing.
 use Prim.Native.Nat.{_-_, _≤_}
 use mathlib.Core.Path.{_≡_, refl, _∙_}
@@ -8,13 +8,13 @@ use borrow.Author.Tests.{not-false}
 use lib.ListN.{length}
 use Rattle.sums.specs.Sums.{Short}
 use Rattle.rests.proofs.Rests.{short-columns}
-use Rattle.rests.proofs.Chosen.{Choosing, choosing-next, choosing-done, all-marked}
-use Rattle.rests.proofs.choices.Statement.{statement}
-use Rattle.rests.proofs.choices.Tie as tie
+use Rattle.rests.proofs.Leaving.{Leaves, leaves-next, leaves-done, all-marked}
+use Rattle.rests.proofs.exits.Statement.{statement}
+use Rattle.rests.proofs.exits.Tie as tie
 
 abbrev Inv-loop : tie.InvT-loop
 Inv-loop l y numbers c rests heavy left sets n can₀ s₀ can s =
-    ((s ≤ n) × (length can ≡ 78)) × Choosing l y heavy c left sets rests s can
+    ((s ≤ n) × (length can ≡ 78)) × Leaves l y heavy c left sets rests s can
 
 abbrev μ-loop : tie.MeasureT-loop
 μ-loop l y numbers c rests heavy left sets n can₀ s₀ can s = n - s
@@ -96,7 +96,7 @@ loop-again c =
     let a = start i .args in
     let m = c .mark-block .ensures in (
       (omega (arith, t .loop-test .taken), m .long ∙ i .loop .inv .0 .1),
-      choosing-next _ _ (a .t4) _ (a .t6) (a .t7) (a .rests .now) (i .loop .s) (i .loop .can) _ (i .loop .inv .1) m,
+      leaves-next _ _ (a .t4) _ (a .t6) (a .t7) (a .rests .now) (i .loop .s) (i .loop .can) _ (i .loop .inv .1) m,
     )
 
 returns-3 : tie.Need-returns-3 Inv-loop μ-loop
@@ -104,11 +104,11 @@ returns-3 c row vs next x holds behind s h =
     let i = c .before in
     let a = start i .args in
     let short = is-short (i .before .before) in
-    choosing-done _ _ _ _ row _ (a .t6) next vs (a .t7) (a .rests .now) (i .loop .can) (start i .pre .1 .0)
+    leaves-done _ _ _ _ row _ (a .t6) next vs (a .t7) (a .rests .now) (i .loop .can) (start i .pre .1 .0)
     (λ t k. i .loop .inv .1 t (omega (arith, k, c .loop-test .left))) x s h (holds short s h) (behind short s h)
 
-pub choices-spec : {M : Type 1} → statement M
-choices-spec =
+pub exits-spec : {M : Type 1} → statement M
+exits-spec =
     tie.close
     (tie.spec
     Inv-loop
