@@ -1,11 +1,13 @@
 -- A chunk-string whose chunks in the heavy blocks count as zero: its total and what those chunks bring are the whole
--- total, since a line's total changes just by what a changed chunk brings. Assumes nothing.
+-- total, since a line's total changes just by what a changed chunk brings; and it is that of the row whose heavy blocks
+-- are cleared in all columns. Assumes nothing.
 use Prim.Native.Nat.{ℕ, zero, suc, _+_, _*_, _%_, _<_, _≤_}
 use mathlib.Core.Path.{_≡_, refl, sym, ap, _∙_}
 use mathlib.Core.List.{List}
 use mathlib.Core.Logic.{⊎-elim}
 use native.Mathlib.Decide.{ℕ-discrete}
 use native.Mathlib.Nat.{mod-add-mod, add-comm}
+use native.Mathlib.Numerals.{add-one}
 use native.Mathlib.Omega.{arith}
 use lib.ListN.{getD, set}
 use lib.Seq.{getD-set-other}
@@ -18,8 +20,13 @@ use Rattle.lines.proofs.Lines.{line-same}
 use Rattle.lines.proofs.Parts.{total-zero, total-but}
 use Rattle.lines.proofs.Turns.{sum-of-total}
 use Rattle.weigh.specs.Weigh.{brought}
-use Rattle.column.specs.Column.{Fit, chunkAt, valueAt, filled}
+use Rattle.column.specs.Column.{Fit, chunkAt, valueAt, filled, Zeroed, Cleared}
 use Rattle.column.specs.declared.Heavy.{Heavy}
+
+-- the chunks of two blocks are two chunks
+other-block : (n a b i j : ℕ) → i < n → j < n → (a ≡ b → ⊥) → j + a * n ≡ b * n + i → ⊥
+other-block n a b i j h g d e =
+    ⊎-elim (λ k. omega (arith, field-room b n a k)) (λ k. omega (arith, field-room a n b (omega arith))) (lt-or-ge a b)
 
 -- ---- the chunks of the heavy blocks as zeros
 module _ (l : Layout) (heavy : Heavy) (j : ℕ) where
@@ -64,19 +71,12 @@ module _ (l : Layout) (heavy : Heavy) (j : ℕ) where
 
   -- ---- what the heavy blocks' chunks bring
   module _ (y numbers : List ℕ) (f : Fit l y numbers heavy) (inside : j < l .l2) (vs : List ℕ) where
-    -- the chunks of two blocks are two chunks
-    other-block : (a b : ℕ) → (a ≡ b → ⊥) → j + a * l .l2 ≡ b * l .l2 + j → ⊥
-    other-block a b n e =
-        ⊎-elim
-        (λ h. omega (arith, field-room b (l .l2) a h))
-        (λ h. omega (arith, field-room a (l .l2) b (omega arith)))
-        (lt-or-ge a b)
-
     -- a heavy block's chunk is none of the earlier ones'
     else-earlier : (k : ℕ) → k < heavy .n → Else k (chunkAt l heavy j k)
     else-earlier k h s g e =
         let n = f .ascending s k g h in
-        other-block (getD (heavy .block) k 0) (getD (heavy .block) s 0) (λ q. omega arith) (omega (arith, e))
+        other-block (l .l2) (getD (heavy .block) k 0) (getD (heavy .block) s 0) j j inside inside (λ q. omega arith)
+        (omega (arith, e))
 
     -- the numbers of the heavy blocks' chunks
     abbrev own : ℕ → ℕ
@@ -104,7 +104,7 @@ module _ (l : Layout) (heavy : Heavy) (j : ℕ) where
             → getD (set (zeros k vs) (chunkAt l heavy j k) 0) (j + i * l .l2) 0 ≡ getD (zeros k vs) (j + i * l .l2) 0
         away k i g n =
             getD-set-other (zeros k vs) (chunkAt l heavy j k) (j + i * l .l2) 0 0
-            (other-block i (getD (heavy .block) k 0) n)
+            (other-block (l .l2) i (getD (heavy .block) k 0) j j inside inside n)
 
     -- the sum of the chunk-string, where a row in hand has the chunks of the other blocks
     pub whole-sum : (row : List ℕ)
@@ -130,3 +130,35 @@ module _ (l : Layout) (heavy : Heavy) (j : ℕ) where
             (λ n.
             rw (add-comm j (i * l .l2))
             (sym (others i h (λ s g e. n s g (add-comm j (i * l .l2) ∙ ap (λ (b : ℕ). b * l .l2 + j) (sym e))))))
+
+-- ---- all columns at once
+-- no heavy block yet
+pub cleared-none : (l : Layout) (heavy : Heavy) (row : List ℕ) → Cleared l heavy 0 row row
+unfolding filled
+cleared-none l heavy row j i g h = refl
+
+-- a heavy block more
+pub cleared-next : (l : Layout) (heavy : Heavy) (k : ℕ) (row old new : List ℕ) → Cleared l heavy k row old
+    → Zeroed (l .l2) (getD (heavy .block) k 0 * l .l2) old new → Cleared l heavy (k + 1) row new
+unfolding filled
+cleared-next l heavy k row old new before z j i g h = rw (add-one k) (go (ℕ-discrete i b))
+  where
+    b : ℕ
+    b = getD (heavy .block) k 0
+
+    us : List ℕ
+    us = filled l heavy (λ s. 0) j k row
+
+    go : Dec (i ≡ b) → getD new (j + i * l .l2) 0 ≡ getD (set us (b * l .l2 + j) 0) (j + i * l .l2) 0
+    go (yes d) = rw (d, add-comm j (b * l .l2)) (z .zeros j g ∙ sym (set-zero us (b * l .l2 + j)))
+    go (no d) =
+        z .others (j + i * l .l2) (λ v q. other-block (l .l2) i b v j q g d) ∙ before j i g h
+        ∙ sym (getD-set-other us (b * l .l2 + j) (j + i * l .l2) 0 0 (other-block (l .l2) i b j j g g d))
+
+-- the chunk-strings are those that Light speaks of
+pub cleared-sum : (l : Layout) (heavy : Heavy) (row new : List ℕ) → Cleared l heavy (heavy .n) row new
+    → (j : ℕ) → j < l .l2
+    → total 1 (line (l .nc) j (l .l2) (l .l1) new) % (l .l1 * l .nc + 1)
+    ≡ sum (line (l .nc) j (l .l2) (l .l1) (filled l heavy (λ s. 0) j (heavy .n) row))
+cleared-sum l heavy row new c j g =
+    sum-of-total (l .nc) j (l .l2) (l .l1) new ∙ ap sum (line-same (l .nc) j (l .l2) (l .l1) _ _ (λ i h. c j i g h))

@@ -48,6 +48,18 @@ unfoldable pub filled : Layout → Heavy → (v : ℕ → ℕ) (j k : ℕ) (row 
 filled l heavy v j zero row = row
 filled l heavy v j (suc s) row = set (filled l heavy v j s row) (chunkAt l heavy j s) (v s)
 
+-- of a list, n entries from a place on are zero, and the others are as they were
+pub record Zeroed (n at : ℕ) (old new : List ℕ) : Type 0 where
+  pub size : length new ≡ length old
+  pub zeros : (i : ℕ) → i < n → getD new (at + i) 0 ≡ 0
+  pub others : (c : ℕ) → ((i : ℕ) → i < n → c ≡ at + i → ⊥) → getD new c 0 ≡ getD old c 0
+
+-- in every column, the row in hand with the chunks of the first k heavy blocks as zero
+abbrev pub Cleared : Layout → Heavy → (k : ℕ) (row new : List ℕ) → Type 0
+Cleared l heavy k row new =
+    (j i : ℕ) → j < l .l2 → i < l .l1
+    → getD new (j + i * l .l2) 0 ≡ getD (filled l heavy (λ s. 0) j k row) (j + i * l .l2) 0
+
 -- the sums of the chunk-strings where the chunks of the heavy blocks count as zero
 abbrev pub Light : Layout → Heavy → (row known : List ℕ) → Type 0
 Light l heavy row known =

@@ -6,11 +6,12 @@ ghost use mathlib.Core.Bool.{true, cond};
 ghost use mathlib.Core.List.{List};
 ghost use Prim.Native.Nat.{ℕ, _+_, _-_, _*_, _%_, _<_, _≤_};
 ghost use lib.Dec.{eqb};
-ghost use lib.ListN.{length, drop};
+ghost use lib.ListN.{length, getD, drop};
 ghost use Rattle.bits.specs.Bits.{AllBits, longest, number};
+ghost use Rattle.message.specs.Layout.{legal};
 ghost use Rattle.states.specs.States.{each};
 ghost use Rattle.windows.specs.Windows.{Tables};
-ghost use Rattle.column.specs.Column.{Fit, Light, Crosses, apartIn, filled};
+ghost use Rattle.column.specs.Column.{Fit, Zeroed, Cleared, Light, Crosses, apartIn};
 ghost use Rattle.column.specs.Column.{Readable, readable, Placed, Within, AsRead};
 
 // The blocks with two losses or more: each block, and the losses up to its end.
@@ -20,23 +21,29 @@ pub struct Heavy {
     pub end: [u8; states::MOST_HEAVY],
 }
 
-// The row in hand with the chunks of the heavy blocks in column j as zero.
-fn cleared(
-    l: Layout,
-    y: &[u8],
-    numbers: &[u16],
-    heavy: Heavy,
-    row: [u8; 255],
-    j: usize,
-) -> [u8; 255]
-    requires { ⌜ Fit l (now y) (now numbers) heavy × (j < l .l2) ⌝ }
-    ensures { λ r. ⌜ r ≡ filled l heavy (λ s. 0) j (heavy .n) row ⌝ }
+// Makes n chunks from a place on zero.
+fn clear(n: usize, at: usize, out: &mut [u8])
+    requires { ⌜ at + n ≤ length (now out) ⌝ }
+    ensures { λ _. ⌜ Zeroed n at (now (out .entry)) (now (out .exit)) ⌝ }
+{
+    let mut i: usize = 0;
+    while i < n {
+        out[at + i] = 0;
+        i += 1;
+    }
+}
+
+// The row in hand with the chunks of the heavy blocks as zero.
+fn cleared(l: Layout, heavy: Heavy, row: [u8; 255]) -> [u8; 255]
+    requires { ⌜ ((legal l ≡ true) × (heavy .n ≤ 6))
+        × ((s : ℕ) → s < heavy .n → getD (heavy .block) s 0 < l .l1) ⌝ }
+    ensures { λ r. ⌜ Cleared l heavy (heavy .n) row r ⌝ }
 {
     let n = heavy.n;
     let mut out = row;
     let mut s: usize = 0;
     while s < n {
-        out[bits::wide(heavy.block[s]) * l.l2 + j] = 0;
+        clear(l.l2, bits::wide(heavy.block[s]) * l.l2, &mut out);
         s += 1;
     }
     out
@@ -55,10 +62,13 @@ pub fn light_sums(
     ensures { λ _. ⌜ Light l heavy row (now (known .exit)) ⌝ }
 {
     let l2 = l.l2;
+    let modulus = l.l1 * l.nc + 1;
+    let table = vt::weights();
+    let out = cleared(l, heavy, row);
     let mut j: usize = 0;
     while j < l2 {
-        let out = cleared(l, y, numbers, heavy, row, j);
-        known[j] = lines::line_sum(l.nc, j, l2, l.l1, &out) as u16;
+        let total = lines::line_total(&table, l.nc, j, l2, l.l1, &out);
+        known[j] = (total % modulus) as u16;
         j += 1;
     }
 }

@@ -104,14 +104,14 @@ module _ {l : Layout} {y numbers : List ℕ} {heavy : Heavy} {row : List ℕ} {j
         (λ s h. but-other l y heavy j left (heavy .n) s (λ e. omega (arith, h, e)) ∙ sym (kept-read c s h (kept s h))) in
         ap (λ (v : ℕ). (getD known j 0 + v) % modulus l) same ∙ weights-sum c f inside known light
 
-    -- with one loss, in block s
-    pub one-sum : (s : ℕ) → s < heavy .n → OneLess (heavy .n) left next s
+    -- block s being left out, where no other has a loss
+    pub one-sum : (s : ℕ) → s < heavy .n → ((t : ℕ) → t < heavy .n → (t ≡ s → ⊥) → next t ≡ left t)
         → ((getD known j 0 + firsts (bringsBut l y heavy j left s) (heavy .n)) % modulus l + weightOf c s) % modulus l
         ≡ getD numbers (l .l1 + j) 0
-    one-sum s h one =
+    one-sum s h kept =
         let but : ℕ → ℕ = bringsBut l y heavy j left s in
         let same = firsts-but but (weightOf c) (heavy .n) s h
-        (λ t k d. but-other l y heavy j left s t d ∙ sym (kept-read c t k (one .1 t k d))) in
+        (λ t k d. but-other l y heavy j left s t d ∙ sym (kept-read c t k (kept t k d))) in
         let e : getD known j 0 + firsts but (heavy .n) + weightOf c s ≡ getD known j 0 + firsts (weightOf c) (heavy .n) =
         omega (arith, same, but-own l y heavy j left s) in
         mod-add-mod (getD known j 0 + firsts but (heavy .n)) (modulus l) (weightOf c s) ∙ ap (λ (v : ℕ). v % modulus l) e

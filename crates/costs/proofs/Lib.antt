@@ -1,4 +1,4 @@
 -- The laws of specs/, for the proofs of this crate.
-mod Sets
+mod Parts
 mod OneLost
-mod Costs
+pub mod Costs

@@ -5,7 +5,7 @@ use mathlib.Core.Path.{_≡_}
 use mathlib.Core.Bool.{Bool, true, cond}
 use mathlib.Core.List.{List}
 use lib.Dec.{eqb}
-use lib.ListN.{length, getD, drop}
+use lib.ListN.{length, drop}
 use Rattle.bits.specs.Bits.{digits}
 use Rattle.vt.specs.Sum.{total}
 use Rattle.message.specs.declared.Layout.{Layout}
@@ -15,26 +15,7 @@ use Rattle.states.specs.States.{each}
 use Rattle.column.specs.Column.{Fit, Light, Crosses, Readable, startAt}
 use Rattle.column.specs.declared.Heavy.{Heavy}
 use Rattle.whole.specs.Whole.{modulus, legibleIn, bringsIn}
-
--- a residue is in a set: its entry is not zero
-abbrev pub In : (set : List ℕ) (r : ℕ) → Type 0
-In set r = 0 < getD set r 0
-
--- what is in a set is in another
-abbrev pub Grows : (entry exit : List ℕ) → Type 0
-Grows entry exit = (r : ℕ) → In entry r → In exit r
-
--- the residues of a set, each moved on by so much modulo m, are in another
-abbrev pub Moved : (m by : ℕ) (from to : List ℕ) → Type 0
-Moved m by from to = (r : ℕ) → r < m → In from r → In to ((r + by) % m)
-
--- a set of residues modulo m stands twice: entry m + r is entry r
-abbrev pub Twice : (m : ℕ) (set : List ℕ) → Type 0
-Twice m set = (r : ℕ) → r < m → getD set (m + r) 0 ≡ getD set r 0
-
--- there is room for a set that stands twice, and for another one
-abbrev pub Room : (m : ℕ) (set other : List ℕ) → Type 0
-Room m set other = (2 * m ≤ length set) × (m ≤ length other)
+use Rattle.sets.specs.Sets.{In}
 
 -- ---- a column whose heavy blocks have so many losses left
 

@@ -1,13 +1,13 @@
 // What a pattern costs: how many bits each column loses at least in every row under it, against the losses that its heavy
-// blocks have. Contracts cite specs/Costs.antt.
+// blocks have. Sets hold what they are said to at least: a residue too many lets a column pass, and no row is lost by that.
+// Contracts cite specs/Costs.antt.
 use column::Heavy;
 use message::Layout;
 ghost use mathlib.Core.Path.{_≡_};
 ghost use mathlib.Core.Bool.{true};
 ghost use mathlib.Core.List.{List};
-ghost use Prim.Native.Nat.{ℕ, _+_, _*_, _%_, _<_, _≤_};
+ghost use Prim.Native.Nat.{ℕ, _+_, _%_, _<_, _≤_};
 ghost use lib.ListN.{length, getD};
-ghost use Rattle.bits.specs.Bits.{longest};
 ghost use Rattle.message.specs.Layout.{legal as isLegal};
 ghost use Rattle.windows.specs.Windows.{Tables};
 ghost use Rattle.states.specs.States.{each, firsts};
@@ -15,20 +15,12 @@ ghost use Rattle.weigh.specs.Weigh.{chunkTop};
 ghost use Rattle.column.specs.Column.{Fit, Light, Crosses};
 ghost use Rattle.marks.specs.Marks.{Path};
 ghost use Rattle.whole.specs.Whole.{modulus, Source, OneLess, Legible, brings};
-ghost use Rattle.costs.specs.Costs.{In, Grows, Moved, Twice, Room, ReadBut, bringsBut, Asked, Tells};
-ghost use Rattle.costs.specs.Costs.{Repairs};
-
-// The most residues that the sum of a chunk-string can have. A set has an entry for each, zero for those not in it. What
-// is proved of sets is what they hold at least: a residue too many lets a column pass, and no row is lost by that.
-const MOST: usize = 2041;
-
-// The entries of a set that stands twice, one copy behind the other, so that its residues stand in one piece wherever
-// one starts to read.
-const TWICE: usize = 2 * MOST;
+ghost use Rattle.sets.specs.Sets.{In, Moved, MovedTwice, Long, Room};
+ghost use Rattle.costs.specs.Costs.{ReadBut, bringsBut, Asked, Tells, Repairs};
 
 // What the chunk of a block in column j brings to the sum of its chunk-string, where it is read whole with e losses
 // left in its block; the modulus where it cannot be read so.
-fn residue(
+pub fn residue(
     l: Layout,
     y: &[u8],
     totals: &[u32],
@@ -50,33 +42,6 @@ fn residue(
     read % m
 }
 
-// Puts m entries of a set, from place a on, into another.
-fn put_in(m: usize, a: usize, from: &[u8], to: &mut [u8])
-    requires { ⌜ (a + m ≤ length (now from)) × (m ≤ length (now to)) ⌝ }
-    ensures { λ _. ⌜ Grows (now (to .entry)) (now (to .exit))
-        × ((i : ℕ) → i < m → In (now (from .entry)) (a + i) → In (now (to .exit)) i) ⌝ }
-{
-    let mut i: usize = 0;
-    while i < m {
-        let old = to[i];
-        let new = if from[a + i] == 0 { old } else { 1 };
-        to[i] = new;
-        i += 1;
-    }
-}
-
-// Puts the residues of a set that stands twice, each moved on by so much modulo m, into another.
-fn move_in(m: usize, by: usize, from: &[u8], to: &mut [u8])
-    requires { ⌜ Twice m (now from) × Room m (now from) (now to) ⌝ }
-    ensures { λ _. ⌜ Grows (now (to .entry)) (now (to .exit))
-        × (by < m → Moved m by (now (from .entry)) (now (to .exit))) ⌝ }
-{
-    if m <= by {
-        return;
-    }
-    put_in(m, m - by, from, to);
-}
-
 // Puts the residues of a set that stands twice, with what the chunk of a block in column j brings, into another: each
 // reading of the chunk with at most so many losses left. Readings that bring the same as the one before are passed over.
 fn add_block(
@@ -88,11 +53,11 @@ fn add_block(
     end: u8,
     size: u8,
     j: usize,
-    from: &[u8],
-    to: &mut [u8],
+    from: &[u64],
+    to: &mut [u64],
 )
     requires { ⌜ Source l (now y) (now totals) (now counts) block j
-        × (Twice (modulus l) (now from) × Room (modulus l) (now from) (now to)) ⌝ }
+        × Room (modulus l) (now from) (now to) ⌝ }
     ensures { λ _. ⌜ ((e : ℕ) → e ≤ size → Legible l (length (now (y .entry))) block end j e
         → Moved (modulus l) (brings l (now (y .entry)) block end j e) (now (from .entry)) (now (to .exit))) ⌝ }
 {
@@ -103,26 +68,10 @@ fn add_block(
     while e <= most {
         let by = residue(l, y, totals, counts, block, end, j, e);
         if by != last {
-            move_in(m, by, from, to);
+            sets::move_in(m, by, from, to);
             last = by;
         }
         e += 1;
-    }
-}
-
-// Makes a set of the first m residues of another, which is empty afterwards; the set stands twice.
-fn take_over(m: usize, set: &mut [u8], other: &mut [u8])
-    requires { ⌜ Room m (now set) (now other) ⌝ }
-    ensures { λ _. ⌜ ((r : ℕ) → r < m → getD (now (set .exit)) r 0 ≡ getD (now (other .entry)) r 0)
-        × Twice m (now (set .exit)) ⌝ }
-{
-    let mut r: usize = 0;
-    while r < m {
-        let v = other[r];
-        set[r] = v;
-        set[m + r] = v;
-        other[r] = 0;
-        r += 1;
     }
 }
 
@@ -137,22 +86,21 @@ fn take_block(
     end: u8,
     size: u8,
     j: usize,
-    set: &mut [u8],
-    other: &mut [u8],
+    set: &mut [u64],
+    other: &mut [u64],
 )
     requires { ⌜ Source l (now y) (now totals) (now counts) block j
-        × (Twice (modulus l) (now set) × Room (modulus l) (now set) (now other)) ⌝ }
+        × Room (modulus l) (now set) (now other) ⌝ }
     ensures { λ _. ⌜ ((e : ℕ) → e ≤ size → Legible l (length (now (y .entry))) block end j e
-        → Moved (modulus l) (brings l (now (y .entry)) block end j e) (now (set .entry)) (now (set .exit)))
-        × Twice (modulus l) (now (set .exit)) ⌝ }
+        → MovedTwice (modulus l) (brings l (now (y .entry)) block end j e) (now (set .entry)) (now (set .exit))) ⌝ }
 {
     add_block(l, y, totals, counts, block, end, size, j, set, other);
-    take_over(l.l1 * l.nc + 1, set, other);
+    sets::take_over(l.l1 * l.nc + 1, set, other);
 }
 
 // Makes a set of the residues that the sum of column j can have where the chunks of its heavy blocks are read whole, whatever
 // losses are left in each; heavy block but is left out. The other set is empty before and after.
-fn fill_sums(
+pub fn fill_sums(
     l: Layout,
     y: &[u8],
     totals: &[u32],
@@ -162,8 +110,8 @@ fn fill_sums(
     known: &[u16],
     j: usize,
     but: usize,
-    set: &mut [u8],
-    other: &mut [u8],
+    set: &mut [u64],
+    other: &mut [u64],
 )
     requires { ⌜ ((isLegal l ≡ true) × ((heavy .n ≤ 6) × (j < length (now known))))
         × (((s : ℕ) → s < heavy .n → Source l (now y) (now totals) (now counts) (getD (heavy .block) s 0) j)
@@ -174,10 +122,8 @@ fn fill_sums(
 {
     let n = heavy.n;
     let m = l.l1 * l.nc + 1;
-    take_over(m, set, other);
     let first = known[j] as usize % m;
-    set[first] = 1;
-    set[m + first] = 1;
+    sets::only(m, first, set);
     let mut s: usize = 0;
     while s < n {
         if s != but {
@@ -209,8 +155,8 @@ fn can_be_whole(
     size: [u8; states::MOST_HEAVY],
     known: &[u16],
     j: usize,
-    set: &mut [u8],
-    other: &mut [u8],
+    set: &mut [u64],
+    other: &mut [u64],
 ) -> bool
     requires { ⌜ Asked l (now y) (now totals) (now counts) (now numbers) heavy (now known) j
         × Room (modulus l) (now set) (now other) ⌝ }
@@ -230,20 +176,20 @@ fn can_be_whole(
         set,
         other,
     );
-    set[numbers[l.l1 + j] as usize] != 0
+    sets::holds(set, numbers[l.l1 + j] as usize)
 }
 
 // Whether a residue of a set, with some number from low to high, makes up the sum modulo m: the residue that goes with a
 // number falls by one, modulo m, as the number rises.
-fn makes_up(m: usize, sum: usize, low: usize, high: usize, set: &[u8]) -> bool
-    requires { ⌜ ((sum < m) × (m ≤ longest + 1)) × ((high ≤ chunkTop) × (m ≤ length (now set))) ⌝ }
+fn makes_up(m: usize, sum: usize, low: usize, high: usize, set: &[u64]) -> bool
+    requires { ⌜ (sum < m) × ((high ≤ chunkTop) × Long m (now set)) ⌝ }
     ensures { λ r. ⌜ ((part n : ℕ) → part < m → In (now (set .entry)) part → low ≤ n → n ≤ high
         → (part + n) % m ≡ sum → r ≡ true) ⌝ }
 {
     let mut part = column::missing(sum, low % m, m);
     let mut n = low;
     while n <= high {
-        if set[part] != 0 {
+        if sets::holds(set, part) {
             return true;
         }
         part = if part == 0 { m - 1 } else { part - 1 };
@@ -264,10 +210,10 @@ fn repairs(
     j: usize,
     left: u8,
     sum: usize,
-    set: &[u8],
+    set: &[u64],
 ) -> bool
     requires { ⌜ Source l (now y) (now totals) (now counts) block j × ((1 ≤ left) × ((sum < modulus l)
-        × (modulus l ≤ length (now set)))) ⌝ }
+        × Long (modulus l) (now set))) ⌝ }
     ensures { λ r. ⌜ ((v part : ℕ) → Repairs l (now (y .entry)) block end j left sum (now (set .entry)) v part → r ≡ true) ⌝ }
 {
     let nc = l.nc;
@@ -303,10 +249,10 @@ fn repairs_some(
     size: u8,
     j: usize,
     sum: usize,
-    set: &[u8],
+    set: &[u64],
 ) -> bool
     requires { ⌜ Source l (now y) (now totals) (now counts) block j × ((sum < modulus l)
-        × (modulus l ≤ length (now set))) ⌝ }
+        × Long (modulus l) (now set)) ⌝ }
     ensures { λ r. ⌜ ((left v part : ℕ) → 1 ≤ left → left ≤ size
         → Repairs l (now (y .entry)) block end j left sum (now (set .entry)) v part → r ≡ true) ⌝ }
 {
@@ -334,8 +280,8 @@ fn can_lose_in(
     known: &[u16],
     j: usize,
     at: usize,
-    set: &mut [u8],
-    other: &mut [u8],
+    set: &mut [u64],
+    other: &mut [u64],
 ) -> bool
     requires { ⌜ Asked l (now y) (now totals) (now counts) (now numbers) heavy (now known) j
         × ((at < heavy .n) × Room (modulus l) (now set) (now other)) ⌝ }
@@ -369,8 +315,8 @@ fn can_lose_one(
     size: [u8; states::MOST_HEAVY],
     known: &[u16],
     j: usize,
-    set: &mut [u8],
-    other: &mut [u8],
+    set: &mut [u64],
+    other: &mut [u64],
 ) -> bool
     requires { ⌜ Asked l (now y) (now totals) (now counts) (now numbers) heavy (now known) j
         × Room (modulus l) (now set) (now other) ⌝ }
@@ -414,8 +360,8 @@ fn cost(
     known: &[u16],
     j: usize,
     deep: bool,
-    set: &mut [u8],
-    other: &mut [u8],
+    set: &mut [u64],
+    other: &mut [u64],
 ) -> usize
     requires { ⌜ Asked l (now y) (now totals) (now counts) (now numbers) heavy (now known) j
         × Room (modulus l) (now set) (now other) ⌝ }
@@ -461,7 +407,7 @@ fn cost(
 }
 
 // The losses of n blocks together.
-fn all_losses(n: usize, size: [u8; states::MOST_HEAVY]) -> usize
+pub fn all_losses(n: usize, size: [u8; states::MOST_HEAVY]) -> usize
     requires { ⌜ n ≤ 6 ⌝ }
     ensures { λ r. ⌜ (r ≡ firsts (each size) n) × (r ≤ 1530) ⌝ }
 {
@@ -486,8 +432,8 @@ fn columns_cost(
     known: &[u16],
     limit: usize,
     deep: bool,
-    set: &mut [u8],
-    other: &mut [u8],
+    set: &mut [u64],
+    other: &mut [u64],
 ) -> usize
     requires { ⌜ Fit l (now y) (now numbers) heavy × (Tables (now y) 0 (now totals) (now counts)
         × ((l .l2 ≤ length (now known)) × Room (modulus l) (now set) (now other))) ⌝ }
@@ -538,8 +484,8 @@ pub fn enough(
         → Path l (now (y .entry)) (now (numbers .entry)) heavy row (each size) vs own → r ≡ true) ⌝ }
 {
     let all = all_losses(heavy.n, size);
-    let mut set: [u8; TWICE] = [0; TWICE];
-    let mut other: [u8; MOST] = [0; MOST];
+    let mut set: [u64; sets::TWICE] = [0; sets::TWICE];
+    let mut other: [u64; sets::WORDS] = [0; sets::WORDS];
     let ones = columns_cost(
         l,
         y,

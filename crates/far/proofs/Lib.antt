@@ -1,2 +1,3 @@
 -- The laws of specs/, for the proofs of this crate and of the crates that stand on it.
 pub mod Walks
+pub mod Unlost

@@ -11,7 +11,7 @@ ghost use Rattle.far.specs.Far.{columnOf, leftOf, Reads, readApart, Aske
 ghost use Rattle.far.specs.Far.{stepAt, Stepped, Swept, Covered, blockAt};
 
 // One where the chunk of heavy block s in column j, read whole where e losses are left, is another than in z.
-fn read_apart(
+pub fn read_apart(
     l: Layout,
     y: &[u8],
     heavy: Heavy,

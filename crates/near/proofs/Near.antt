@@ -17,8 +17,8 @@ use Rattle.states.specs.declared.Shape.{Shape}
 use Rattle.states.proofs.Sums.{firsts-same}
 use Rattle.column.specs.Column.{chunkAt, Crosses, apartIn}
 use Rattle.column.specs.declared.Heavy.{Heavy}
-use Rattle.column.proofs.Rows.{no-loss}
-use Rattle.far.specs.Far.{Reads, readApart, Walk, stepAt, blockAt}
+use Rattle.far.specs.Far.{Walk, stepAt, blockAt}
+use Rattle.far.proofs.Unlost.{reads-there, reads-same}
 use Rattle.marks.specs.Marks.{Path, apartBefore, apartFrom, Kept}
 use Rattle.marks.proofs.Paths.{own-within}
 use Rattle.near.specs.Near.{CountedIn, Counted, mostIn, SaysIn, most, mostAfter}
@@ -62,17 +62,6 @@ module _ (l : Layout) (heavy : Heavy) (z vs : List ℕ) where
   in-more : (s j : ℕ) → inBlock s (j + 1) ≤ inBlock s j + 1
   in-more s j =
       omega (arith, in-next s j, one-most (eqb (getD vs (chunkAt l heavy j s) 0) (getD z (chunkAt l heavy j s) 0)))
-
-module _ {l : Layout} {y numbers : List ℕ} {heavy : Heavy} {row : List ℕ} {j : ℕ} {left next : ℕ → ℕ} {vs : List ℕ}
-    (c : Crosses l y numbers heavy row j left next vs) (s : ℕ) (h : s < heavy .n) (e : next s ≡ left s) where
-  -- a chunk that loses no bit is read where the losses left say
-  reads-there : Reads l y heavy s j (left s)
-  reads-there = (c .starts s h, omega (arith, c .there s h, e))
-
-  reads-same : (z : List ℕ) → unlike vs z (chunkAt l heavy j s) ≡ readApart l y heavy z s j (left s)
-  reads-same z =
-      let is = no-loss (l .nc) _ _ (c .small s h) (c .loses s h ∙ omega (arith, e)) in
-      ap (λ (v : ℕ). cond (eqb v (getD z (chunkAt l heavy j s) 0)) 0 1) is
 
 module _ (l : Layout) (y numbers : List ℕ) (heavy : Heavy) (row : List ℕ) (shape : Shape) (vs : List ℕ) (own : ℕ → ℕ → ℕ)
     (kept : Kept heavy shape) (path : Path l y numbers heavy row (each (shape .size)) vs own) (z : List ℕ) where

@@ -1,2 +1,2 @@
--- The laws that the proofs of this crate rest on.
-mod Words
+-- The laws that the proofs of this crate and of the crates above rest on.
+pub mod Words

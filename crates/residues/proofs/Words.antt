@@ -17,9 +17,15 @@ bit-low x j k h =
     let e : j ≡ d + 1 + k = omega arith in
     rw e (ap (λ (n : ℕ). n % 2) (field x (d + 1) k) ∙ mod-mod-pow (x / 2 ^ k) d 1)
 
--- a shift to the left moves the bits up
-bit-up : (x u k : ℕ) → x * 2 ^ u / 2 ^ (u + k) % 2 ≡ x / 2 ^ k % 2
-bit-up x u k = ap (λ (n : ℕ). n % 2) (sym (shr-shr (x * 2 ^ u) u k) ∙ ap (λ (n : ℕ). n / 2 ^ k) (shl-shr x u))
+-- a shift to the left moves the bits up, within the word
+pub bit-up : (x u k : ℕ) → u + k < 64 → x * 2 ^ u % 2 ^ 64 / 2 ^ (u + k) % 2 ≡ x / 2 ^ k % 2
+bit-up x u k h =
+    bit-low (x * 2 ^ u) 64 (u + k) h
+    ∙ ap (λ (n : ℕ). n % 2) (sym (shr-shr (x * 2 ^ u) u k) ∙ ap (λ (n : ℕ). n / 2 ^ k) (shl-shr x u))
+
+-- a shift to the right moves them down
+pub bit-down : (x u k : ℕ) → x / 2 ^ u / 2 ^ k % 2 ≡ x / 2 ^ (u + k) % 2
+bit-down x u k = ap (λ (n : ℕ). n % 2) (shr-shr x u k)
 
 -- a bit of one of two words is a bit of their union
 max-one : (x : ℕ) → x < 2 → max 1 x ≡ 1
@@ -70,7 +76,7 @@ turned-has m set n by low high has =
         let at : (n + by) % m ≡ by % m + n % m = both ∙ mod-eq-of-lt h ∙ add-comm (n % m) (by % m) in
         rw at
         (or-one _ (set / 2 ^ (m - by % m)) (by % m + n % m)
-        (bit-low (set * 2 ^ (by % m)) 64 (by % m + n % m) (omega (arith, h)) ∙ bit-up set (by % m) (n % m) ∙ has))
+        (bit-up set (by % m) (n % m) (omega (arith, h)) ∙ has))
 
     around : m ≤ n % m + by % m
         → bitOr (set * 2 ^ (by % m) % 2 ^ 64) (set / 2 ^ (m - by % m)) / 2 ^ ((n + by) % m) % 2 ≡ 1
@@ -82,7 +88,7 @@ turned-has m set n by low high has =
         let same : m - by % m + k ≡ n % m = omega (arith, up) in
         rw at
         (or-other (set * 2 ^ (by % m) % 2 ^ 64) (set / 2 ^ (m - by % m)) k
-        (ap (λ (v : ℕ). v % 2) (shr-shr set (m - by % m) k ∙ ap (λ (v : ℕ). set / 2 ^ v) same) ∙ has))
+        (bit-down set (m - by % m) k ∙ ap (λ (v : ℕ). set / 2 ^ v % 2) same ∙ has))
 
 -- what is taken off and put on again leaves the residue
 pub back-again : (m n by : ℕ) → 1 ≤ m → (n + by + (m - by % m)) % m ≡ n % m

@@ -3,8 +3,8 @@
 -- nothing.
 use Prim.Native.Nat.{ℕ, _+_, _-_, _*_, _<_, _≤_}
 use mathlib.Core.Path.{_≡_, refl, sym, ap, _∙_}
-use mathlib.Core.Bool.{Bool, false, false≢true}
-use mathlib.Core.Logic.{inl, inr, ⊎-elim}
+use mathlib.Core.Bool.{Bool, true, false, false≢true}
+use mathlib.Core.Logic.{⊎-elim}
 use mathlib.Core.List.{List}
 use native.Mathlib.Nat.{zero-mul, add-mul, one-mul, mul-le-mul-right}
 use native.Mathlib.Omega.{arith}
@@ -20,9 +20,9 @@ use Rattle.consistent.specs.Greedy.{losses, inAll}
 use Rattle.windows.specs.Windows.{Tables}
 use Rattle.windows.proofs.Windows.{tables-later}
 use Rattle.found.specs.Found.{Given, Sent, Holding, Grown}
-use Rattle.found.proofs.Found.{grown-nothing, grown-then, grown-weaken}
+use Rattle.found.proofs.Found.{grown-holding, grown-nothing, grown-weaken, grown-turn}
 use Rattle.pieces.specs.Pieces.{Tabled, Tried}
-use Rattle.search.specs.Patterns.{Under, lostIn, Begun}
+use Rattle.search.specs.Patterns.{Under, lostIn, countAt, Begun}
 use Rattle.search.proofs.Losses.{lost-next, lost-most, lost-last, tried-can, tried-light}
 use Rattle.anchor.proofs.Totals.{total-next}
 
@@ -73,26 +73,44 @@ tabled-start {l} given t i e =
     let z : 0 * blockBits l - 0 ≡ 0 = omega (arith, zero-mul (blockBits l)) in
     rw (e, z) record { tables = t; short = omega (arith, received-short given) }
 
--- block i, whose count is tried next, after blocks that lose the total
-pub record Next (l : Layout) (numbers y counts : List ℕ) (i total : ℕ) : Type 0 where
+-- block i, whose count is tried next, after blocks that lose the total: the most is what is left, and the first is 0, but
+-- for the last block the most
+pub record Next (l : Layout) (numbers y counts : List ℕ) (i total first most : ℕ) : Type 0 where
   pub given : Given l numbers y
   pub inside : i < l .l1
   pub room : i < length counts
   pub sums : total ≡ inAll (take i counts)
+  pub all : total + most ≡ rowBits l - length y
+  pub from : 0 < first → (i + 1 ≡ l .l1) × (first ≡ most)
 
--- the rows under the first i counts whose block i loses fewer than a bits
-abbrev Fewer : Layout → (y counts : List ℕ) (i total : ℕ) (row : List ℕ) (a : ℕ) → List ℕ → Type 0
-Fewer l y counts i total row a x = Under l y counts i row x × (lostIn l y i total x < a)
+-- the turn in which the losses of block i of the row x itself are tried
+abbrev turnOf : Layout → (y : List ℕ) (i total first most : ℕ) → Bool → (x : List ℕ) → ℕ
+turnOf l y i total first most down x = countAt first most down (lostIn l y i total x)
 
--- what holds when the counts below a are tried: the first blocks stay in the row in hand, and the rows whose block i
--- loses fewer than a bits are known
-pub record Tries (l : Layout) (numbers y : List ℕ) (cap : ℕ) (counts : List ℕ) (i total : ℕ)
-    (row₀ list₀ : List ℕ) (c : ℕ) (m : Bool) (row list : List ℕ) (d : ℕ) (o : Bool) (a : ℕ) : Type 0 where
+-- what holds before a turn: the first blocks stay in the row in hand, and the rows under the first i counts whose own turn
+-- is an earlier one are known
+pub record Tries (l : Layout) (numbers y : List ℕ) (cap : ℕ) (counts : List ℕ) (i total first most : ℕ) (down : Bool)
+    (row₀ list₀ : List ℕ) (c : ℕ) (m : Bool) (row list : List ℕ) (d : ℕ) (o : Bool) (turn : ℕ) : Type 0 where
   pub places : length row ≡ length row₀
   pub stays : take (i * l .l2) row ≡ take (i * l .l2) row₀
-  pub known : Grown l numbers y cap (Fewer l y counts i total row₀ a) list₀ c m list d o
+  pub known : Grown l numbers y cap
+      (λ x. Under l y counts i row₀ x × (turnOf l y i total first most down x < turn)) list₀ c m list d o
 
-module _ {l : Layout} {numbers y counts : List ℕ} {i total : ℕ} (n : Next l numbers y counts i total) where
+-- ---- turns
+-- the count of a turn is one that is tried
+pub count-inside : {first most : ℕ} (down : Bool) {turn : ℕ} → first ≤ turn → turn ≤ most
+    → (first ≤ countAt first most down turn) × (countAt first most down turn ≤ most)
+count-inside true low high = (omega arith, omega arith)
+count-inside false low high = (low, high)
+
+-- turned around twice, a count is itself
+count-back : (first most : ℕ) (down : Bool) (a : ℕ) → first ≤ a → a ≤ most
+    → countAt first most down (countAt first most down a) ≡ a
+count-back first most true a low high = omega arith
+count-back first most false a low high = refl
+
+module _ {l : Layout} {numbers y counts : List ℕ} {i total first most : ℕ}
+    (n : Next l numbers y counts i total first most) where
   -- where block i ends
   end-next : (i + 1) * blockBits l ≡ i * blockBits l + blockBits l
   end-next = omega (arith, add-mul i 1 (blockBits l), one-mul (blockBits l))
@@ -143,6 +161,31 @@ module _ {l : Layout} {numbers y counts : List ℕ} {i total : ℕ} (n : Next l 
     lost-before : losses (take (i * blockBits l) x) y ≡ total
     lost-before = u .own i (omega arith) ∙ sym (n .sums)
 
+    -- its own losses are among the counts that are tried
+    own-count : (first ≤ lostIn l y i total x) × (lostIn l y i total x ≤ most)
+    own-count =
+        let all = n .all in (
+          ⊎-elim
+              (λ (z : 0 < first).
+              let w = n .from z in
+              omega (arith, lost-last (n .given) x sent i total (n .inside) lost-before (w .0)))
+              (λ (z : first ≤ 0). omega arith)
+              (lt-or-ge 0 first),
+          omega (arith, lost-most (n .given) x sent i total (n .inside) lost-before),
+        )
+
+    -- and so its own turn is one of the turns
+    own-turn : (down : Bool)
+        → (first ≤ turnOf l y i total first most down x) × (turnOf l y i total first most down x ≤ most)
+    own-turn down = count-inside down (own-count .0) (own-count .1)
+
+    -- where it is this turn, its own losses are tried
+    own-now : (down : Bool) (turn : ℕ) → turnOf l y i total first most down x ≡ turn
+        → lostIn l y i total x ≡ countAt first most down turn
+    own-now down turn e =
+        sym (count-back first most down (lostIn l y i total x) (own-count .0) (own-count .1))
+        ∙ ap (countAt first most down) e
+
     -- where block i is tried with its own losses, the row is under one count more
     under-next : {a : ℕ} {rest exit : List ℕ} {ok : Bool} → Tried l (getD numbers i 0) i a rest row exit ok
         → rest ≡ drop (i * blockBits l - total) y → lostIn l y i total x ≡ a → Under l y (set counts i a) (i + 1) exit x
@@ -165,68 +208,55 @@ module _ {l : Layout} {numbers y counts : List ℕ} {i total : ℕ} (n : Next l 
               (lt-or-ge b i);
         }
 
-  module _ {cap : ℕ} {row₀ list₀ : List ℕ} {c : ℕ} {m : Bool} where
-    -- no row loses fewer than the first count that is tried: 0, and for the last block all that is left
-    pub tries-start : Holding l numbers y cap list₀ c m → (first : ℕ)
-        → (0 < first → (i + 1 ≡ l .l1) × (total + first ≡ rowBits l - length y))
-        → Tries l numbers y cap counts i total row₀ list₀ c m row₀ list₀ c m first
-    tries-start k first f =
+  module _ {cap : ℕ} {down : Bool} {row₀ list₀ : List ℕ} {c : ℕ} {m : Bool} (held : Holding l numbers y cap list₀ c m) where
+    -- no row has a turn before the first
+    pub tries-start : Tries l numbers y cap counts i total first most down row₀ list₀ c m row₀ list₀ c m first
+    tries-start =
         record {
           places = refl;
           stays = refl;
-          known = grown-nothing k
-              (λ x s q.
-              let w = f (omega (arith, q .1)) in
-              omega (arith, q .1, lost-last (n .given) x s i total (n .inside) (lost-before x s (q .0)) (w .0), w .1));
+          known = grown-nothing held (λ x s q. omega (arith, q .1, own-turn x s (q .0) down .0));
         }
 
-    -- and none loses more than the last
-    pub tries-all : {row list : List ℕ} {d : ℕ} {o : Bool} (a : ℕ) → rowBits l - length y < total + a
-        → Tries l numbers y cap counts i total row₀ list₀ c m row list d o a
+    -- and none has one after the last
+    pub tries-all : {row list : List ℕ} {d : ℕ} {o : Bool} (turn : ℕ) → most < turn
+        → Tries l numbers y cap counts i total first most down row₀ list₀ c m row list d o turn
         → Grown l numbers y cap (Under l y counts i row₀) list₀ c m list d o
-    tries-all a k g =
-        grown-weaken (λ x s u. (u, omega (arith, lost-most (n .given) x s i total (n .inside) (lost-before x s u))))
-        (g .known)
+    tries-all turn k g = grown-weaken (λ x s u. (u, omega (arith, own-turn x s u down .1))) (g .known)
 
-    -- a turn of the loop over a
-    module _ {row list : List ℕ} {d : ℕ} {o : Bool} (a : ℕ)
-        (g : Tries l numbers y cap counts i total row₀ list₀ c m row list d o a)
+    -- a turn of the loop, in which block i is tried with a losses
+    module _ {row list : List ℕ} {d : ℕ} {o : Bool} (turn : ℕ)
+        (g : Tries l numbers y cap counts i total first most down row₀ list₀ c m row list d o turn)
+        {a : ℕ} (now : a ≡ countAt first most down turn)
         {rest exit : List ℕ} {ok : Bool} (t : Tried l (getD numbers i 0) i a rest row exit ok)
         (reads : rest ≡ drop (i * blockBits l - total) y) (same : length exit ≡ length row) where
       -- block i cannot lose a bits
-      pub tries-none : ok ≡ false → Tries l numbers y cap counts i total row₀ list₀ c m exit list d o (a + 1)
+      pub tries-none : ok ≡ false
+          → Tries l numbers y cap counts i total first most down row₀ list₀ c m exit list d o (turn + 1)
       tries-none f =
           record {
             places = same ∙ g .places;
             stays = t .stays ∙ g .stays;
-            known = grown-weaken
-                (λ x s q. (
-                  q .0,
-                  ⊎-elim
-                      (λ k. k)
-                      (λ (k : a ≤ lostIn l y i total x).
-                      absurd (false≢true
-                      (sym f ∙ tried-can (n .given) x s i total (n .inside) (lost-before x s (q .0)) t reads
-                      (omega arith))))
-                      (lt-or-ge (lostIn l y i total x) a),
-                ))
-                (g .known);
+            known = grown-turn held (turnOf l y i total first most down) turn
+                (λ x s u e. false≢true
+                (sym f ∙ tried-can (n .given) x s i total (n .inside) (lost-before x s u) t reads
+                (own-now x s u down turn e ∙ sym now)))
+                (g .known)
+                (grown-nothing (grown-holding held (g .known)) (λ x s z. z));
           }
 
       -- it can, and the rows under that count are found
-      pub tries-next : Holding l numbers y cap list₀ c m → (j : ℕ) → j ≡ i + 1 → {last after : List ℕ} {e : ℕ} {q : Bool}
+      pub tries-next : (j : ℕ) → j ≡ i + 1 → {last after : List ℕ} {e : ℕ} {q : Bool}
           → Grown l numbers y cap (Under l y (set counts i a) j exit) list d o after e q
-          → take (j * l .l2) last ≡ take (j * l .l2) exit
-          → length last ≡ length exit → Tries l numbers y cap counts i total row₀ list₀ c m last after e q (a + 1)
-      tries-next k j p {last} f b w =
+          → take (j * l .l2) last ≡ take (j * l .l2) exit → length last ≡ length exit
+          → Tries l numbers y cap counts i total first most down row₀ list₀ c m last after e q (turn + 1)
+      tries-next j p {last} f b w =
           record {
             places = w ∙ same ∙ g .places;
             stays = stay-less (l .l2) i j exit last p b ∙ t .stays ∙ g .stays;
-            known = grown-weaken
-                (λ x s q. ⊎-elim
-                (λ z. inl (q .0, z))
-                (λ (z : a ≤ lostIn l y i total x). inr
-                (rw p (under-next x s (under-row row (g .stays) (q .0)) t reads (omega arith))))
-                (lt-or-ge (lostIn l y i total x) a))
-                (grown-then k (g .known) f);
+            known = grown-turn held (turnOf l y i total first most down) turn
+                (λ x s u e. rw p
+                (under-next x s (under-row row (g .stays) u) t reads (own-now x s u down turn e ∙ sym now)))
+                (g .known)
+                f;
           }

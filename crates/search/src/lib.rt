@@ -18,7 +18,7 @@ ghost use Rattle.windows.specs.Windows.{Tables};
 ghost use Rattle.found.specs.Found.{Given, Holding, Grown, Listed};
 ghost use Rattle.anchor.specs.Anchor.{Anchored};
 ghost use Rattle.pieces.specs.Pieces.{Tabled};
-ghost use Rattle.search.specs.Patterns.{Under, HeavyIn, Joined, Begun};
+ghost use Rattle.search.specs.Patterns.{Under, HeavyIn, Joined, countAt, Begun};
 
 // One count for each block, and their sum.
 pub struct Pattern {
@@ -198,11 +198,32 @@ fn one_pattern(
     )
 }
 
+// Whether the counts of a block are to be tried from the most down. A lost bit is another than the next received bit: where
+// that is 1, the rows that lose many bits early come first in dictionary order.
+fn down_pays(rest: &[u8]) -> bool {
+    if rest.len() == 0 {
+        return false;
+    }
+    rest[0] == 1
+}
+
+// The count that is tried in a turn: they go from the first to the most, up or down.
+fn count_at(first: usize, most: usize, down: bool, turn: usize) -> usize
+    requires { ⌜ (first ≤ turn) × (turn ≤ most) ⌝ }
+    ensures { λ r. ⌜ r ≡ countAt first most down turn ⌝ }
+{
+    if down {
+        return most - (turn - first);
+    }
+    turn
+}
+
 // The rows under the first counts of a pattern: each count that block i can lose is tried in turn, and the later blocks
 // share out what is left; the last block takes all of it. The part of the received row that starts at block i is handed
 // on, with its tables; those of the whole received row serve the loss tables. Where no row but the anchor can be under the
 // first counts, or all rows under them come after the last row of a list that is full, nothing is tried; once a row is
-// held, it becomes the anchor.
+// held, it becomes the anchor. Any order of the counts is right: the one that finds small rows early fills the list with
+// rows that leave out more of the others.
 fn patterns(
     l: Layout,
     y: &[u8],
@@ -261,8 +282,10 @@ fn patterns(
     if later == 1 {
         first = most;
     }
+    let down = down_pays(rest);
     let mut k = kept;
-    for a in first..=most {
+    for turn in first..=most {
+        let a = count_at(first, most, down, turn);
         if pieces::try_block(l, numbers, i, a, rest, totals, counts, p, row) {
             let mut next = pattern;
             next.counts[i] = a as u8;

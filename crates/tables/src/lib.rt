@@ -598,6 +598,9 @@ pub fn tables(
     if light < room {
         rest = room - light;
     }
+    if alike::all_near(l, y, totals, counts, numbers, heavy, left, &known, z, rest) {
+        return kept;
+    }
     let mut marks: [u8; MARKS] = [0; MARKS];
     let p = live::prepare(
         l,

@@ -10,8 +10,8 @@ use borrow.Author.Needs.{needs}
 use lib.ListN.{length}
 use Rattle.column.proofs.Rows.{string-high}
 use Rattle.whole.specs.Whole.{modulus, Legible, brings}
-use Rattle.costs.specs.Costs.{Grows, Moved}
-use Rattle.costs.proofs.Sets.{moved-rest, moved-grows}
+use Rattle.sets.specs.Sets.{Grows, Moved}
+use Rattle.sets.proofs.Sets.{moved-rest, moved-grows}
 use Rattle.costs.proofs.add_block.Statement.{statement}
 use Rattle.costs.proofs.add_block.Tie as tie
 

@@ -91,7 +91,7 @@ returns c row vs left next light less crosses one =
       small = crosses .small s h;
       readable = rw last at (crosses-readable crosses s h);
       loses = crosses .loses s h ∙ omega (arith, one .0);
-      hits = one-sum crosses (q .fit) (q .column) (a .known .now) light s h one;
+      hits = one-sum crosses (q .fit) (q .column) (a .known .now) light s h (one .1);
     })
 
 pub can-lose-in-spec : {M : Type 1} → statement M

@@ -49,7 +49,11 @@ returns-2 : tie.Need-returns-2
 returns-2 c = (omega arith, fewer (c .before))
 
 can-lose-one-requires : tie.Need-can-lose-one-requires
-can-lose-one-requires c κs = search needs
+can-lose-one-requires c κs =
+    let b = told (c .before .before .before) in
+    let q = start b .pre in
+    let k = b .can-be-whole .kept .1 .1 .1 .1 .1 .1 .1 .1 .1 in
+    (q .0, (omega (arith, q .1 .0, k .0), omega (arith, q .1 .1, k .1 .0)))
 
 same-length-5 : tie.Need-same-length-5
 same-length-5 c = search needs

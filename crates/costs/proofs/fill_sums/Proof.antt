@@ -1,7 +1,7 @@
--- `costs::fill_sums` meets its contract. The loop's invariant: the set stands twice, and the residue of the sum of the
--- chunks in hand and of what the chunks of the blocks passed bring, but that one, is in it, with whatever losses left
--- they are read. The measure is what is left of the blocks. Assumes nothing.
-use Prim.Native.Nat.{ℕ, _+_, _-_, _*_, _%_, _<_, _≤_}
+-- `costs::fill_sums` meets its contract. The loop's invariant: the residue of the sum of the chunks in hand and of what
+-- the chunks of the blocks passed bring, but that one, is in both copies of the set, with whatever losses left they are
+-- read. The measure is what is left of the blocks. Assumes nothing.
+use Prim.Native.Nat.{ℕ, _+_, _-_, _*_, _%_, _≤_}
 use mathlib.Core.Path.{_≡_, refl, sym, ap, _∙_, subst}
 use mathlib.Core.Logic.{⊎-elim}
 use mathlib.Core.List.{List}
@@ -9,21 +9,22 @@ use native.Mathlib.Nat.{mod-lt}
 use native.Mathlib.Numerals.{add-one}
 use native.Mathlib.Omega.{arith}
 use borrow.Author.Needs.{needs}
-use lib.ListN.{length, getD, set, length-set}
+use lib.ListN.{length, getD}
 use Rattle.states.specs.States.{firsts}
 use Rattle.column.proofs.Rows.{string-high}
 use Rattle.whole.specs.Whole.{modulus, bringsIn}
-use Rattle.costs.specs.Costs.{In, Twice, ReadBut, bringsBut}
+use Rattle.sets.specs.Sets.{Twice}
+use Rattle.sets.proofs.Sets.{next-in}
+use Rattle.costs.specs.Costs.{ReadBut, bringsBut}
 use Rattle.costs.proofs.Costs.{but-own, but-other}
-use Rattle.costs.proofs.Sets.{both-room, both-first, twice-set, next-in}
 use Rattle.costs.proofs.fill_sums.Statement.{statement}
 use Rattle.costs.proofs.fill_sums.Tie as tie
 
 abbrev Inv-loop : tie.InvT-loop
 Inv-loop l y totals counts known j but set₀ other₀ heavy size n m first s₀ set other s =
     ((s ≤ n) × ((length set ≡ length set₀) × (length other ≡ length other₀)))
-    × (Twice (modulus l) set × ((left : ℕ → ℕ) → ReadBut l (length y) heavy size j left but s
-    → In set ((getD known j 0 + firsts (bringsBut l y heavy j left but) s) % modulus l)))
+    × ((left : ℕ → ℕ) → ReadBut l (length y) heavy size j left but s
+    → Twice (modulus l) set ((getD known j 0 + firsts (bringsBut l y heavy j left but) s) % modulus l))
 
 abbrev μ-loop : tie.MeasureT-loop
 μ-loop l y totals counts known j but set₀ other₀ heavy size n m first s₀ set other s = n - s
@@ -32,11 +33,11 @@ abbrev μ-loop : tie.MeasureT-loop
 abbrev entry : tie.After-struct-known Inv-loop μ-loop → tie.Start Inv-loop μ-loop
 entry c = c .before .before .before .before .before .before .before
 
--- the first call, which empties the set, seen from where the loop begins, and the arguments, seen from there
-abbrev first : tie.After-shared-slice-known5 Inv-loop μ-loop → tie.After-take-over Inv-loop μ-loop
-first c = c .before .before .before .before .before
+-- the first call, which puts in the chunks in hand, seen from where the loop begins, and the start, seen from there
+abbrev first : tie.After-slice-known3 Inv-loop μ-loop → tie.After-only Inv-loop μ-loop
+first c = c .before .before
 
-abbrev begin : tie.After-shared-slice-known5 Inv-loop μ-loop → tie.Start Inv-loop μ-loop
+abbrev begin : tie.After-slice-known3 Inv-loop μ-loop → tie.Start Inv-loop μ-loop
 begin c = entry (first c .before .before .before)
 
 -- the modulus is small
@@ -47,19 +48,14 @@ high s = string-high (s .args .l) (s .pre .0 .0)
 long : (c : tie.At-loop Inv-loop μ-loop) → let a = begin (c .before) .args in
     (length (c .loop .set) ≡ length (a .set .now)) × (length (c .loop .other) ≡ length (a .other .now))
 long c =
-    let f = first (c .before) .take-over in
     let i = c .loop .inv .0 .1 in
-    let one = length-set (f .last .1 .0) _ 1 ∙ f .kept .1 .0 in
-    (i .0 ∙ length-set (set (f .last .1 .0) _ 1) _ 1 ∙ one, i .1 ∙ f .kept .1 .1 .0)
+    (i .0 ∙ first (c .before) .only .kept .1 .1 .0, i .1)
 
 mul-m : tie.Need-mul-m Inv-loop μ-loop
 mul-m c = omega (arith, high (entry c))
 
 add-m : tie.Need-add-m Inv-loop μ-loop
 add-m c = omega (arith, high (entry c))
-
-take-over-requires : tie.Need-take-over-requires Inv-loop μ-loop
-take-over-requires c κs = search needs
 
 mul-first : tie.Need-mul-first Inv-loop μ-loop
 mul-first c = search needs
@@ -68,43 +64,20 @@ shared-slice-read-first : tie.Need-shared-slice-read-first Inv-loop μ-loop
 shared-slice-read-first c = search needs
 
 cast-first : tie.Need-cast-first Inv-loop μ-loop
-cast-first c = record { fits = omega (arith, c .shared-slice-known5 .given (begin c .args .j)) }
+cast-first c = record { fits = omega (arith, c .shared-slice-known5 .given (entry (c .before) .args .j)) }
 
 rem-first : tie.Need-rem-first Inv-loop μ-loop
 rem-first c = search needs
 
--- the first residue is one, and the emptied set has room for it in both copies
-low : (c : tie.After-shared-slice-known5 Inv-loop μ-loop) → let a = begin c .args in
-    getD (a .known .now) (a .j) 0 % modulus (a .l) < modulus (a .l)
-low c = mod-lt _ (omega arith)
-
-room : (c : tie.After-shared-slice-known5 Inv-loop μ-loop)
-    → 2 * modulus (begin c .args .l) ≤ length (first c .take-over .last .1 .0)
-room c = omega (arith, first c .take-over .kept .1 .0, begin c .pre .1 .1 .0)
-
-slice-write-set : tie.Need-slice-write-set Inv-loop μ-loop
-slice-write-set c = omega (arith, low c, room c)
-
-add-set : tie.Need-add-set Inv-loop μ-loop
-add-set c = record { fits = omega (arith, low c, high (begin c)) }
-
-slice-write-set-2 : tie.Need-slice-write-set-2 Inv-loop μ-loop
-slice-write-set-2 c = both-room _ (first c .take-over .last .1 .0) _ 1 (low c) (room c)
+only-requires : tie.Need-only-requires Inv-loop μ-loop
+only-requires c κs = (mod-lt _ (omega arith), entry (c .before .before) .pre .1 .1 .0)
 
 loop-holds : tie.Need-loop-holds Inv-loop μ-loop
 unfolding firsts
 loop-holds c =
     let a = begin c .args in
-    let over = first c .take-over in
-    let v : ℕ = getD (a .known .now) (a .j) 0 % modulus (a .l) in (
-      (omega arith, (refl, refl)),
-      (
-        twice-set (modulus (a .l)) (over .last .1 .0) v 1 (low c) (room c) (over .ensures .1),
-        λ left read.
-            let z : getD (a .known .now) (a .j) 0 + 0 ≡ getD (a .known .now) (a .j) 0 = omega arith in
-            rw (z, both-first (modulus (a .l)) (over .last .1 .0) v 1 (low c) (room c)) (omega arith),
-      ),
-    )
+    let z : getD (a .known .now) (a .j) 0 + 0 ≡ getD (a .known .now) (a .j) 0 = omega arith in
+    ((omega arith, (refl, refl)), λ left read. rw z (first c .only .ensures))
 
 element-copy-out-take-block : tie.Need-element-copy-out-take-block Inv-loop μ-loop
 element-copy-out-take-block c = search needs
@@ -121,7 +94,10 @@ take-block-requires c κs =
     let p = t .before in
     let s = begin (p .before) in (
       s .pre .1 .0 (p .loop .s) (t .loop-test .taken),
-      (p .loop .inv .1 .0, (omega (arith, s .pre .1 .1 .0, long p .0), omega (arith, s .pre .1 .1 .1, long p .1))),
+      (
+        (s .pre .1 .1 .0 .0, omega (arith, s .pre .1 .1 .0 .1, long p .0)),
+        omega (arith, s .pre .1 .1 .1, long p .1),
+      ),
     )
 
 add-s : tie.Need-add-s Inv-loop μ-loop
@@ -148,28 +124,22 @@ loop-again c =
           ⊎-elim (λ w. ap length (w .11) ∙ search needs) (λ w. ap length (w .2) ∙ i .0 .1 .1) (c .if1 .came),
         ),
       ),
-      (
-        ⊎-elim
-            (λ w. subst (Twice m) (sym (w .10)) (w .5 .ensures .1))
-            (λ w. subst (Twice m) (sym (w .1)) (i .1 .0))
-            (c .if1 .came),
-        λ left read.
-            let was = i .1 .1 left (λ t k d. read t (omega arith) d) in
-            let Holds : List ℕ → Type 0 = λ set. In set ((known + (firsts (gain left) s + gain left s)) % m) in
-            rw (add-one s)
-            (⊎-elim
-            (λ w. let own = read s (omega arith) (w .0 .taken) in
-            let moved = w .5 .ensures .0 (left s) (own .0) (own .1) in
-            let e = but-other (a .l) (a .y .now) (a .t5) (a .j) left (a .but) s (w .0 .taken) in
-            subst Holds (sym (w .10))
-            (rw e
-            (next-in m known (firsts (gain left) s) (bringsIn (a .l) (a .y .now) (a .t5) (a .j) left s) (p .loop .set)
-            (w .5 .last .1 .1 .1 .1 .1 .1 .1 .1 .0) (omega arith) moved was)))
-            (λ w. let e : gain left s ≡ 0 = rw (w .0 .left) (but-own (a .l) (a .y .now) (a .t5) (a .j) left (a .but)) in
-            let z : known + (firsts (gain left) s + 0) ≡ known + firsts (gain left) s = omega arith in
-            subst Holds (sym (w .1)) (rw (e, z) was))
-            (c .if1 .came)),
-      ),
+      λ left read.
+          let was = i .1 left (λ t k d. read t (omega arith) d) in
+          let Holds : List ℕ → Type 0 = λ set. Twice m set ((known + (firsts (gain left) s + gain left s)) % m) in
+          rw (add-one s)
+          (⊎-elim
+          (λ w. let own = read s (omega arith) (w .0 .taken) in
+          let moved = w .5 .ensures (left s) (own .0) (own .1) in
+          let e = but-other (a .l) (a .y .now) (a .t5) (a .j) left (a .but) s (w .0 .taken) in
+          subst Holds (sym (w .10))
+          (rw e
+          (next-in m known (firsts (gain left) s) (bringsIn (a .l) (a .y .now) (a .t5) (a .j) left s) (p .loop .set)
+          (w .5 .last .1 .1 .1 .1 .1 .1 .1 .1 .0) (omega arith) moved was)))
+          (λ w. let e : gain left s ≡ 0 = rw (w .0 .left) (but-own (a .l) (a .y .now) (a .t5) (a .j) left (a .but)) in
+          let z : known + (firsts (gain left) s + 0) ≡ known + firsts (gain left) s = omega arith in
+          subst Holds (sym (w .1)) (rw (e, z) was))
+          (c .if1 .came)),
     )
 
 same-length : tie.Need-same-length Inv-loop μ-loop
@@ -183,7 +153,7 @@ returns c left read =
     let p = c .before in
     let a = begin (p .before) .args in
     let k : p .loop .s ≡ a .t5 .n = omega (arith, p .loop .inv .0 .0, c .loop-test .left) in
-    let was = p .loop .inv .1 .1 left (λ t h d. read t (omega arith) d) in
+    let was = p .loop .inv .1 left (λ t h d. read t (omega arith) d) .0 in
     rw k at was
 
 pub fill-sums-spec : {M : Type 1} → statement M
@@ -194,14 +164,11 @@ fill-sums-spec =
     μ-loop
     mul-m
     add-m
-    take-over-requires
     mul-first
     shared-slice-read-first
     cast-first
     rem-first
-    slice-write-set
-    add-set
-    slice-write-set-2
+    only-requires
     loop-holds
     element-copy-out-take-block
     element-copy-out-take-block-2

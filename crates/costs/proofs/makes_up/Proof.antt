@@ -2,13 +2,13 @@
 -- set with a number that is passed. The measure is what is left of the numbers. Assumes nothing.
 use Prim.Native.Nat.{ℕ, _+_, _-_, _%_, _<_, _≤_}
 use mathlib.Core.Path.{_≡_, refl, sym, ap, _∙_}
+use mathlib.Core.Bool.{false≢true}
 use mathlib.Core.Logic.{⊎-elim}
 use native.Mathlib.Nat.{mod-lt, mod-eq-of-lt, mod-add-mod}
 use native.Mathlib.Omega.{arith}
 use borrow.Author.Count.{below-more}
 use borrow.Author.Needs.{needs}
-use lib.ListN.{getD}
-use Rattle.costs.proofs.Sets.{Only, Never, only-before}
+use Rattle.costs.proofs.Parts.{Only, Never, only-before}
 use Rattle.costs.proofs.makes_up.Statement.{statement}
 use Rattle.costs.proofs.makes_up.Tie as tie
 
@@ -37,7 +37,7 @@ loop-holds : tie.Need-loop-holds Inv-loop μ-loop
 loop-holds c =
     let a = c .before .before .args in
     let e = c .missing .ensures in
-    let some : 0 < a .m = omega (arith, c .before .before .pre .0 .0) in
+    let some : 0 < a .m = omega (arith, c .before .before .pre .0) in
     let only : Only (a .m) (a .sum) (a .low) (c .missing .result) =
     λ q h s.
     let w : a .low + q ≡ q + a .low = omega arith in
@@ -46,10 +46,10 @@ loop-holds c =
     sym (mod-eq-of-lt h) ∙ e .1 q (mod-lt (a .low) some) o in
     ((e .0, only), λ k h l. absurd (omega arith))
 
-shared-slice-read-if1 : tie.Need-shared-slice-read-if1 Inv-loop μ-loop
-shared-slice-read-if1 c =
-    let p = c .before .before in
-    omega (arith, p .loop .inv .0 .0, start p .pre .1 .1)
+holds-requires : tie.Need-holds-requires Inv-loop μ-loop
+holds-requires c κs =
+    let p = c .before in
+    omega (arith, p .loop .inv .0 .0, start p .pre .1 .1 .1)
 
 returns : tie.Need-returns Inv-loop μ-loop
 returns c = λ part n h x l k s. refl
@@ -83,9 +83,8 @@ loop-again c =
     (c .if2 .came) in
     let here : a .low ≤ n → Never (a .m) (a .sum) (a .set .now) n =
     λ l q h x s.
-    let same : getD (a .set .now) q 0 ≡ getD (a .set .now) (p .loop .part) 0 =
-    ap (λ (r : ℕ). getD (a .set .now) r 0) (i .0 .1 q h s) in
-    omega (arith, same, x, c .before .if1 .left) in
+    let same : q ≡ p .loop .part = i .0 .1 q h s in
+    false≢true (sym (c .before .if1 .left) ∙ c .before .before .holds .ensures (rw same at x)) in
     ((low, only), below-more _ n (i .1) here)
 
 returns-2 : tie.Need-returns-2 Inv-loop μ-loop
@@ -102,7 +101,7 @@ makes-up-spec =
     rem-missing
     missing-requires
     loop-holds
-    shared-slice-read-if1
+    holds-requires
     returns
     sub-part
     sub-part-2

@@ -173,7 +173,7 @@ makes-up-requires c κs =
     let w = turn c in
     let s = begin (known (found (w .before .before))) in
     let p = s .pre .1 .1 in
-    ((p .0, omega (arith, high s)), (omega (arith, w .widen .ensures .high-small), p .1))
+    (p .0, (omega (arith, w .widen .ensures .high-small), p .1))
 
 returns-2 : tie.Need-returns-2 Inv-loop μ-loop
 returns-2 c v part r = refl

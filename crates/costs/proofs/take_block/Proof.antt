@@ -1,9 +1,9 @@
 -- `costs::take_block` meets its contract: what is moved into the other set is taken over. Assumes nothing.
-use Prim.Native.Nat.{ℕ, _+_, _%_}
-use native.Mathlib.Nat.{mod-lt}
+use Prim.Native.Nat.{ℕ}
 use native.Mathlib.Omega.{arith}
 use borrow.Author.Needs.{needs}
 use Rattle.whole.specs.Whole.{modulus, brings}
+use Rattle.sets.proofs.Sets.{moved-over}
 use Rattle.costs.proofs.take_block.Statement.{statement}
 use Rattle.costs.proofs.take_block.Tie as tie
 
@@ -42,12 +42,9 @@ returns c =
     let b = added o in
     let a = start b .args in
     let gain : ℕ → ℕ = brings (a .l) (a .y .now) (a .block) (a .end) (a .j) in
-    let over = o .take-over .ensures in (
-      λ e h legible r k x.
-          rw (over .0 ((r + gain e) % modulus (a .l)) (mod-lt (r + gain e) (omega arith)))
-          (b .add-block .ensures e h legible r k x),
-      over .1,
-    )
+    λ e h legible.
+    moved-over (modulus (a .l)) (gain e) (a .set .now) (b .add-block .last .1 .1 .1 .1 .1 .1 .1 .1 .1 .0)
+    (o .take-over .last .1 .0) (omega arith) (o .take-over .ensures) (b .add-block .ensures e h legible)
 
 pub take-block-spec : {M : Type 1} → statement M
 take-block-spec =

@@ -37,19 +37,31 @@ asked c = begin (c .before .before .before)
 abbrev entry : tie.After-light-sums → tie.Start
 entry c = asked (c .before)
 
--- where the sums are known, seen from where the light chunks are compared; that place, and the entry, seen from where
--- the marks are made
+-- where the sums are known, seen from where the light chunks are compared; that place, seen from where it is known how
+-- many others are asked for; this, and the entry, seen from where the marks are made
 abbrev sums-at : tie.After-apart-light → tie.After-light-sums
 sums-at c = c .before .before .before .before .before
 
+abbrev compared-at : tie.Joined2 → tie.After-apart-light
+compared-at c = c .before
+
+abbrev summed-at : tie.Joined2 → tie.After-light-sums
+summed-at c = sums-at (compared-at c)
+
+abbrev entry-at : tie.Joined2 → tie.Start
+entry-at c = entry (summed-at c)
+
+abbrev rested : tie.After-prepare → tie.Joined2
+rested c = c .before .before .before .before .before .before .before
+
 abbrev compared : tie.After-prepare → tie.After-apart-light
-compared c = c .before .before .before .before .before
+compared c = compared-at (rested c)
 
 abbrev summed : tie.After-prepare → tie.After-light-sums
-summed c = sums-at (compared c)
+summed c = summed-at (rested c)
 
 abbrev start : tie.After-prepare → tie.Start
-start c = entry (summed c)
+start c = entry-at (rested c)
 
 -- where the marks are made, seen from where the table of rests is filled
 abbrev prepared : tie.After-fill → tie.After-prepare
@@ -110,6 +122,53 @@ apart-light-requires c κs =
 sub-rest : tie.Need-sub-rest
 sub-rest c = search needs
 
+slice-aggregate-all-near : tie.Need-slice-aggregate-all-near
+slice-aggregate-all-near c = search needs
+
+all-near-requires : tie.Need-all-near-requires
+all-near-requires c κs =
+    let b = summed-at (c .before) in
+    let s = entry b in
+    let long = b .light-sums .kept .1 .1 .1 .1 .1 .0 in
+    (fits (s .pre .0 .0) (s .pre .1 .0 .0), (s .pre .1 .1 .0, (omega (arith, high s .l2-high, long), s .pre .1 .1 .1 .0)))
+
+-- and it differs from z in at most so many chunks beside those of the heavy blocks
+within : (c : tie.Joined2) → let a = entry-at c .args in
+    (x : List ℕ) → Sent (a .l) (a .numbers .now) (a .y .now) x → Under (a .l) (a .y .now) (a .heavy) 0 0 (a .t) x
+    → apart (a .l) (a .z .now) x ≤ compared-at c .apart-light .result + apartFrom (a .l) (a .heavy) (a .z .now)
+    (values (a .l) x) 0
+within c x sent u =
+    let p = entry-at c .pre in
+    compared-at c .apart-light .ensures .0 (values (entry-at c .args .l) x) (in-hand (p .0 .0) sent (p .1 .0 .0) u (p .1 .0 .1))
+
+-- one that differs from z in fewer chunks of the heavy blocks than are asked for is known
+near-known : (c : tie.Joined2) → let s = entry-at c in let a = s .args in
+    (x : List ℕ) → Sent (a .l) (a .numbers .now) (a .y .now) x → Under (a .l) (a .y .now) (a .heavy) 0 0 (a .t) x
+    → apartFrom (a .l) (a .heavy) (a .z .now) (values (a .l) x) 0 < c .if2 .rest
+    → Known (rowsIn (rowBits (a .l)) (a .list .now) (a .kept .count) (a .kept .more)) x
+near-known c x sent u near =
+    entry-at c .pre .1 .1 .1 .1 x sent
+    (⊎-elim
+    (λ w. omega (arith, near, within c x sent u, w .1, w .0 .taken))
+    (λ w. absurd (omega (arith, near, w .1)))
+    (c .if2 .came))
+
+abbrev Near : tie.Joined2 → List ℕ → Type 0
+Near c x =
+    let a = entry-at c .args in
+    Under (a .l) (a .y .now) (a .heavy) 0 0 (a .t) x
+    × (apartFrom (a .l) (a .heavy) (a .z .now) (values (a .l) x) 0 < c .if2 .rest)
+
+-- where all rows are near, all are known
+returns-2 : tie.Need-returns-2
+returns-2 c =
+    let n = c .before in
+    let q = n .before .before in
+    grown-none (entry-at q .pre .0 .1)
+    (λ x sent u.
+    near-known q x sent u
+    (n .all-near .ensures (c .if3 .taken) _ _ _ (summed-at q .light-sums .ensures) (path (entry-at q) x sent u)))
+
 slice-aggregate-prepare : tie.Need-slice-aggregate-prepare
 slice-aggregate-prepare c = search needs
 
@@ -117,52 +176,25 @@ slice-aggregate-prepare-2 : tie.Need-slice-aggregate-prepare-2
 slice-aggregate-prepare-2 c = search needs
 
 marks-pay-requires : tie.Need-marks-pay-requires
-marks-pay-requires c κs = entry (sums-at (c .before .before)) .pre .0 .0 .is-legal
+marks-pay-requires c κs = entry-at (c .before .before .before .before) .pre .0 .0 .is-legal
 
 prepare-requires : tie.Need-prepare-requires
 prepare-requires c κs =
-    let b = sums-at (c .before .before .before .before) in
+    let b = summed-at (c .before .before .before .before .before .before) in
     let s = entry b in
     let long = b .light-sums .kept .1 .1 .1 .1 .1 .0 in
     (fits (s .pre .0 .0) (s .pre .1 .0 .0), (s .pre .1 .1 .0, (omega (arith, high s .l2-high, long), s .pre .1 .1 .1 .0)))
 
--- and it differs from z in at most so many chunks beside those of the heavy blocks
-within : (c : tie.After-prepare) → let a = start c .args in
-    (x : List ℕ) → Sent (a .l) (a .numbers .now) (a .y .now) x → Under (a .l) (a .y .now) (a .heavy) 0 0 (a .t) x
-    → apart (a .l) (a .z .now) x ≤ compared c .apart-light .result + apartFrom (a .l) (a .heavy) (a .z .now)
-    (values (a .l) x) 0
-within c x sent u =
-    let p = start c .pre in
-    compared c .apart-light .ensures .0 (values (start c .args .l) x) (in-hand (p .0 .0) sent (p .1 .0 .0) u (p .1 .0 .1))
-
--- one that differs from z in fewer chunks of the heavy blocks than are asked for is known
-near-known : (c : tie.After-prepare) → let s = start c in let a = s .args in
-    (x : List ℕ) → Sent (a .l) (a .numbers .now) (a .y .now) x → Under (a .l) (a .y .now) (a .heavy) 0 0 (a .t) x
-    → apartFrom (a .l) (a .heavy) (a .z .now) (values (a .l) x) 0 < c .before .before .before .before .if2 .rest
-    → Known (rowsIn (rowBits (a .l)) (a .list .now) (a .kept .count) (a .kept .more)) x
-near-known c x sent u near =
-    start c .pre .1 .1 .1 .1 x sent
-    (⊎-elim
-    (λ w. omega (arith, near, within c x sent u, w .1, w .0 .taken))
-    (λ w. absurd (omega (arith, near, w .1)))
-    (c .before .before .before .before .if2 .came))
-
-abbrev Near : tie.After-prepare → List ℕ → Type 0
-Near c x =
-    let a = start c .args in
-    Under (a .l) (a .y .now) (a .heavy) 0 0 (a .t) x
-    × (apartFrom (a .l) (a .heavy) (a .z .now) (values (a .l) x) 0 < c .before .before .before .before .if2 .rest)
-
-returns-2 : tie.Need-returns-2
-returns-2 c =
+returns-3 : tie.Need-returns-3
+returns-3 c =
     let q = c .before .before in
     let a = start q .args in
     let g = q .prepare .ensures .1 .1 in
     grown-none (start q .pre .0 .1)
     (λ x sent u.
     ⊎-elim
-    (near-known q x sent u)
-    (λ far. absurd (g _ _ _ (summed q .light-sums .ensures) (path (start q) x sent u) far .0 (c .if3 .taken)))
+    (near-known (rested q) x sent u)
+    (λ far. absurd (g _ _ _ (summed q .light-sums .ensures) (path (start q) x sent u) far .0 (c .if4 .taken)))
     (lt-or-ge (apartFrom (a .l) (a .heavy) (a .z .now) (values (a .l) x) 0) _))
 
 -- what the columns ask: tables, sums, chunks to compare with
@@ -223,7 +255,7 @@ comes d marks x sent u t =
       sums = d .before .before .at-first .ensures (values (a .l) x)
           (λ r h. block-sum (s .pre .0 .0) x sent (getD (a .heavy .block) r 0) (inside r h));
       rest-sums = d .fill .ensures .0 _ _ _ (path s x sent u);
-      within = within c x sent u;
+      within = within (rested c) x sent u;
     }
 
 -- and the shape of the states
@@ -237,7 +269,8 @@ shape-of c =
     }
 
 slice-aggregate-columns : tie.Need-slice-aggregate-columns
-slice-aggregate-columns c = search needs
+slice-aggregate-columns c =
+    sym (summed (prepared (c .before .before .before)) .light-sums .kept .1 .1 .1 .1 .1 .0)
 
 slice-aggregate-columns-2 : tie.Need-slice-aggregate-columns-2
 slice-aggregate-columns-2 c = search needs
@@ -254,19 +287,19 @@ columns-requires c κs =
 same-length : tie.Need-same-length
 same-length c = search needs
 
-returns-3 : tie.Need-returns-3
-returns-3 c =
+returns-4 : tie.Need-returns-4
+returns-4 c =
     let m = c .before .before .before in
     let d = marked m in
     let q = prepared d in
-    let kept = m .before .before .before .before .if4 .taken in
+    let kept = m .before .before .before .before .if5 .taken in
     let a = start q .args in
     let h = start q .pre .0 .1 in
     let g = q .prepare .ensures .1 .1 in
     grown-weaken
     (λ x sent u.
     ⊎-elim
-    {C = Near q x
+    {C = Near (rested q) x
     ⊎ (Under (a .l) (a .y .now) (a .heavy) 0 0 (a .t) x
     × Comes (a .l) (a .y .now) (a .numbers .now) (a .heavy) (q .prepare .result .shape)
     (summed q .light-sums .last .1 .1 .1 .1 .1 .0) (q .prepare .last .1 .1 .1 .1 .1 .1 .1 .1 .1 .1 .1 .0)
@@ -275,11 +308,12 @@ returns-3 c =
     (λ far.
     inr (u, comes d _ x sent u (g _ _ _ (summed q .light-sums .ensures) (path (start q) x sent u) far .1 kept)))
     (lt-or-ge (apartFrom (a .l) (a .heavy) (a .z .now) (values (a .l) x) 0) _))
-    (grown-then h (grown-none h {P = Near q} (λ x sent p. near-known q x sent (p .0) (p .1)))
+    (grown-then h (grown-none h {P = Near (rested q)} (λ x sent p. near-known (rested q) x sent (p .0) (p .1)))
     (c .before .before .columns .ensures))
 
 slice-aggregate-columns-4 : tie.Need-slice-aggregate-columns-4
-slice-aggregate-columns-4 c = search needs
+slice-aggregate-columns-4 c =
+    sym (summed (prepared (c .before .before .before)) .light-sums .kept .1 .1 .1 .1 .1 .0)
 
 sub-columns : tie.Need-sub-columns
 sub-columns c = search needs
@@ -302,8 +336,8 @@ columns-requires-2 c κs =
 same-length-2 : tie.Need-same-length-2
 same-length-2 c = search needs
 
-returns-4 : tie.Need-returns-4
-returns-4 c =
+returns-5 : tie.Need-returns-5
+returns-5 c =
     let m = c .before .before .before in
     grown-weaken (λ x sent u. (u, comes (unmarked m) _ x sent u (λ j h k. absurd (omega (arith, k)))))
     (c .before .before .columns2 .ensures)
@@ -319,11 +353,14 @@ tables-spec =
     returns
     apart-light-requires
     sub-rest
+    slice-aggregate-all-near
+    all-near-requires
+    returns-2
     slice-aggregate-prepare
     marks-pay-requires
     slice-aggregate-prepare-2
     prepare-requires
-    returns-2
+    returns-3
     at-first-requires
     slice-aggregate-fill
     fill-requires
@@ -332,7 +369,7 @@ tables-spec =
     slice-aggregate-columns-3
     columns-requires
     same-length
-    returns-3
+    returns-4
     slice-aggregate-columns-4
     sub-columns
     part-columns-start
@@ -340,4 +377,4 @@ tables-spec =
     slice-aggregate-columns-5
     columns-requires-2
     same-length-2
-    returns-4)
+    returns-5)

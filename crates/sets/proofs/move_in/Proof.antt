@@ -1,8 +1,8 @@
--- `costs::move_in` meets its contract. Assumes nothing.
+-- `sets::move_in` meets its contract. Assumes nothing.
 use borrow.Author.Needs.{needs}
-use Rattle.costs.proofs.Sets.{moved-in}
-use Rattle.costs.proofs.move_in.Statement.{statement}
-use Rattle.costs.proofs.move_in.Tie as tie
+use Rattle.sets.proofs.Sets.{moved-in}
+use Rattle.sets.proofs.move_in.Statement.{statement}
+use Rattle.sets.proofs.move_in.Tie as tie
 
 returns : tie.Need-returns
 returns c = search needs
@@ -19,10 +19,9 @@ same-length c = search needs
 returns-2 : tie.Need-returns-2
 returns-2 c =
     let p = c .before .before in
-    let s = p .before .before .before .before .before in
-    let a = s .args in
+    let a = p .before .before .before .before .before .args in
     let put = p .put-in .ensures in
-    (put .0, λ h. moved-in (a .m) (a .by) (a .from .now) (p .put-in .last .1 .1 .1 .0) h (s .pre .0) (put .1))
+    (put .0, λ h. moved-in (a .m) (a .by) (a .from .now) (p .put-in .last .1 .1 .1 .0) h (put .1))
 
 pub move-in-spec : {M : Type 1} → statement M
 move-in-spec = tie.close (tie.spec returns sub-put-in put-in-requires same-length returns-2)

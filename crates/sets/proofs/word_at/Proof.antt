@@ -1,0 +1,46 @@
+-- `sets::word_at` meets its contract. Assumes nothing.
+use borrow.Author.Needs.{needs}
+use Rattle.sets.proofs.Sets.{read-word}
+use Rattle.sets.proofs.word_at.Statement.{statement}
+use Rattle.sets.proofs.word_at.Tie as tie
+
+mul-result : tie.Need-mul-result
+mul-result c = search needs
+
+shared-slice-read-result : tie.Need-shared-slice-read-result
+shared-slice-read-result c = search needs
+
+shr-result : tie.Need-shr-result
+shr-result c = search needs
+
+add-result : tie.Need-add-result
+add-result c = search needs
+
+mul-result-2 : tie.Need-mul-result-2
+mul-result-2 c = search needs
+
+shared-slice-read-result-2 : tie.Need-shared-slice-read-result-2
+shared-slice-read-result-2 c = search needs
+
+sub-result : tie.Need-sub-result
+sub-result c = search needs
+
+shl-result : tie.Need-shl-result
+shl-result c = search needs
+
+returns : tie.Need-returns
+returns c b h x = let a = c .before .before .args in read-word (a .from .now) (a .p) b h x
+
+pub word-at-spec : {M : Type 1} → statement M
+word-at-spec =
+    tie.close
+    (tie.spec
+    mul-result
+    shared-slice-read-result
+    shr-result
+    add-result
+    mul-result-2
+    shared-slice-read-result-2
+    sub-result
+    shl-result
+    returns)
