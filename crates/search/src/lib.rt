@@ -199,8 +199,12 @@ fn one_pattern(
 }
 
 // Whether the counts of a block are to be tried from the most down. A lost bit is another than the next received bit: where
-// that is 1, the rows that lose many bits early come first in dictionary order.
-fn down_pays(rest: &[u8]) -> bool {
+// that is 1, the rows that lose many bits early come first in dictionary order. With checks a row that is held leaves out
+// those near it, and in rising order one is held sooner.
+fn down_pays(checks: usize, rest: &[u8]) -> bool {
+    if 0 < checks {
+        return false;
+    }
     if rest.len() == 0 {
         return false;
     }
@@ -282,7 +286,7 @@ fn patterns(
     if later == 1 {
         first = most;
     }
-    let down = down_pays(rest);
+    let down = down_pays(l.r, rest);
     let mut k = kept;
     for turn in first..=most {
         let a = count_at(first, most, down, turn);
