@@ -1,8 +1,8 @@
--- One block tried with a count (document 01, "Steps of the source"): which blocks lose just so many bits against the rest
--- of the received row, and what then stands in the row in hand.
+-- One block tried with a count (document 01, "Steps of the source"): which count is tried in which turn, which blocks lose
+-- just so many bits against the rest of the received row, and what then stands in the row in hand.
 use Prim.Native.Nat.{ℕ, _+_, _-_, _*_, _<_, _≤_}
 use mathlib.Core.Path.{_≡_}
-use mathlib.Core.Bool.{Bool, true, _&&_}
+use mathlib.Core.Bool.{Bool, true, cond, _&&_}
 use mathlib.Core.List.{List}
 use lib.Dec.{leb, eqb}
 use lib.ListN.{length, getD, take, drop}
@@ -12,6 +12,11 @@ use Rattle.message.specs.Layout.{blockBits}
 use Rattle.message.specs.declared.Layout.{Layout}
 use Rattle.consistent.specs.Greedy.{losses}
 use Rattle.windows.specs.Windows.{Tables}
+
+-- the count that is tried in a turn, where the turns go from the first count to the most: the counts go up with them, or
+-- down from the most
+abbrev pub countAt : (first most : ℕ) → Bool → (turn : ℕ) → ℕ
+countAt first most down turn = cond down (most - (turn - first)) turn
 
 -- the tables of the rest of the received row, which starts at place p of it
 pub record Tabled (rest : List ℕ) (p : ℕ) (totals counts : List ℕ) : Type 0 where

@@ -1,5 +1,5 @@
-// One block of a loss pattern, tried with a count: with none or one loss the block is put in the row in hand. Contracts
-// cite specs/Pieces.antt; strings of bits are unpacked, one byte a bit.
+// One block of a loss pattern: in which order its counts are tried, and the block tried with a count; with none or one loss it is put
+// in the row in hand. Contracts cite specs/Pieces.antt; strings of bits are unpacked, one byte a bit.
 use message::Layout;
 ghost use mathlib.Core.Path.{_≡_};
 ghost use mathlib.Core.Bool.{true};
@@ -9,7 +9,31 @@ ghost use lib.ListN.{length, getD, take, drop};
 ghost use Rattle.bits.specs.Bits.{AllBits};
 ghost use Rattle.message.specs.Layout.{legal, blockBits};
 ghost use Rattle.message.specs.Read.{fields};
-ghost use Rattle.pieces.specs.Pieces.{hasSum, Tabled, Tried};
+ghost use Rattle.pieces.specs.Pieces.{countAt, hasSum, Tabled, Tried};
+
+// Whether the counts of a block are to be tried from the most down. A lost bit is another than the next received bit: where
+// that is 1, the rows that lose many bits early come first in dictionary order. With checks a row that is held leaves out
+// those near it, and in rising order one is held sooner.
+pub fn down_pays(checks: usize, rest: &[u8]) -> bool {
+    if 0 < checks {
+        return false;
+    }
+    if rest.len() == 0 {
+        return false;
+    }
+    rest[0] == 1
+}
+
+// The count that is tried in a turn: they go from the first to the most, up or down.
+pub fn count_at(first: usize, most: usize, down: bool, turn: usize) -> usize
+    requires { ⌜ (first ≤ turn) × (turn ≤ most) ⌝ }
+    ensures { λ r. ⌜ r ≡ countAt first most down turn ⌝ }
+{
+    if down {
+        return most - (turn - first);
+    }
+    turn
+}
 
 // Whether at least nb bits remain and the next nb have the sum s.
 fn has_sum(nb: usize, s: usize, rest: &[u8], totals: &[u32], counts: &[u16], p: usize) -> bool

@@ -21,8 +21,8 @@ use Rattle.windows.specs.Windows.{Tables}
 use Rattle.windows.proofs.Windows.{tables-later}
 use Rattle.found.specs.Found.{Given, Sent, Holding, Grown}
 use Rattle.found.proofs.Found.{grown-holding, grown-nothing, grown-weaken, grown-turn}
-use Rattle.pieces.specs.Pieces.{Tabled, Tried}
-use Rattle.search.specs.Patterns.{Under, lostIn, countAt, Begun}
+use Rattle.pieces.specs.Pieces.{countAt, Tabled, Tried}
+use Rattle.search.specs.Patterns.{Under, lostIn, Begun}
 use Rattle.search.proofs.Losses.{lost-next, lost-most, lost-last, tried-can, tried-light}
 use Rattle.anchor.proofs.Totals.{total-next}
 

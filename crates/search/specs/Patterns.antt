@@ -2,7 +2,6 @@
 -- the rows under the first counts of one; and which blocks of a pattern are left to the loss tables.
 use Prim.Native.Nat.{ℕ, _+_, _-_, _*_, _<_, _≤_}
 use mathlib.Core.Path.{_≡_}
-use mathlib.Core.Bool.{Bool, cond}
 use mathlib.Core.List.{List}
 use lib.ListN.{length, getD, take, drop, set}
 use Rattle.message.specs.Layout.{rowBits, blockBits}
@@ -42,11 +41,6 @@ pub record Joined (heavy : Heavy) (left : List ℕ) (i a e : ℕ) (after : Heavy
   pub blocks : after .block ≡ set (heavy .block) (heavy .n) i
   pub ends : after .end ≡ set (heavy .end) (heavy .n) e
   pub lefts : leftAfter ≡ set left (heavy .n) a
-
--- the count that is tried in a turn, where the turns go from the first count to the most: the counts go up with them, or
--- down from the most
-abbrev pub countAt : (first most : ℕ) → Bool → (turn : ℕ) → ℕ
-countAt first most down turn = cond down (most - (turn - first)) turn
 
 -- where a search stands once the first i blocks have their counts: these lost the total, which is no more than all
 -- losses, and the rest of the received row starts at block i

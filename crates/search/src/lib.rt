@@ -18,7 +18,7 @@ ghost use Rattle.windows.specs.Windows.{Tables};
 ghost use Rattle.found.specs.Found.{Given, Holding, Grown, Listed};
 ghost use Rattle.anchor.specs.Anchor.{Anchored};
 ghost use Rattle.pieces.specs.Pieces.{Tabled};
-ghost use Rattle.search.specs.Patterns.{Under, HeavyIn, Joined, countAt, Begun};
+ghost use Rattle.search.specs.Patterns.{Under, HeavyIn, Joined, Begun};
 
 // One count for each block, and their sum.
 pub struct Pattern {
@@ -198,30 +198,6 @@ fn one_pattern(
     )
 }
 
-// Whether the counts of a block are to be tried from the most down. A lost bit is another than the next received bit: where
-// that is 1, the rows that lose many bits early come first in dictionary order. With checks a row that is held leaves out
-// those near it, and in rising order one is held sooner.
-fn down_pays(checks: usize, rest: &[u8]) -> bool {
-    if 0 < checks {
-        return false;
-    }
-    if rest.len() == 0 {
-        return false;
-    }
-    rest[0] == 1
-}
-
-// The count that is tried in a turn: they go from the first to the most, up or down.
-fn count_at(first: usize, most: usize, down: bool, turn: usize) -> usize
-    requires { ⌜ (first ≤ turn) × (turn ≤ most) ⌝ }
-    ensures { λ r. ⌜ r ≡ countAt first most down turn ⌝ }
-{
-    if down {
-        return most - (turn - first);
-    }
-    turn
-}
-
 // The rows under the first counts of a pattern: each count that block i can lose is tried in turn, and the later blocks
 // share out what is left; the last block takes all of it. The part of the received row that starts at block i is handed
 // on, with its tables; those of the whole received row serve the loss tables. Where no row but the anchor can be under the
@@ -286,10 +262,10 @@ fn patterns(
     if later == 1 {
         first = most;
     }
-    let down = down_pays(l.r, rest);
+    let down = pieces::down_pays(l.r, rest);
     let mut k = kept;
     for turn in first..=most {
-        let a = count_at(first, most, down, turn);
+        let a = pieces::count_at(first, most, down, turn);
         if pieces::try_block(l, numbers, i, a, rest, totals, counts, p, row) {
             let mut next = pattern;
             next.counts[i] = a as u8;

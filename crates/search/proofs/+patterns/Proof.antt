@@ -38,8 +38,8 @@ use Rattle.anchor.proofs.near_anchor.Reads as near-anchor-reads
 use Rattle.anchor.proofs.set_anchor.Reads as set-anchor-reads
 use Rattle.floor.proofs.above.Reads as above-reads
 use Rattle.pieces.proofs.try_block.Reads as try-block-reads
-use Rattle.search.proofs.count_at.Reads as count-at-reads
-use Rattle.search.proofs.down_pays.Reads as down-pays-reads
+use Rattle.pieces.proofs.count_at.Reads as count-at-reads
+use Rattle.pieces.proofs.down_pays.Reads as down-pays-reads
 use Rattle.search.proofs.one_pattern.Reads as one-pattern-reads
 use Rattle.search.proofs.+patterns.{statement}
 use Rattle.search.proofs.+patterns.Tie.{close}

@@ -1,8 +1,8 @@
--- `search::count_at` answers `countAt`, by the two ways of the test. Assumes nothing.
+-- `pieces::count_at` answers `countAt`, by the two ways of the test. Assumes nothing.
 use borrow.Author.Needs.{needs}
 use mathlib.Core.Path.{refl}
-use Rattle.search.proofs.count_at.Statement.{statement}
-use Rattle.search.proofs.count_at.Tie as tie
+use Rattle.pieces.proofs.count_at.Statement.{statement}
+use Rattle.pieces.proofs.count_at.Tie as tie
 
 sub-result : tie.Need-sub-result
 sub-result c = search needs
