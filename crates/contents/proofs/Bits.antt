@@ -85,3 +85,35 @@ pub after-lost : (b left v a : ℕ) (y : List ℕ) (p w : ℕ) → (p < length y
 after-lost b left v a y p w n h =
     let e = is-lost b p (digits left w) y n in
     (omega (arith, h .1), (h .0, omega (arith, h .1)))
+
+-- ---- where no loss is left
+-- the next bit must be the next received one
+pub follow-none : (left v : ℕ) (y : List ℕ) (p w : ℕ) → 0 < left
+    → ((b : ℕ) → b < 2 → p < length y → getD y p 0 ≡ b → ⊥) → Ends left v 0 (drop p y) w → ⊥
+follow-none left v y p w h none e =
+    ⊎-elim
+    (λ z. omega (arith, after-lost 0 (left - 1) (2 * v) 0 y p w (none 0 (omega arith)) z .0))
+    (λ z. omega (arith, after-lost 1 (left - 1) (2 * v + 1) 0 y p w (none 1 (omega arith)) z .0))
+    (ends-more left v 0 (drop p y) w h e)
+
+pub follow-next : (left v b : ℕ) (y : List ℕ) (p w : ℕ) → 0 < left → b < 2 → p < length y → getD y p 0 ≡ b
+    → Ends left v 0 (drop p y) w → Ends (left - 1) (2 * v + b) 0 (drop (p + 1) y) w
+follow-next left v b y p w h low i is e = ⊎-elim zero-next one-next (ends-more left v 0 (drop p y) w h e)
+  where
+    zero-next : EndsAfter 0 (left - 1) (2 * v) 0 (drop p y) w → Ends (left - 1) (2 * v + b) 0 (drop (p + 1) y) w
+    zero-next z =
+        ⊎-elim
+        (λ k. let q : b ≡ 0 = omega arith in
+        let s : 2 * v + b ≡ 2 * v = omega arith in
+        rw s (after-taken 0 (left - 1) (2 * v) 0 y p w i (is ∙ q) z))
+        (λ k. absurd (omega (arith, after-lost 0 (left - 1) (2 * v) 0 y p w (λ u d. omega (arith, d, is)) z .0)))
+        (lt-or-ge b 1)
+
+    one-next : EndsAfter 1 (left - 1) (2 * v + 1) 0 (drop p y) w → Ends (left - 1) (2 * v + b) 0 (drop (p + 1) y) w
+    one-next z =
+        ⊎-elim
+        (λ k. absurd (omega (arith, after-lost 1 (left - 1) (2 * v + 1) 0 y p w (λ u d. omega (arith, d, is)) z .0)))
+        (λ k. let q : b ≡ 1 = omega arith in
+        let s : 2 * v + b ≡ 2 * v + 1 = omega arith in
+        rw s (after-taken 1 (left - 1) (2 * v + 1) 0 y p w i (is ∙ q) z))
+        (lt-or-ge b 1)

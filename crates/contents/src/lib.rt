@@ -11,6 +11,29 @@ ghost use Rattle.lines.specs.Lines.{line, Inside};
 ghost use Rattle.contents.specs.Asks.{Allows, Small};
 ghost use Rattle.contents.specs.Contents.{Among, Ends, EndsAfter, Room, Gathered};
 
+// Puts at entry n the content whose bits before the last `left` are those of v, and whose last ones lose no bit against y from place p
+// on: they are the next ones of y, if there are so many. The answer is where the entries end.
+fn follow(left: usize, v: u8, y: &[u8], p: usize, out: &mut [u8], n: usize) -> usize
+    requires { ⌜ Room left v n (length (now out)) × (p ≤ length (now y)) ⌝ }
+    ensures { λ r. ⌜ Gathered (Ends left v 0 (drop p (now (y .entry)))) (2 ^ left) n (now (out .entry)) r (now (out .exit)) ⌝ }
+{
+    let mut whole = v;
+    let mut i: usize = 0;
+    while i < left {
+        if y.len() <= p + i {
+            return n;
+        }
+        let b = y[p + i];
+        if 1 < b {
+            return n;
+        }
+        whole = 2 * whole + b;
+        i += 1;
+    }
+    out[n] = whole;
+    n + 1
+}
+
 // Lists from entry n on the contents whose bits before the last `left` are those of v, and whose last ones lose just a bits against
 // y from place p on. The answer is where the entries end.
 fn gather(left: usize, v: u8, y: &[u8], p: usize, a: usize, out: &mut [u8], n: usize) -> usize
@@ -20,13 +43,12 @@ fn gather(left: usize, v: u8, y: &[u8], p: usize, a: usize, out: &mut [u8], n: u
     if left < a {
         return n;
     }
-    if left == 0 {
-        out[n] = v;
-        return n + 1;
+    if 0 < a {
+        let rest = left - 1;
+        let next = gather_bit(rest, 2 * v, 0, y, p, a, out, n);
+        return gather_bit(rest, 2 * v + 1, 1, y, p, a, out, next);
     }
-    let rest = left - 1;
-    let next = gather_bit(rest, 2 * v, 0, y, p, a, out, n);
-    gather_bit(rest, 2 * v + 1, 1, y, p, a, out, next)
+    follow(left, v, y, p, out, n)
 }
 
 // The same where the last bit of v, which is b, is not matched yet: it takes the next received bit if that is b too, and is lost

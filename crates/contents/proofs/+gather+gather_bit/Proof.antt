@@ -6,10 +6,9 @@ use mathlib.Core.Path.{_≡_}
 use mathlib.Core.Logic.{⊎-elim}
 use native.Mathlib.Omega.{arith}
 use lib.ListN.{length, getD, drop}
-use lib.Pow.{pow-pos}
 use Rattle.contents.specs.Contents.{Room}
-use Rattle.contents.proofs.Bits.{half, more-byte, is-byte, ends-here, ends-few, ends-more, after-taken, after-lost}
-use Rattle.contents.proofs.Gathered.{gathered-none, gathered-one, gathered-then, gathered-weaken}
+use Rattle.contents.proofs.Bits.{half, more-byte, is-byte, ends-few, ends-more, after-taken, after-lost}
+use Rattle.contents.proofs.Gathered.{gathered-none, gathered-then, gathered-weaken}
 use borrow.Fn.Kinds.{In}
 use borrow.Fn.PlainCycle.{Measures, is, falls, and}
 use Rattle.contents.proofs.gather.Reads as gather
@@ -18,6 +17,7 @@ use Rattle.contents.proofs.+gather+gather_bit.Lts-gather as gather-lts
 use Rattle.contents.proofs.gather_bit.Reads as gather-bit
 use Rattle.contents.proofs.gather_bit.Kinds as gather-bit-kinds
 use Rattle.contents.proofs.+gather+gather_bit.Lts-gather_bit as gather-bit-lts
+use Rattle.contents.proofs.follow.Reads as follow-reads
 use Rattle.contents.proofs.+gather+gather_bit.{statement}
 use Rattle.contents.proofs.+gather+gather_bit.Tie.{close}
 
@@ -43,7 +43,7 @@ gather-bit-below t =
 
 -- what the two functions know of each other
 abbrev gather-claims : ℕ → gather-lts.Claims
-gather-claims t = (gather-bit-below t, gather-bit.Post)
+gather-claims t = (gather-bit-below t, gather-bit.Post, follow-reads.Asked, follow-reads.Learnt)
 
 abbrev gather-bit-claims : ℕ → gather-bit-lts.Claims
 gather-bit-claims t = (gather-below t, gather.Post)
@@ -60,29 +60,6 @@ gather-returns t c =
     let a = c .before .before .before .args in
     gathered-none (2 ^ a .left) (a .n) _
     (λ w e. ends-few (a .left) (a .v) (a .a) (drop (a .p) (a .y .now)) w (c .if1 .taken) e)
-
-gather-slice-write-out : (t : ℕ) → gather-lts.Need-slice-write-out (gather-claims t) (gather-at t) gather.Post
-gather-slice-write-out t c =
-    let s = c .before .before .before .before in
-    let a = s .args in
-    omega (arith, s .pre .1 .0 .entries, pow-pos (a .left))
-
-gather-add-result : (t : ℕ) → gather-lts.Need-add-result (gather-claims t) (gather-at t) gather.Post
-gather-add-result t c =
-    let s = c .before .before .before .before in
-    let a = s .args in
-    omega (arith, s .pre .1 .0 .entries, pow-pos (a .left))
-
-gather-same-length : (t : ℕ) → gather-lts.Need-same-length (gather-claims t) (gather-at t) gather.Post
-gather-same-length t c = search needs
-
-gather-returns-2 : (t : ℕ) → gather-lts.Need-returns-2 (gather-claims t) (gather-at t) gather.Post
-gather-returns-2 t c =
-    let s = c .before .before .before .before in
-    let a = s .args in
-    gathered-one (2 ^ a .left) (a .n) (a .v) (a .out .now) (pow-pos (a .left))
-    (omega (arith, s .pre .1 .0 .entries, pow-pos (a .left)))
-    (λ w e. ends-here (a .left) (a .v) (a .a) (drop (a .p) (a .y .now)) w (c .if2 .taken) e)
 
 gather-sub-rest : (t : ℕ) → gather-lts.Need-sub-rest (gather-claims t) (gather-at t) gather.Post
 gather-sub-rest t c = search needs
@@ -125,11 +102,11 @@ gather-gather-bit-requires-2 t c κs =
     let few = c .before .before .before .gather-bit .ensures .few in
     (omega (arith, s .pre .0), (record { byte = m .1 .0; entries = omega (arith, m .1 .1) }, s .pre .1 .1))
 
-gather-same-length-2 : (t : ℕ) → gather-lts.Need-same-length-2 (gather-claims t) (gather-at t) gather.Post
-gather-same-length-2 t c = search needs
+gather-same-length : (t : ℕ) → gather-lts.Need-same-length (gather-claims t) (gather-at t) gather.Post
+gather-same-length t c = search needs
 
-gather-returns-3 : (t : ℕ) → gather-lts.Need-returns-3 (gather-claims t) (gather-at t) gather.Post
-gather-returns-3 t c =
+gather-returns-2 : (t : ℕ) → gather-lts.Need-returns-2 (gather-claims t) (gather-at t) gather.Post
+gather-returns-2 t c =
     let o = c .before .before in
     let f = o .before .before .before .before in
     let s = gather-start t (f .before) in
@@ -138,6 +115,20 @@ gather-returns-3 t c =
     gathered-then (2 ^ a .left) (2 ^ (a .left - 1)) (a .n) _ _ (a .out .now) _ _ (omega (arith, half (a .left) some))
     (f .gather-bit .ensures) (o .gather-bit2 .ensures)
     (λ w e. ends-more (a .left) (a .v) (a .a) (drop (a .p) (a .y .now)) w some e)
+
+gather-follow-requires : (t : ℕ) → gather-lts.Need-follow-requires (gather-claims t) (gather-at t) gather.Post
+gather-follow-requires t c κs = search needs
+
+gather-same-length-2 : (t : ℕ) → gather-lts.Need-same-length-2 (gather-claims t) (gather-at t) gather.Post
+gather-same-length-2 t c = search needs
+
+-- where no loss is left there is one content at most
+gather-returns-3 : (t : ℕ) → gather-lts.Need-returns-3 (gather-claims t) (gather-at t) gather.Post
+gather-returns-3 t c =
+    let f = c .before .before in
+    let o = f .before .before in
+    let none : o .before .before .before .before .args .a ≡ 0 = omega (arith, o .if2 .left) in
+    rw none (f .follow .ensures)
 
 -- the bit is not the next one received
 unmatched : (t : ℕ) (c : gather-bit-lts.Joined1 (gather-bit-claims t) (gather-bit-at t) gather-bit.Post) →
@@ -197,16 +188,15 @@ pub +gather+gather-bit-spec : {M : Type 1} → statement M
     (gather-at t)
     gather.Post
     (gather-returns t)
-    (gather-slice-write-out t)
-    (gather-add-result t)
-    (gather-same-length t)
-    (gather-returns-2 t)
     (gather-sub-rest t)
     (gather-mul-gather-bit t)
     (gather-gather-bit-requires t)
     (gather-mul-gather-bit-2 t)
     (gather-add-gather-bit t)
     (gather-gather-bit-requires-2 t)
+    (gather-same-length t)
+    (gather-returns-2 t)
+    (gather-follow-requires t)
     (gather-same-length-2 t)
     (gather-returns-3 t))
     λ t. gather-bit-lts.spec (gather-bit-claims t)
