@@ -1,7 +1,6 @@
 -- In how many chunks of a column a row can differ from another one, and how these add up along its columns. Assumes nothing.
 use Prim.Native.Nat.{ℕ, zero, suc, _+_, _*_, _<_, _≤_}
 use mathlib.Core.Path.{_≡_, refl, sym, ap, _∙_}
-use mathlib.Core.Bool.{Bool, true, false, cond}
 use mathlib.Core.Logic.{_⊎_, inl, inr, ⊎-elim}
 use mathlib.Core.List.{List}
 use native.Mathlib.Decide.{decLt}
@@ -15,12 +14,8 @@ use Rattle.states.specs.States.{firsts}
 use Rattle.states.proofs.Sums.{firsts-same}
 use Rattle.column.specs.Column.{chunkAt, Crosses, apartIn}
 use Rattle.column.specs.declared.Heavy.{Heavy}
+use Rattle.far.proofs.Unlost.{one-most}
 use Rattle.costs.proofs.Costs.{kept-or-fewer}
-
--- one at most
-one-most : (b : Bool) → cond b 0 1 ≤ 1
-one-most true = omega arith
-one-most false = omega arith
 
 module _ (l : Layout) (heavy : Heavy) (z vs : List ℕ) (j : ℕ) where
   -- there are no more than the heavy blocks

@@ -3,7 +3,7 @@
 -- Assumes nothing.
 use Prim.Native.Nat.{ℕ, zero, suc, _+_, _-_, _*_, _<_, _≤_}
 use mathlib.Core.Path.{_≡_, refl, sym, ap, _∙_}
-use mathlib.Core.Bool.{Bool, true, false, cond}
+use mathlib.Core.Bool.{true, false}
 use mathlib.Core.List.{List}
 use native.Mathlib.Nat.{mul-le-mul-right}
 use native.Mathlib.Numerals.{add-one}
@@ -18,15 +18,10 @@ use Rattle.states.proofs.Sums.{firsts-same}
 use Rattle.column.specs.Column.{chunkAt, Crosses, apartIn}
 use Rattle.column.specs.declared.Heavy.{Heavy}
 use Rattle.far.specs.Far.{Walk, stepAt, blockAt}
-use Rattle.far.proofs.Unlost.{reads-there, reads-same}
+use Rattle.far.proofs.Unlost.{one-most, reads-there, reads-same}
 use Rattle.marks.specs.Marks.{Path, apartBefore, apartFrom, Kept}
 use Rattle.marks.proofs.Paths.{own-within}
 use Rattle.near.specs.Near.{CountedIn, Counted, mostIn, SaysIn, most, mostAfter}
-
--- one at most
-one-most : (b : Bool) → cond b 0 1 ≤ 1
-one-most true = omega arith
-one-most false = omega arith
 
 module _ (l : Layout) (heavy : Heavy) (z vs : List ℕ) where
   -- in how many of the first columns the chunk of block s is another than in z

@@ -56,7 +56,8 @@ Weighs nc m first = (nc ≤ 8) × (((1 ≤ m) × (m ≤ 63)) × ((1 ≤ first) �
 -- the number v completes a chunk's column: its others can bring so much that the column has its sum with it
 abbrev pub Completes : (nc : ℕ) (beside : Beside) (v : ℕ) → Type 0
 Completes nc beside v =
-    (a : ℕ) × (Has (beside .modulus) (beside .others) a × ((a + total (beside .first) (digits nc v)) % beside .modulus ≡ beside .want))
+    (a : ℕ) × (Has (beside .modulus) (beside .others) a
+    × ((a + total (beside .first) (digits nc v)) % beside .modulus ≡ beside .want))
 
 -- the contents that the first n chunks can be are listed one behind the other, those of chunk s from its entry on
 pub record Listing (nc : ℕ) (y : List ℕ) (chunks : Chunks) (list from : List ℕ) (n : ℕ) : Type 0 where

@@ -1,7 +1,6 @@
 -- `far::read_apart` meets its contract. Assumes nothing.
 use Prim.Native.Nat.{ℕ, _+_, _-_, _*_, _<_, _≤_}
 use mathlib.Core.Path.{_≡_, sym, ap, _∙_}
-use mathlib.Core.Bool.{Bool, true, false, cond}
 use native.Mathlib.Omega.{arith}
 use borrow.Author.Needs.{needs}
 use borrow.Author.Tests.{eq-eqb}
@@ -11,13 +10,9 @@ use Rattle.bits.specs.Bits.{number}
 use Rattle.message.proofs.Legal.{legal-bounds}
 use Rattle.column.specs.Column.{chunkAt}
 use Rattle.column.proofs.Rows.{chunk-stands}
+use Rattle.far.proofs.Unlost.{one-most}
 use Rattle.far.proofs.read_apart.Statement.{statement}
 use Rattle.far.proofs.read_apart.Tie as tie
-
--- one at most
-one-most : (b : Bool) → cond b 0 1 ≤ 1
-one-most true = omega arith
-one-most false = omega arith
 
 -- where the function starts, seen from where the chunk's block is known
 abbrev begin : tie.After-struct-known → tie.Start
