@@ -10,12 +10,14 @@ use lib.Dec.{eqb, leb, ltb}
 use lib.ListN.{length, getD, take, drop}
 use Rattle.bits.specs.Bits.{number}
 use Rattle.rows.specs.Held.{Held, Known}
+use Rattle.rows.specs.declared.Kept.{Kept}
 use Rattle.message.specs.Layout.{rowBits, blockBits}
 use Rattle.message.specs.declared.Layout.{Layout}
 use Rattle.consistent.specs.Consistent.{mostLosses}
 use Rattle.consistent.specs.Greedy.{losses, inAll}
 use Rattle.lines.specs.Lines.{values, unlike}
-use Rattle.found.specs.Found.{Sent}
+use Rattle.consistent.specs.Query.{Query, query}
+use Rattle.found.specs.Given.{Sent, heldSent}
 
 -- the sum of f over n places from place c on
 unfoldable pub over : (f : ℕ → ℕ) (c n : ℕ) → ℕ
@@ -74,15 +76,19 @@ abbrev pub isSet : List ℕ → Bool
 isSet desk = leb deskSize (length desk) && eqb (getD desk 0 0) 1
 
 -- the anchor is a consistent row that is known, and the desk is prepared for it
-pub record Anchor (l : Layout) (numbers y : List ℕ) (held : Held) (desk : List ℕ) : Type 0 where
+pub record Anchor (q : Query) (held : Held) (desk : List ℕ) : Type 0 where
   pub row : List ℕ
-  pub sent : Sent l numbers y row
+  pub sent : Sent q row
   pub known : Known held row
-  pub prepared : Prepared l y (values l row) desk
+  pub prepared : Prepared (q .layout) (q .received) (values (q .layout) row) desk
 
--- what holds of the desk at any time
+-- what holds of the desk at any time: if it has an anchor, that is known by the rows in the list slice
+abbrev pub Anchors : Query → (list : List ℕ) → Kept → (desk : List ℕ) → Type 0
+Anchors q list kept desk = isSet desk ≡ true → Anchor q (heldSent q list kept) desk
+
+-- the same over the layout, the numbers and the received bits one by one
 abbrev pub Anchored : (l : Layout) (numbers y : List ℕ) (held : Held) (desk : List ℕ) → Type 0
-Anchored l numbers y held desk = isSet desk ≡ true → Anchor l numbers y held desk
+Anchored l numbers y held desk = isSet desk ≡ true → Anchor (query l numbers y) held desk
 
 -- ---- a row x under the first i counts of a loss pattern
 -- they are its own losses, block by block
@@ -96,9 +102,11 @@ LightInHand l counts i row x =
 
 -- a consistent row that loses d bits before block b and a in it, and has the block in hand if a is at most 1, differs
 -- from the anchor in at most m chunks of the block
-abbrev pub BlockMost : Layout → (numbers y desk row : List ℕ) (b d a m : ℕ) → Type 0
-BlockMost l numbers y desk row b d a m =
-    (vs x : List ℕ) → Prepared l y vs desk → Sent l numbers y x → lostBefore l y x (b * l .l2) ≡ d
+abbrev pub BlockMost : Query → (desk row : List ℕ) (b d a m : ℕ) → Type 0
+BlockMost q desk row b d a m =
+    let l = q .layout in
+    let y = q .received in
+    (vs x : List ℕ) → Prepared l y vs desk → Sent q x → lostBefore l y x (b * l .l2) ≡ d
     → lostBefore l y x (b * l .l2 + l .l2) ≡ d + a
     → (a ≤ 1 → (j : ℕ) → j < l .l2 → getD (values l x) (b * l .l2 + j) 0 ≡ getD row (b * l .l2 + j) 0)
     → over (unlike (values l x) vs) (b * l .l2) (l .l2) ≤ m

@@ -10,13 +10,13 @@ ghost use Prim.Native.Nat.{ℕ, _+_, _-_, _*_, _<_, _≤_};
 ghost use lib.ListN.{length, getD, take, drop};
 ghost use Rattle.bits.specs.Bits.{AllBits, bytesFor, unpack as unpacked};
 ghost use Rattle.rows.specs.Held.{Held, Known};
-ghost use Rattle.rows.specs.Slice.{rowsIn};
 ghost use Rattle.message.specs.Layout.{legal, rowBits};
 ghost use Rattle.consistent.specs.Consistent.{mostLosses};
 ghost use Rattle.consistent.specs.Greedy.{inAll};
 ghost use Rattle.lines.specs.Lines.{values, unlike};
-ghost use Rattle.found.specs.Found.{Given, Sent, Holding};
-ghost use Rattle.anchor.specs.Anchor.{over, Reads, deskSize, wide, NearFor, LaterFor, Prepared, isSet, Anchored};
+ghost use Rattle.consistent.specs.Query.{query};
+ghost use Rattle.found.specs.Given.{Given, Sent, Holds};
+ghost use Rattle.anchor.specs.Anchor.{over, Reads, deskSize, wide, NearFor, LaterFor, Prepared, isSet, Anchor, Anchors};
 ghost use Rattle.anchor.specs.Anchor.{OwnCounts, LightInHand, BlockMost};
 
 // Bytes of the desk.
@@ -170,10 +170,9 @@ pub fn set_anchor(
     kept: Kept,
     desk: &mut [u8],
 )
-    requires { ⌜ Given l (now numbers) (now y) × (Holding l (now numbers) (now y) cap (now list) (kept .count) (kept .more)
-        × Anchored l (now numbers) (now y) (rowsIn (rowBits l) (now list) (kept .count) (kept .more)) (now desk)) ⌝ }
-    ensures { λ _. ⌜ Anchored l (now (numbers .entry)) (now (y .entry))
-        (rowsIn (rowBits l) (now (list .entry)) (kept .count) (kept .more)) (now (desk .exit)) ⌝ }
+    requires { ⌜ Given (query l (now numbers) (now y)) × (Holds (query l (now numbers) (now y)) cap (now list) kept
+        × Anchors (query l (now numbers) (now y)) (now list) kept (now desk)) ⌝ }
+    ensures { λ _. ⌜ Anchors (query l (now (numbers .entry)) (now (y .entry))) (now (list .entry)) kept (now (desk .exit)) ⌝ }
 {
     if desk.len() < DESK || kept.count == 0 {
         return;
@@ -213,9 +212,10 @@ fn block_most(
     d: usize,
     a: usize,
 ) -> usize
-    requires { ⌜ (Given l (now numbers) (now y) × (deskSize ≤ length (now desk))) × ((l .l1 * l .l2 ≤ length (now row))
+    requires { ⌜ (Given (query l (now numbers) (now y)) × (deskSize ≤ length (now desk))) × ((l .l1 * l .l2 ≤ length (now row))
         × ((b < l .l1) × ((d ≤ mostLosses) × (a ≤ 255)))) ⌝ }
-    ensures { λ r. ⌜ BlockMost l (now (numbers .entry)) (now (y .entry)) (now (desk .entry)) (now (row .entry)) b d a r × (r ≤ 510) ⌝ }
+    ensures { λ r. ⌜ BlockMost (query l (now (numbers .entry)) (now (y .entry))) (now (desk .entry)) (now (row .entry)) b d a r
+        × (r ≤ 510) ⌝ }
 {
     let from = b * l.l2;
     if a <= 1 {
@@ -235,11 +235,11 @@ pub fn near_anchor(
     row: &[u8],
     i: usize,
 ) -> bool
-    requires { ⌜ Given l (now numbers) (now y) × (((l .l1 * l .l2 ≤ length (now row)) × (l .l1 ≤ length (now counts)))
+    requires { ⌜ Given (query l (now numbers) (now y)) × (((l .l1 * l .l2 ≤ length (now row)) × (l .l1 ≤ length (now counts)))
         × ((i ≤ l .l1) × (inAll (take i (now counts)) + length (now y) ≤ rowBits l))) ⌝ }
     ensures { λ r. ⌜ (r ≡ true → (held : Held) (x : List ℕ)
-        → Anchored l (now (numbers .entry)) (now (y .entry)) held (now (desk .entry))
-        → Sent l (now (numbers .entry)) (now (y .entry)) x → OwnCounts l (now (y .entry)) (now (counts .entry)) i x
+        → (isSet (now (desk .entry)) ≡ true → Anchor (query l (now (numbers .entry)) (now (y .entry))) held (now (desk .entry)))
+        → Sent (query l (now (numbers .entry)) (now (y .entry))) x → OwnCounts l (now (y .entry)) (now (counts .entry)) i x
         → LightInHand l (now (counts .entry)) i (now (row .entry)) x → Known held x) ⌝ }
 {
     if !is_set(desk) {

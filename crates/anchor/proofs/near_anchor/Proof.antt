@@ -12,6 +12,7 @@ use Rattle.bits.proofs.Laws.{both-left}
 use Rattle.message.specs.Layout.{rowBits}
 use Rattle.message.proofs.Legal.{Bounds, Sizes, legal-bounds, sizes}
 use Rattle.consistent.specs.Greedy.{inAll}
+use Rattle.consistent.specs.Query.{query}
 use Rattle.anchor.specs.Anchor.{deskSize, laterAt, isSet}
 use Rattle.anchor.proofs.Anchor.{Counted, counted-none, counted-next, counted-known}
 use Rattle.anchor.proofs.Totals.{total-none, total-next, total-grows}
@@ -20,7 +21,7 @@ use Rattle.anchor.proofs.near_anchor.Tie as tie
 
 abbrev Inv-loop : tie.InvT-loop
 Inv-loop l numbers y desk counts row i least most₀ d₀ b₀ most d b =
-    ((b ≤ i) × (d ≡ inAll (take b counts))) × ((most < least) × Counted l numbers y desk counts row i b most)
+    ((b ≤ i) × (d ≡ inAll (take b counts))) × ((most < least) × Counted (query l numbers y) desk counts row i b most)
 
 abbrev μ-loop : tie.MeasureT-loop
 μ-loop l numbers y desk counts row i least most₀ d₀ b₀ most d b = i - b

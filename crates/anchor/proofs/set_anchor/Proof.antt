@@ -43,7 +43,7 @@ prepare-requires c κs =
     let k = c .before .before .before in
     let s = start k in
     let g = s .pre .0 in
-    let row = first-room (s .args .kept .count) (some k) (s .pre .1 .0) in
+    let row = first-room _ (s .args .kept) (some k) (s .pre .1 .0) in
     (g .is-legal, (g .bits, ((g .short, g .few), (row, omega (arith, long k, length-set (s .args .desk .now) 0 1)))))
 
 same-length : tie.Need-same-length
@@ -58,7 +58,7 @@ returns-3 c =
     let q = c .before .before in
     let k = q .before .before .before .before in
     let s = start k in
-    let f = first-held (s .args .kept .count) (some k) (s .pre .1 .0) in
+    let f = first-held _ (s .args .kept) (some k) (s .pre .1 .0) in
     λ e. record {
       row = firstRow (s .args .l) (s .args .list .now);
       sent = f .0;

@@ -4,7 +4,7 @@ use Prim.Native.Nat.{_-_}
 use native.Mathlib.Omega.{arith}
 use lib.ListN.{take, replicate}
 use Rattle.message.specs.Layout.{rowBits}
-use Rattle.found.proofs.Found.{grown-nothing}
+use Rattle.found.proofs.Steps.{grown-nothing}
 use Rattle.hint.specs.Tries.{Hand}
 use Rattle.hint.proofs.Strings.{hand-zeros}
 use Rattle.hint.proofs.Places.{high, received-short}
