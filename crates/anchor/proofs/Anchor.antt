@@ -67,10 +67,10 @@ module _ {q : Query} (given : Given q) where
   unfolding checks values
   check-at x i h = each-number (λ (i : ℕ). check (l .nc) i (values l x)) (l .r) i h
 
-  -- two consistent rows that differ in at most r chunks are one
-  pub only-one : (x z : List ℕ) → Sent q x → Sent q z
+  -- where there are checks, two consistent rows that differ in at most r chunks are one
+  only-one : 0 < l .r → (x z : List ℕ) → Sent q x → Sent q z
       → over (unlike (values l x) (values l z)) 0 (l .l1 * l .l2) ≤ l .r → x ≡ z
-  only-one x z sx sz few =
+  only-one some x z sx sz few =
       let b = bounds in
       let lx = length-values l x in
       let n : length (values l x) ≡ length (values l z) = lx ∙ sym (length-values l z) in
@@ -218,7 +218,7 @@ module _ {q : Query} (given : Given q) where
         later-bound x s (values l z) desk (a .prepared) i (inAll (take i counts)) h (own-at x o i (omega arith)) in
         let split = over-front f (i * l .l2) ((l .l1 - i) * l .l2) in
         let all : over f 0 (l .l1 * l .l2) ≤ l .r = rw (← blocks-split (l .l1) (l .l2) i h) (omega arith) in
-        subst (Known held) (sym (only-one x z s (a .sent) all)) (a .known)
+        subst (Known held) (sym (only-one (a .some-checks) x z s (a .sent) all)) (a .known)
 
 -- a block in hand is compared with the anchor's chunks on the desk
 pub light-bound : (l : Layout) (y vs desk part us row : List ℕ) (b : ℕ) → l .l1 * l .l2 ≤ 255 → Prepared l y vs desk
@@ -284,7 +284,7 @@ near-known {q} {held = held} given a z e x sent few =
     let same = over-same (unlike (values l x) z) (unlike (values l x) (values l (a .row))) 0 (l .l1 * l .l2)
     (λ t h. rw (zero-add t) (chunk t h))
     in
-    subst (Known held) (sym (only-one given x (a .row) sent (a .sent) (omega (arith, same)))) (a .known)
+    subst (Known held) (sym (only-one given (a .some-checks) x (a .row) sent (a .sent) (omega (arith, same)))) (a .known)
 
 -- ---- an anchor stays one while the rows held grow
 pub anchored-stays : {q : Query} {cap : ℕ} {P : List ℕ → Type 0} {entry exit : List ℕ} {kept now : Kept} {desk : List ℕ}
@@ -292,6 +292,7 @@ pub anchored-stays : {q : Query} {cap : ℕ} {P : List ℕ → Type 0} {entry ex
 anchored-stays h g a e =
     let k = a e in
     record {
+      some-checks = k .some-checks;
       row = k .row;
       sent = k .sent;
       known =

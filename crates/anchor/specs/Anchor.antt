@@ -75,8 +75,10 @@ pub record Prepared (l : Layout) (y vs desk : List ℕ) : Type 0 where
 abbrev pub isSet : List ℕ → Bool
 isSet desk = leb deskSize (length desk) && eqb (getD desk 0 0) 1
 
--- the anchor is a consistent row that is known, and the desk is prepared for it
+-- the anchor is a consistent row that is known, and the desk is prepared for it. There is one only where the message has
+-- checks: without them two consistent rows may differ in any one chunk
 pub record Anchor (q : Query) (held : Held) (desk : List ℕ) : Type 0 where
+  pub some-checks : 0 < q .layout .r
   pub row : List ℕ
   pub sent : Sent q row
   pub known : Known held row

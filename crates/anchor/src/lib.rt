@@ -160,7 +160,8 @@ fn prepare(l: Layout, y: &[u8], list: &[u8], desk: &mut [u8])
     fill_later(l, k, desk);
 }
 
-// Once a row is held, the first row of the list slice becomes the anchor. A desk that is too short gets none.
+// Once a row is held, the first row of the list slice becomes the anchor. A desk that is too short gets none, and without
+// checks none is set: two consistent rows may then differ in any one chunk.
 pub fn set_anchor(
     l: Layout,
     y: &[u8],
@@ -174,7 +175,7 @@ pub fn set_anchor(
         × Anchors (query l (now numbers) (now y)) (now list) kept (now desk)) ⌝ }
     ensures { λ _. ⌜ Anchors (query l (now (numbers .entry)) (now (y .entry))) (now (list .entry)) kept (now (desk .exit)) ⌝ }
 {
-    if desk.len() < DESK || kept.count == 0 {
+    if l.r == 0 || desk.len() < DESK || kept.count == 0 {
         return;
     }
     if desk[0] == 1 {
@@ -225,7 +226,7 @@ fn block_most(
 }
 
 // Whether every consistent row under the first i counts of a loss pattern is the anchor, which is known: it can differ from the anchor
-// in at most r chunks.
+// in at most r chunks. Without checks there is no anchor.
 pub fn near_anchor(
     l: Layout,
     numbers: &[u16],
@@ -242,7 +243,7 @@ pub fn near_anchor(
         → Sent (query l (now (numbers .entry)) (now (y .entry))) x → OwnCounts l (now (y .entry)) (now (counts .entry)) i x
         → LightInHand l (now (counts .entry)) i (now (row .entry)) x → Known held x) ⌝ }
 {
-    if !is_set(desk) {
+    if l.r == 0 || !is_set(desk) {
         return false;
     }
     // two consistent rows differ in at least so many chunks

@@ -28,7 +28,7 @@ abbrev μ-loop : tie.MeasureT-loop
 
 -- where the function starts, seen from where `is_set` has answered
 abbrev begin : tie.After-is-set Inv-loop μ-loop → tie.Start Inv-loop μ-loop
-begin c = c .before .before .before .before .before .before
+begin c = c .before .before .before .before .before .before .before .before
 
 -- where the function starts, seen from the loop
 abbrev start : tie.At-loop Inv-loop μ-loop → tie.Start Inv-loop μ-loop
@@ -42,7 +42,7 @@ size s = sizes (s .args .l) (bounds s)
 
 -- the desk has an anchor, so it is long enough
 there : (t : tie.At-loop Inv-loop μ-loop) → isSet (start t .args .desk .now) ≡ true
-there t = sym (t .before .before .before .is-set .ensures) ∙ not-false _ (t .before .before .if1 .left)
+there t = sym (t .before .before .before .is-set .ensures) ∙ not-false _ (t .before .before .if2 .left)
 
 long : (t : tie.At-loop Inv-loop μ-loop) → deskSize ≤ length (start t .args .desk .now)
 long t = leb-true _ _ (both-left _ _ (there t))
@@ -137,7 +137,7 @@ loop-again c =
     let most = rw (p .inv .0 .1, k .before .wide .ensures) at (k .block-most .ensures .0) in (
       (omega arith, omega (arith, p .inv .0 .1, k .before .wide .ensures, next)),
       (
-        omega (arith, c .if2 .left),
+        omega (arith, c .if3 .left),
         counted-next (s .pre .0) (a .desk .now) (a .counts .now) (a .row .now) (a .i) (p .b) (p .most) (k .block-most .result)
             (omega arith)
             (omega (arith, size s .l1-high, s .pre .1 .1 .0)) most (p .inv .1 .1),
