@@ -13,7 +13,7 @@ use Rattle.message.specs.Layout.{legal, rowBits, blockBits, stringBits}
 use Rattle.message.specs.declared.Layout.{Layout}
 use Rattle.message.proofs.Fields.{field-room}
 
--- what "legal" says, number by number
+-- what "legal" says, number by number; that a row has fewer chunks than the field has elements is for its checks alone
 pub record Bounds (l : Layout) : Type 0 where
   pub l1-low : 1 ≤ l .l1
   pub l2-low : 1 ≤ l .l2
@@ -23,6 +23,7 @@ pub record Bounds (l : Layout) : Type 0 where
   pub l1-high : l .l1 ≤ mostInLine
   pub l2-high : l .l2 ≤ mostInLine
   pub r-high : l .r ≤ 16
+  pub field : 0 < l .r → l .l1 * l .l2 ≤ 2 ^ l .nc - 1
   pub chunks-high : l .l1 * l .l2 ≤ 2 ^ l .nc - 1
 
 pub legal-bounds : (l : Layout) → legal l ≡ true → Bounds l
@@ -53,6 +54,7 @@ legal-bounds l e =
       chunks = few;
       l1-high = omega (arith, mul-le-mul-left (l .l1) two, mul-one (l .l1));
       l2-high = omega (arith, mul-le-mul-right (l .l2) one, one-mul (l .l2));
+      field = λ h. elements;
       chunks-high = elements;
       r-high =
           leb-true (l .r) 16
