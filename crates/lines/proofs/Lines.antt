@@ -9,7 +9,7 @@ use native.Mathlib.Nat.{zero-add, zero-mul, suc-mul, add-mul, one-mul, mul-one, 
 use native.Mathlib.Omega.{arith}
 use lib.ListN.{length, getD, take, drop, length-append, length-drop}
 use lib.Seq.{take-add, take-all, drop-drop}
-use Rattle.bits.specs.Bits.{AllBits, number, digits}
+use Rattle.bits.specs.Bits.{AllBits, mostChunks, number, digits}
 use Rattle.bits.proofs.Laws.{length-digits, bits-append, bits-digits, bits-drop}
 use Rattle.rows.specs.Order.{Row}
 use Rattle.vt.specs.Sum.{sum}
@@ -68,8 +68,8 @@ line-same nc start stride (suc n) us vs h =
     let e : start + suc t * stride ≡ start + stride + t * stride = omega (arith, suc-mul t stride) in
     rw e at (h (suc t) (omega arith))))
 
--- ---- the lines of a layout: they stand among 255 numbers
-module _ (l : Layout) (e : legal l ≡ true) (size : ℕ) (h : 255 ≤ size) where
+-- ---- the lines of a layout: they stand among as many numbers as a row has chunks
+module _ (l : Layout) (e : legal l ≡ true) (size : ℕ) (h : mostChunks ≤ size) where
   pub block-inside : (i : ℕ) → i < l .l1 → Inside (l .nc) (i * l .l2) 1 (l .l2) size
   block-inside i k =
       let z : Sizes l = sizes l (legal-bounds l e) in

@@ -5,6 +5,7 @@ use mathlib.Core.Path.{_≡_, ap, _∙_}
 use native.Mathlib.Omega.{arith}
 use borrow.Author.Needs.{needs}
 use lib.ListN.{length, getD}
+use Rattle.bits.specs.Bits.{mostChunks}
 use Rattle.message.proofs.Fields.{field-room}
 use Rattle.message.proofs.Legal.{legal-bounds, sizes}
 use Rattle.column.specs.Column.{Cleared}
@@ -13,7 +14,7 @@ use Rattle.column.proofs.cleared.Statement.{statement}
 use Rattle.column.proofs.cleared.Tie as tie
 
 abbrev Inv-loop : tie.InvT-loop
-Inv-loop l heavy n out₀ s₀ out s = ((s ≤ n) × (length out ≡ 255)) × Cleared l heavy s out₀ out
+Inv-loop l heavy n out₀ s₀ out s = ((s ≤ n) × (length out ≡ mostChunks)) × Cleared l heavy s out₀ out
 
 abbrev μ-loop : tie.MeasureT-loop
 μ-loop l heavy n out₀ s₀ out s = n - s
@@ -31,7 +32,7 @@ wide-requires c κs = search needs
 block-is : (c : tie.After-struct-known Inv-loop μ-loop) → let p = c .before .before .before .before in
     let a = p .before .args in
     (c .before .wide .result * a .l .l2 ≡ getD (a .t2 .block) (p .loop .s) 0 * a .l .l2)
-    × (c .before .wide .result * a .l .l2 + a .l .l2 ≤ 255)
+    × (c .before .wide .result * a .l .l2 + a .l .l2 ≤ mostChunks)
 block-is c =
     let p = c .before .before .before .before in
     let s = p .before in

@@ -8,12 +8,12 @@ use borrow.Author.Count.{below-more}
 use borrow.Author.Needs.{needs}
 use lib.ListN.{length, getD, length-set}
 use lib.Seq.{getD-set-same, getD-set-other}
-use Rattle.bits.specs.Bits.{longest}
+use Rattle.bits.specs.Bits.{mostChunks, longestLine}
 use Rattle.vt.specs.Sum.{total}
+use Rattle.message.proofs.Legal.{string-high}
 use Rattle.lines.specs.Lines.{line}
 use Rattle.lines.proofs.Lines.{string-inside}
 use Rattle.column.proofs.Zeros.{cleared-sum}
-use Rattle.column.proofs.Rows.{string-high}
 use Rattle.column.proofs.light_sums.Statement.{statement}
 use Rattle.column.proofs.light_sums.Tie as tie
 
@@ -26,7 +26,7 @@ abbrev μ-loop : tie.MeasureT-loop
 μ-loop l y numbers known₀ l2 modulus table out j₀ known j = l2 - j
 
 -- the modulus is small
-modulus-high : (s : tie.Start Inv-loop μ-loop) → s .args .l .l1 * s .args .l .nc ≤ longest
+modulus-high : (s : tie.Start Inv-loop μ-loop) → s .args .l .l1 * s .args .l .nc ≤ longestLine
 modulus-high s = string-high (s .args .l) (s .pre .0 .allowed)
 
 mul-modulus : tie.Need-mul-modulus Inv-loop μ-loop
@@ -57,7 +57,7 @@ line-total-requires c κs =
     let p = c .before .before .before in
     let s = start p in
     let out = p .before .cleared .result in
-    let n : length out ≡ 255 = search needs in (
+    let n : length out ≡ mostChunks = search needs in (
       p .before .before .weights .ensures,
       string-inside (s .args .l) (s .pre .0 .allowed) (length out) (omega arith) (p .loop .j) (omega arith),
     )
