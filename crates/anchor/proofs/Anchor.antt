@@ -12,7 +12,7 @@ use borrow.Author.Tests.{eq-eqb, eqb-true, leb-true, le-ltb}
 use lib.Dec.{eqb, leb}
 use lib.ListN.{length, getD, take, drop, length-drop, length-map}
 use lib.Seq.{length-take-le, take-all, getD-take, getD-drop}
-use Rattle.bits.specs.Bits.{cut, number, bytesFor, unpack}
+use Rattle.bits.specs.Bits.{mostChunks, cut, number, bytesFor, unpack}
 use Rattle.bits.proofs.Laws.{lt-or-ge, both-left, both-right, number-take}
 use Rattle.field.specs.Field.{check}
 use Rattle.field.proofs.Double.{size-low}
@@ -37,8 +37,8 @@ use Rattle.consistent.specs.Query.{Query}
 use Rattle.found.specs.Given.{Given, Sent, Holds, Adds, heldSent}
 use Rattle.found.proofs.Sent.{sent-parts}
 use Rattle.found.proofs.Steps.{grown-rows}
-use Rattle.anchor.specs.Anchor.{over, lostBefore, Reads, deskSize, nearAt, laterAt, wide, Prepared, Anchor, isSet, Anchors}
-use Rattle.anchor.specs.Anchor.{OwnCounts, LightInHand, BlockMost}
+use Rattle.anchor.specs.Anchor.{over, lostBefore, Reads, deskSize, nearAt, laterAt, wide, Prepared, isSet}
+use Rattle.anchor.specs.Anchor.{Anchor, Anchors, OwnCounts, LightInHand, BlockMost}
 use Rattle.anchor.proofs.Desk.{blocks-split}
 use Rattle.anchor.proofs.Over.{most-one, over-none, over-front, over-same, over-lost, weight-unlike}
 use Rattle.anchor.proofs.Totals.{total-next}
@@ -77,7 +77,7 @@ module _ {q : Query} (given : Given q) where
       let sums = sent-parts given x sx .sums-checks ∙ sym (sent-parts given z sz .sums-checks) in
       let e : values l x ≡ values l z =
       same-row (l .nc) (b .nc-low) (b .nc-high) (l .r) (values l x) (values l z) n
-      (omega (arith, b .chunks-high, size-low (l .nc) (b .nc-low)))
+      (omega (arith, b .field some, size-low (l .nc) (b .nc-low)))
       (value-low l x (sx .0)) (value-low l z (sz .0))
       (omega (arith, weight-unlike (values l x) (values l z) n, ap (over (unlike (values l x) (values l z)) 0) lx))
       (λ i h. sym (check-at x i h) ∙ ap (λ (v : List ℕ). getD v i 0) sums ∙ check-at z i h)
@@ -221,8 +221,8 @@ module _ {q : Query} (given : Given q) where
         subst (Known held) (sym (only-one (a .some-checks) x z s (a .sent) all)) (a .known)
 
 -- a block in hand is compared with the anchor's chunks on the desk
-pub light-bound : (l : Layout) (y vs desk part us row : List ℕ) (b : ℕ) → l .l1 * l .l2 ≤ 255 → Prepared l y vs desk
-    → part ≡ take 255 (drop 1 desk) → b < l .l1
+pub light-bound : (l : Layout) (y vs desk part us row : List ℕ) (b : ℕ) → l .l1 * l .l2 ≤ mostChunks
+    → Prepared l y vs desk → part ≡ take mostChunks (drop 1 desk) → b < l .l1
     → ((j : ℕ) → j < l .l2 → getD us (b * l .l2 + j) 0 ≡ getD row (b * l .l2 + j) 0)
     → over (unlike us vs) (b * l .l2) (l .l2) ≡ over (unlike row part) (b * l .l2) (l .l2)
 light-bound l y vs desk part us row b few ready e h same =
@@ -232,7 +232,8 @@ light-bound l y vs desk part us row b few ready e h same =
     let room = field-room (l .l1) (l .l2) b h in
     let v : getD vs c 0 ≡ getD part c 0 =
     sym (ready .chunks c (omega arith))
-    ∙ sym (ap (λ (s : List ℕ). getD s c 0) e ∙ getD-take 255 (drop 1 desk) c 0 (omega arith) ∙ getD-drop 1 desk c 0)
+    ∙ sym (ap (λ (s : List ℕ). getD s c 0) e
+    ∙ getD-take mostChunks (drop 1 desk) c 0 (omega arith) ∙ getD-drop 1 desk c 0)
     in
     ap₂ (λ (p q : ℕ). cond (eqb p q) 0 1) (same t k) v)
 

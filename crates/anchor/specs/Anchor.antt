@@ -8,7 +8,7 @@ use mathlib.Core.Bool.{Bool, true, cond, _&&_}
 use mathlib.Core.List.{List}
 use lib.Dec.{eqb, leb, ltb}
 use lib.ListN.{length, getD, take, drop}
-use Rattle.bits.specs.Bits.{number}
+use Rattle.bits.specs.Bits.{mostChunks, mostInLine, number}
 use Rattle.rows.specs.Held.{Held, Known}
 use Rattle.rows.specs.declared.Kept.{Kept}
 use Rattle.message.specs.Layout.{rowBits, blockBits}
@@ -35,14 +35,20 @@ Reads nc y c v t = t ≤ c * nc → c * nc + nc ≤ length y + t → number nc (
 -- ---- the desk, a slice of bytes: whether an anchor is set; its chunks; for each chunk and each number of losses
 -- before it, how many more losses leave it the anchor's, at least; and for each number of losses and each block, how
 -- many chunks from there on can be another than the anchor's although they lost no bit
-abbrev pub deskSize : ℕ
-deskSize = 6899
+abbrev pub nearFrom : ℕ
+nearFrom = 1 + mostChunks
 
 abbrev pub nearAt : (c d : ℕ) → ℕ
-nearAt c d = 256 + c * 13 + d
+nearAt c d = nearFrom + c * 13 + d
+
+abbrev pub laterFrom : ℕ
+laterFrom = nearFrom + mostChunks * 13
 
 abbrev pub laterAt : (i d : ℕ) → ℕ
-laterAt i d = 3571 + d * 256 + i
+laterAt i d = laterFrom + d * (mostInLine + 1) + i
+
+abbrev pub deskSize : ℕ
+deskSize = laterFrom + 13 * (mostInLine + 1)
 
 -- 1 where chunk c can be another than the anchor's although it lost no bit, where d to d + a bits are lost before it
 abbrev pub wide : (desk : List ℕ) (d a : ℕ) → ℕ → ℕ
@@ -52,14 +58,14 @@ wide desk d a c = cond (ltb a (getD desk (nearAt c d) 0)) 0 1
 -- losses says that the chunk stays the anchor's after d to d + r - 1 losses
 pub record NearFor (nc : ℕ) (y : List ℕ) (n : ℕ) (entry exit : List ℕ) : Type 0 where
   pub size : length exit ≡ length entry
-  pub before : (q : ℕ) → q < 256 → getD exit q 0 ≡ getD entry q 0
+  pub before : (q : ℕ) → q < nearFrom → getD exit q 0 ≡ getD entry q 0
   pub near : (c d t : ℕ) → c < n → d ≤ mostLosses → d ≤ t → t < d + getD exit (nearAt c d) 0
       → Reads nc y c (getD entry (1 + c) 0) t
 
 -- the desk with the third part written for fewer than n losses, where k are lost in all
 pub record LaterFor (l : Layout) (k n : ℕ) (entry exit : List ℕ) : Type 0 where
   pub size : length exit ≡ length entry
-  pub before : (q : ℕ) → q < 3571 → getD exit q 0 ≡ getD entry q 0
+  pub before : (q : ℕ) → q < laterFrom → getD exit q 0 ≡ getD entry q 0
   pub later : (i d : ℕ) → i ≤ l .l1 → d < n
       → getD exit (laterAt i d) 0 ≡ over (wide entry d (k - d)) (i * l .l2) ((l .l1 - i) * l .l2)
 

@@ -9,7 +9,7 @@ ghost use mathlib.Core.Bool.{true};
 ghost use mathlib.Core.List.{List};
 ghost use Prim.Native.Nat.{ℕ, _+_, _*_, _<_, _≤_};
 ghost use lib.ListN.{length, drop};
-ghost use Rattle.bits.specs.Bits.{AllBits, bytesFor, number, unpack as unpacked};
+ghost use Rattle.bits.specs.Bits.{longest, AllBits, bytesFor, number, unpack as unpacked};
 ghost use Rattle.rows.specs.Held.{Known};
 ghost use Rattle.rows.specs.Order.{Less, Row};
 ghost use Rattle.message.specs.Layout.{legal, rowBits};
@@ -20,7 +20,7 @@ ghost use Rattle.floor.specs.Floor.{nextBit, leastLost, bitOf, BlockInHa
 
 // The number that the k bits from a place of a packed row on spell.
 fn number_in(packed: &[u8], at: usize, k: usize) -> usize
-    requires { ⌜ (k ≤ 8) × ((length (now packed) ≤ 255) × (at + k ≤ length (now packed) * 8)) ⌝ }
+    requires { ⌜ (k ≤ 8) × ((length (now packed) ≤ bytesFor longest) × (at + k ≤ length (now packed) * 8)) ⌝ }
     ensures { λ r. ⌜ r ≡ number k (drop at (unpacked (now (packed .entry)))) ⌝ }
 {
     let c = BitCursor { at };

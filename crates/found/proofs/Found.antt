@@ -1,5 +1,5 @@
--- The laws of Steps.antt and Sent.antt, for proofs that speak of the layout, the numbers and the received bits one by one.
--- Assumes nothing.
+-- The laws of Steps.antt and Sent.antt, for proofs that speak of the layout, the numbers and the received bits one by
+-- one. Assumes nothing.
 use Prim.Native.Nat.{ℕ, _*_, _≤_}
 use mathlib.Core.Bool.{false}
 use mathlib.Core.List.{List}

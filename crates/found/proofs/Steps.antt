@@ -175,7 +175,8 @@ module _ {s : Sought} {cap : ℕ} {entry : List ℕ} {kept : Kept} (h : Holding 
         let d = now .count in
         let o = now .more in
         let wide : Written w (add cap (heldIn w entry c m) (p ∷ [])) entry exit d o = rw packed-length at k in
-        grown-row x passes (subst (λ (q : List ℕ). Written w (add cap (heldIn w entry c m) (q ∷ [])) entry exit d o) e wide)
+        grown-row x passes
+        (subst (λ (q : List ℕ). Written w (add cap (heldIn w entry c m) (q ∷ [])) entry exit d o) e wide)
 
 -- a step that finds all rows of one kind finds all of a narrower kind
 pub grown-weaken : {s : Sought} {cap : ℕ} {P Q : List ℕ → Type 0} {entry exit : List ℕ} {kept now : Kept}

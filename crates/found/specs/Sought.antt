@@ -30,15 +30,16 @@ allOf s = keep (s .test) (allRows (s .bits))
 abbrev pub heldOf : Sought → (list : List ℕ) → Kept → Held
 heldOf s list kept = rowsIn (s .bits) list (kept .count) (kept .more)
 
--- the list slice holds rows that pass, packed from its start: in order, at most cap, and exactly cap where more were found
+-- the list slice holds rows that pass, packed from its start: in order, at most cap, and exactly cap where more were
+-- found
 pub record Holding (s : Sought) (cap : ℕ) (list : List ℕ) (kept : Kept) : Type 0 where
   pub well : WellHeld cap (s .bits) (s .test) (heldOf s list kept)
   pub is-packed : heldIn (bytesFor (s .bits)) list (kept .count) (kept .more) ≡ packed (heldOf s list kept)
   pub room : cap * bytesFor (s .bits) ≤ length list
 
 -- the one shape of what a step of a search does to the list slice: it adds rows that pass, the bytes beyond the rows held
--- stay as at entry, and afterwards every row under its state that passes is known: it is held, or more were found than fit
--- and it comes after all that are held
+-- stay as at entry, and afterwards every row under its state that passes is known: it is held, or more were found than
+-- fit and it comes after all that are held
 pub record Grown (s : Sought) (cap : ℕ) (under : List ℕ → Type 0) (entry : List ℕ) (kept : Kept) (exit : List ℕ)
     (now : Kept) : Type 0 where
   pub found : List (List ℕ)

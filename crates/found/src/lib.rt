@@ -10,6 +10,9 @@ ghost use Rattle.found.specs.Given.{Given, Sent, Holds, Adds, InHand};
 use message::Layout;
 use rows::Kept;
 
+// The most bytes of a packed row.
+const BYTES: usize = (bits::LONGEST + 7) / 8;
+
 // Adds a consistent row to the rows held, its bits being x.
 fn add_sent(
     l: Layout,
@@ -25,7 +28,7 @@ fn add_sent(
     ensures { λ r. ⌜ Adds (query l (now (numbers .entry)) (now (y .entry))) cap (λ z. z ≡ now (x .entry))
         (now (list .entry)) kept (now (list .exit)) r ⌝ }
 {
-    let mut bytes: [u8; 255] = [0; 255];
+    let mut bytes: [u8; BYTES] = [0; BYTES];
     bits::pack(x, &mut bytes);
     let w = (x.len() + 7) / 8;
     rows::insert(list, kept, cap, &bytes[0..w])

@@ -138,8 +138,8 @@ loop-again c =
       (omega arith, omega (arith, p .inv .0 .1, k .before .wide .ensures, next)),
       (
         omega (arith, c .if3 .left),
-        counted-next (s .pre .0) (a .desk .now) (a .counts .now) (a .row .now) (a .i) (p .b) (p .most) (k .block-most .result)
-            (omega arith)
+        counted-next (s .pre .0) (a .desk .now) (a .counts .now) (a .row .now) (a .i) (p .b) (p .most)
+            (k .block-most .result) (omega arith)
             (omega (arith, size s .l1-high, s .pre .1 .1 .0)) most (p .inv .1 .1),
       ),
     )
@@ -196,7 +196,8 @@ returns-3 c =
     let s = start t in
     let a = s .args in
     let e : p .b ≡ a .i = omega (arith, c .before .before .before .before .loop-test .left) in
-    let d : p .d ≡ inAll (take (a .i) (a .counts .now)) = p .inv .0 .1 ∙ ap (λ (n : ℕ). inAll (take n (a .counts .now))) e in
+    let d : p .d ≡ inAll (take (a .i) (a .counts .now)) =
+    p .inv .0 .1 ∙ ap (λ (n : ℕ). inAll (take n (a .counts .now))) e in
     λ small held x anchored sent own light.
     counted-known (s .pre .0) (a .desk .now) (a .counts .now) (a .row .now) (a .i) (p .most) (s .pre .1 .1 .0)
     (rw e at (p .inv .1 .1))
