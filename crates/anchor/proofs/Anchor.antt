@@ -34,7 +34,7 @@ use Rattle.erasures.proofs.Anchor.{same-row}
 use Rattle.lines.specs.Lines.{values, line, unlike}
 use Rattle.lines.proofs.Lines.{length-values, value-at, value-low, row-line}
 use Rattle.consistent.specs.Query.{Query}
-use Rattle.found.specs.Given.{Given, Sent, Holds, Adds, heldSent}
+use Rattle.found.specs.Given.{Given, Sent, HoldsSent, AddsSent, heldSent}
 use Rattle.found.proofs.Sent.{sent-parts}
 use Rattle.found.proofs.Steps.{grown-rows}
 use Rattle.anchor.specs.Anchor.{over, lostBefore, Reads, deskSize, nearAt, laterAt, wide, Prepared, isSet}
@@ -242,7 +242,7 @@ abbrev pub firstRow : Layout → List ℕ → List ℕ
 firstRow l list = take (rowBits l) (unpack (take (bytesFor (rowBits l)) list))
 
 module _ (q : Query) {cap : ℕ} {list : List ℕ} where
-  held-at : (c : ℕ) (m : Bool) → 0 < c → Holds q cap list (record { count = c; more = m })
+  held-at : (c : ℕ) (m : Bool) → 0 < c → HoldsSent q cap list (record { count = c; more = m })
       → Sent q (firstRow (q .layout) list)
       × Known (heldSent q list (record { count = c; more = m })) (firstRow (q .layout) list)
   unfolding cut
@@ -250,12 +250,12 @@ module _ (q : Query) {cap : ℕ} {list : List ℕ} where
   held-at (suc c) m h k = (k .well .each (firstRow (q .layout) list) (inl refl), inl (inl refl))
 
   -- it is a consistent row, and is known
-  pub first-held : (kept : Kept) → 0 < kept .count → Holds q cap list kept
+  pub first-held : (kept : Kept) → 0 < kept .count → HoldsSent q cap list kept
       → Sent q (firstRow (q .layout) list) × Known (heldSent q list kept) (firstRow (q .layout) list)
   first-held kept = held-at (kept .count) (kept .more)
 
   -- and stands in the slice
-  pub first-room : (kept : Kept) → 0 < kept .count → Holds q cap list kept → bytesFor (rowBits (q .layout)) ≤ length list
+  pub first-room : (kept : Kept) → 0 < kept .count → HoldsSent q cap list kept → bytesFor (rowBits (q .layout)) ≤ length list
   first-room kept h k =
       let n = rowBits (q .layout) in
       let w = bytesFor n in
@@ -289,7 +289,7 @@ near-known {q} {held = held} given a z e x sent few =
 
 -- ---- an anchor stays one while the rows held grow
 pub anchored-stays : {q : Query} {cap : ℕ} {P : List ℕ → Type 0} {entry exit : List ℕ} {kept now : Kept} {desk : List ℕ}
-    → Holds q cap entry kept → Adds q cap P entry kept exit now → Anchors q entry kept desk → Anchors q exit now desk
+    → HoldsSent q cap entry kept → AddsSent q cap P entry kept exit now → Anchors q entry kept desk → Anchors q exit now desk
 anchored-stays h g a e =
     let k = a e in
     record {

@@ -15,7 +15,7 @@ ghost use Rattle.consistent.specs.Consistent.{mostLosses};
 ghost use Rattle.consistent.specs.Greedy.{inAll};
 ghost use Rattle.lines.specs.Lines.{values, unlike};
 ghost use Rattle.consistent.specs.Query.{query};
-ghost use Rattle.found.specs.Given.{Given, Sent, Holds};
+ghost use Rattle.found.specs.Given.{Given, Sent, HoldsSent};
 ghost use Rattle.anchor.specs.Anchor.{over, Reads, deskSize, wide, NearFor, LaterFor, Prepared, isSet, Anchor, Anchors};
 ghost use Rattle.anchor.specs.Anchor.{OwnCounts, LightInHand, BlockMost};
 
@@ -183,7 +183,7 @@ pub fn set_anchor(
     kept: Kept,
     desk: &mut [u8],
 )
-    requires { ⌜ Given (query l (now numbers) (now y)) × (Holds (query l (now numbers) (now y)) cap (now list) kept
+    requires { ⌜ Given (query l (now numbers) (now y)) × (HoldsSent (query l (now numbers) (now y)) cap (now list) kept
         × Anchors (query l (now numbers) (now y)) (now list) kept (now desk)) ⌝ }
     ensures { λ _. ⌜ Anchors (query l (now (numbers .entry)) (now (y .entry))) (now (list .entry)) kept (now (desk .exit)) ⌝ }
 {

@@ -14,7 +14,7 @@ ghost use Rattle.rows.specs.Held.{Known};
 ghost use Rattle.rows.specs.Order.{Less, Row};
 ghost use Rattle.message.specs.Layout.{legal, rowBits};
 ghost use Rattle.consistent.specs.Query.{query};
-ghost use Rattle.found.specs.Given.{Given, Sent, Holds, heldSent};
+ghost use Rattle.found.specs.Given.{Given, Sent, HoldsSent, heldSent};
 ghost use Rattle.anchor.specs.Anchor.{OwnCounts, LightInHand};
 ghost use Rattle.floor.specs.Floor.{nextBit, leastLost, bitOf, BlockInHand, BlockLoses, BlockCompared};
 
@@ -171,7 +171,7 @@ pub fn above(
     kept: Kept,
 ) -> bool
     requires { ⌜ Given (query l (now numbers) (now y))
-        × (Holds (query l (now numbers) (now y)) cap (now list) kept
+        × (HoldsSent (query l (now numbers) (now y)) cap (now list) kept
         × (((l .l1 * l .l2 ≤ length (now row)) × (l .l1 ≤ length (now counts))) × (i ≤ l .l1))) ⌝ }
     ensures { λ r. ⌜ (r ≡ true → (x : List ℕ) → Sent (query l (now (numbers .entry)) (now (y .entry))) x
         → OwnCounts l (now (y .entry)) (now (counts .entry)) i x

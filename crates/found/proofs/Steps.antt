@@ -28,15 +28,11 @@ use Rattle.rows.proofs.Packed.{
   written-listed,
 }
 use Rattle.rows.proofs.Slice.{length-flat, rows-le}
-use Rattle.found.specs.Sought.{Sought, Passes, allOf, heldOf, Holding, Grown, Listed}
-
--- no row is held
-abbrev pub nothing : Kept
-nothing = record { count = 0; more = false }
+use Rattle.found.specs.Sought.{Sought, Passes, allOf, heldOf, noRows, Holding, Grown, Listed}
 
 -- a slice with room of which nothing is used yet
 pub holding-none : (s : Sought) (cap : ℕ) (list : List ℕ) → cap * bytesFor (s .bits) ≤ length list
-    → Holding s cap list nothing
+    → Holding s cap list noRows
 holding-none s cap list h =
     let e : heldIn (bytesFor (s .bits)) list 0 false ≡ packed none = none-packed (s .bits) list in
     let i : rowsIn (s .bits) list 0 false ≡ none = rows-in (s .bits) none list 0 false (λ x m. absurd m) e in
@@ -199,7 +195,7 @@ grown-turn h f v k below here =
 -- ---- the whole search
 -- once every row that passes is known, the slice holds the list
 pub grown-all : {s : Sought} {cap : ℕ} {entry exit : List ℕ} {now : Kept} → cap * bytesFor (s .bits) ≤ length entry
-    → Grown s cap (λ x. Unit) entry nothing exit now → Listed s cap entry exit now
+    → Grown s cap (λ x. Unit) entry noRows exit now → Listed s cap entry exit now
 grown-all {s} {cap} {entry} {exit} {now} room g =
     let v =
     written-listed cap n f entry exit (now .count) (now .more)

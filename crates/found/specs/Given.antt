@@ -36,18 +36,22 @@ Sent q x = Passes (consistentWith q) x
 abbrev pub allSent : Query → List (List ℕ)
 allSent q = allOf (consistentWith q)
 
--- the list slice, its steps and the whole search, where consistent rows are looked for
+-- the rows that the list slice holds, and whether more were found
 abbrev pub heldSent : Query → (list : List ℕ) → Kept → Held
 heldSent q = heldOf (consistentWith q)
 
-abbrev pub Holds : Query → (cap : ℕ) (list : List ℕ) → Kept → Type 0
-Holds q = Holding (consistentWith q)
+-- the list slice holds consistent rows
+abbrev pub HoldsSent : Query → (cap : ℕ) (list : List ℕ) → Kept → Type 0
+HoldsSent q = Holding (consistentWith q)
 
-abbrev pub Adds : Query → (cap : ℕ) (under : List ℕ → Type 0) (entry : List ℕ) → Kept → (exit : List ℕ) → Kept → Type 0
-Adds q = Grown (consistentWith q)
+-- a step adds consistent rows, and misses none under its state
+abbrev pub AddsSent : Query → (cap : ℕ) (under : List ℕ → Type 0) (entry : List ℕ) → Kept → (exit : List ℕ) → Kept
+    → Type 0
+AddsSent q = Grown (consistentWith q)
 
-abbrev pub Lists : Query → (cap : ℕ) (entry exit : List ℕ) → Kept → Type 0
-Lists q = Listed (consistentWith q)
+-- a whole search leaves the list of all consistent rows
+abbrev pub ListsSent : Query → (cap : ℕ) (entry exit : List ℕ) → Kept → Type 0
+ListsSent q = Listed (consistentWith q)
 
 -- the chunks of x are those of the row in hand
 abbrev pub InHand : Layout → (row x : List ℕ) → Type 0

@@ -2,7 +2,7 @@
 -- it holds for any test of a row.
 use Prim.Native.Nat.{ℕ, _*_, _≤_}
 use mathlib.Core.Path.{_≡_}
-use mathlib.Core.Bool.{Bool, true}
+use mathlib.Core.Bool.{Bool, true, false}
 use mathlib.Core.List.{List, _++_, map}
 use lib.Dec.{ltb}
 use lib.ListN.{length, take, drop}
@@ -29,6 +29,10 @@ allOf s = keep (s .test) (allRows (s .bits))
 -- the rows that the list slice holds, and whether more were found
 abbrev pub heldOf : Sought → (list : List ℕ) → Kept → Held
 heldOf s list kept = rowsIn (s .bits) list (kept .count) (kept .more)
+
+-- what is kept before a search: no row is held
+abbrev pub noRows : Kept
+noRows = record { count = 0; more = false }
 
 -- the list slice holds rows that pass, packed from its start: in order, at most cap, and exactly cap where more were
 -- found

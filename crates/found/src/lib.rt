@@ -6,7 +6,7 @@ ghost use lib.ListN.{length};
 ghost use Rattle.rows.specs.Order.{Row};
 ghost use Rattle.message.specs.Layout.{rowBits};
 ghost use Rattle.consistent.specs.Query.{query};
-ghost use Rattle.found.specs.Given.{Given, Sent, Holds, Adds, InHand};
+ghost use Rattle.found.specs.Given.{Given, Sent, HoldsSent, AddsSent, InHand};
 use message::Layout;
 use rows::Kept;
 
@@ -24,8 +24,8 @@ fn add_sent(
     kept: Kept,
 ) -> Kept
     requires { ⌜ Given (query l (now numbers) (now y)) × (Sent (query l (now numbers) (now y)) (now x)
-        × Holds (query l (now numbers) (now y)) cap (now list) kept) ⌝ }
-    ensures { λ r. ⌜ Adds (query l (now (numbers .entry)) (now (y .entry))) cap (λ z. z ≡ now (x .entry))
+        × HoldsSent (query l (now numbers) (now y)) cap (now list) kept) ⌝ }
+    ensures { λ r. ⌜ AddsSent (query l (now (numbers .entry)) (now (y .entry))) cap (λ z. z ≡ now (x .entry))
         (now (list .entry)) kept (now (list .exit)) r ⌝ }
 {
     let mut bytes: [u8; BYTES] = [0; BYTES];
@@ -45,8 +45,8 @@ pub fn add_bits(
     kept: Kept,
 ) -> Kept
     requires { ⌜ Given (query l (now numbers) (now y)) × (Row (rowBits l) (now x)
-        × Holds (query l (now numbers) (now y)) cap (now list) kept) ⌝ }
-    ensures { λ r. ⌜ Adds (query l (now (numbers .entry)) (now (y .entry))) cap (λ z. z ≡ now (x .entry))
+        × HoldsSent (query l (now numbers) (now y)) cap (now list) kept) ⌝ }
+    ensures { λ r. ⌜ AddsSent (query l (now (numbers .entry)) (now (y .entry))) cap (λ z. z ≡ now (x .entry))
         (now (list .entry)) kept (now (list .exit)) r ⌝ }
 {
     if !consistent::is_consistent(l.l1, l.l2, l.nc, l.r, x, y, numbers) {
@@ -66,8 +66,8 @@ pub fn add_row(
     kept: Kept,
 ) -> Kept
     requires { ⌜ Given (query l (now numbers) (now y)) × ((l .l1 * l .l2 ≤ length (now row))
-        × Holds (query l (now numbers) (now y)) cap (now list) kept) ⌝ }
-    ensures { λ r. ⌜ Adds (query l (now (numbers .entry)) (now (y .entry))) cap (InHand l (now (row .entry)))
+        × HoldsSent (query l (now numbers) (now y)) cap (now list) kept) ⌝ }
+    ensures { λ r. ⌜ AddsSent (query l (now (numbers .entry)) (now (y .entry))) cap (InHand l (now (row .entry)))
         (now (list .entry)) kept (now (list .exit)) r ⌝ }
 {
     let mut x: [u8; bits::LONGEST] = [0; bits::LONGEST];

@@ -11,7 +11,7 @@ ghost use lib.ListN.{length};
 ghost use Rattle.bits.specs.Bits.{AllBits, longest};
 ghost use Rattle.consistent.specs.Consistent.{mostLosses};
 ghost use Rattle.consistent.specs.Query.{query};
-ghost use Rattle.found.specs.Given.{Given, Holds, Adds};
+ghost use Rattle.found.specs.Given.{Given, HoldsSent, AddsSent};
 ghost use Rattle.hint.specs.Tries.{Fit, Hand, Stands};
 
 // The bits that a guess writes for each loss, about, before it gives up.
@@ -280,8 +280,8 @@ fn add_prolonged(
     kept: Kept,
 ) -> Kept
     requires { ⌜ Given (query l (now numbers) (now y)) × (Hand l (now x)
-        × Holds (query l (now numbers) (now y)) cap (now list) kept) ⌝ }
-    ensures { λ r. ⌜ Adds (query l (now (numbers .entry)) (now (y .entry))) cap (λ z. ⊥)
+        × HoldsSent (query l (now numbers) (now y)) cap (now list) kept) ⌝ }
+    ensures { λ r. ⌜ AddsSent (query l (now (numbers .entry)) (now (y .entry))) cap (λ z. ⊥)
         (now (list .entry)) kept (now (list .exit)) r ⌝ }
 {
     let start = Stand { i: 0, p: 0 };
@@ -343,8 +343,8 @@ fn add_repeated(
     kept: Kept,
 ) -> Kept
     requires { ⌜ Given (query l (now numbers) (now y)) × (Hand l (now row)
-        × Holds (query l (now numbers) (now y)) cap (now list) kept) ⌝ }
-    ensures { λ r. ⌜ Adds (query l (now (numbers .entry)) (now (y .entry))) cap (λ z. ⊥)
+        × HoldsSent (query l (now numbers) (now y)) cap (now list) kept) ⌝ }
+    ensures { λ r. ⌜ AddsSent (query l (now (numbers .entry)) (now (y .entry))) cap (λ z. ⊥)
         (now (list .entry)) kept (now (list .exit)) r ⌝ }
 {
     let start = Stand { i: 0, p: 0 };
@@ -357,8 +357,8 @@ fn add_repeated(
 // nothing repeats itself no row is likely.
 pub fn guess(l: Layout, y: &[u8], numbers: &[u16], cap: usize, list: &mut [u8], kept: Kept) -> Kept
     requires { ⌜ Given (query l (now numbers) (now y))
-        × Holds (query l (now numbers) (now y)) cap (now list) kept ⌝ }
-    ensures { λ r. ⌜ Adds (query l (now (numbers .entry)) (now (y .entry))) cap (λ z. ⊥)
+        × HoldsSent (query l (now numbers) (now y)) cap (now list) kept ⌝ }
+    ensures { λ r. ⌜ AddsSent (query l (now (numbers .entry)) (now (y .entry))) cap (λ z. ⊥)
         (now (list .entry)) kept (now (list .exit)) r ⌝ }
 {
     if l.r == 0 {
