@@ -25,8 +25,8 @@ use Rattle.tables.proofs.Coming.{left-own}
 use Rattle.tables.proofs.Making.{end-at}
 
 -- ---- a row under the table with which the columns begin, which has no cells
-module _ {l : Layout} {numbers y : List ℕ} {heavy : Heavy} {t : Table} {x : List ℕ} (given : Given l numbers y)
-    (sent : Sent l numbers y x) (sound : Sound l (length y) heavy t) (u : Under l y heavy 0 0 t x)
+module _ {l : Layout} {numbers y : List ℕ} {heavy : Heavy} {t : Table} {hand x : List ℕ} (given : Given l numbers y)
+    (sent : Sent l numbers y x) (sound : Sound l (length y) heavy t) (u : Under l y heavy 0 0 t hand x)
     (none : t .cells .n ≡ 0) where
   -- the losses before the chunk of a heavy block in a column
   abbrev lost : (j s : ℕ) → ℕ
@@ -51,11 +51,13 @@ module _ {l : Layout} {numbers y : List ℕ} {heavy : Heavy} {t : Table} {x : Li
   own-ends s h = omega (arith, end-at u s h)
 
   -- outside of the heavy blocks the chunks are those in hand
-  pub in-hand : LightIn l heavy (t .row) (values l x)
+  pub in-hand : LightIn l heavy hand (values l x)
   in-hand i j h k other =
       ⊎-elim
+      (⊎-elim
       (λ w. absurd (other (w .0) (w .1 .0) (w .1 .1 .0)))
-      (⊎-elim (λ w. absurd (omega (arith, w .1 .0 .1, sound .fresh (w .0) (omega arith)))) (λ e. e))
+      (λ w. absurd (omega (arith, w .1 .0 .1, sound .fresh (w .0) (omega arith)))))
+      (λ e. e)
       (u .decided i j h k)
 
   -- what it does in column j
@@ -75,7 +77,7 @@ module _ {l : Layout} {numbers y : List ℕ} {heavy : Heavy} {t : Table} {x : Li
       place : readFrom l heavy (own j) j s - getD (heavy .end) s 0 ≡ c * l .nc - lost j s
       place = omega (arith, own-all j s (omega arith) h, lost-before l y x (sent .0) c inside)
 
-    crosses : Crosses l y numbers heavy (t .row) j (own j) (own (j + 1)) (values l x)
+    crosses : Crosses l y numbers heavy hand j (own j) (own (j + 1)) (values l x)
     crosses =
         record {
           falls = λ s h. own-falls j s column h;
@@ -102,5 +104,5 @@ module _ {l : Layout} {numbers y : List ℕ} {heavy : Heavy} {t : Table} {x : Li
         }
 
   -- so they are a path
-  pub own-path : Path l y numbers heavy (t .row) (each (t .left)) (values l x) (ownLeft l y heavy x)
+  pub own-path : Path l y numbers heavy hand (each (t .left)) (values l x) (ownLeft l y heavy x)
   own-path = record { starts = left-own u; ends = own-ends; crosses = crosses }

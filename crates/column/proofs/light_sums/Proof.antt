@@ -18,59 +18,40 @@ use Rattle.column.proofs.light_sums.Statement.{statement}
 use Rattle.column.proofs.light_sums.Tie as tie
 
 abbrev Inv-loop : tie.InvT-loop
-Inv-loop l y numbers known₀ l2 modulus table out j₀ known j =
+Inv-loop l y numbers row known₀ l2 modulus table j₀ known j =
     ((j ≤ l2) × (length known ≡ length known₀))
-    × ((i : ℕ) → i < j → getD known i 0 ≡ total 1 (line (l .nc) i (l .l2) (l .l1) out) % modulus)
+    × ((i : ℕ) → i < j → getD known i 0 ≡ total 1 (line (l .nc) i (l .l2) (l .l1) row) % modulus)
 
 abbrev μ-loop : tie.MeasureT-loop
-μ-loop l y numbers known₀ l2 modulus table out j₀ known j = l2 - j
+μ-loop l y numbers row known₀ l2 modulus table j₀ known j = l2 - j
 
 -- the modulus is small
 modulus-high : (s : tie.Start Inv-loop μ-loop) → s .args .l .l1 * s .args .l .nc ≤ longest
 modulus-high s = string-high (s .args .l) (s .pre .0 .allowed)
 
 mul-modulus : tie.Need-mul-modulus Inv-loop μ-loop
-mul-modulus c = omega (arith, modulus-high (c .before .before .before .before))
+mul-modulus c = ?a
 
 add-modulus : tie.Need-add-modulus Inv-loop μ-loop
-add-modulus c = omega (arith, modulus-high (c .before .before .before .before))
+add-modulus c = ?b
 
 weights-requires : tie.Need-weights-requires Inv-loop μ-loop
 weights-requires c κs = search needs
 
-cleared-requires : tie.Need-cleared-requires Inv-loop μ-loop
-cleared-requires c κs = let f = c .before .before .before .before .before .pre .0 in
-    ((f .allowed, f .few), f .inside)
+clear-heavy-requires : tie.Need-clear-heavy-requires Inv-loop μ-loop
+clear-heavy-requires c κs = ?c
 
 loop-holds : tie.Need-loop-holds Inv-loop μ-loop
 loop-holds c = ((omega arith, refl), λ i h. absurd (omega arith))
 
--- where the function starts, seen from the loop
-abbrev start : tie.At-loop Inv-loop μ-loop → tie.Start Inv-loop μ-loop
-start c = c .before .before .before .before .before .before .before
-
-slice-aggregate-line-total : tie.Need-slice-aggregate-line-total Inv-loop μ-loop
-slice-aggregate-line-total c = search needs
-
 line-total-requires : tie.Need-line-total-requires Inv-loop μ-loop
-line-total-requires c κs =
-    let p = c .before .before .before in
-    let s = start p in
-    let out = p .before .cleared .result in
-    let n : length out ≡ 255 = search needs in (
-      p .before .before .weights .ensures,
-      string-inside (s .args .l) (s .pre .0 .allowed) (length out) (omega arith) (p .loop .j) (omega arith),
-    )
+line-total-requires c κs = ?d
 
 rem-known : tie.Need-rem-known Inv-loop μ-loop
 rem-known c = search needs
 
 cast-known : tie.Need-cast-known Inv-loop μ-loop
-cast-known c =
-    let s = start (c .before .before .before .before) in
-    let l = s .args .l in
-    let low = mod-lt (c .line-total .result) {m = l .l1 * l .nc + 1} (omega arith) in
-    record { fits = omega (arith, low, modulus-high s) }
+cast-known c = ?e
 
 mul-known : tie.Need-mul-known Inv-loop μ-loop
 mul-known c = search needs
@@ -85,26 +66,16 @@ loop-less : tie.Need-loop-less Inv-loop μ-loop
 loop-less c = search needs
 
 loop-again : tie.Need-loop-again Inv-loop μ-loop
-loop-again c =
-    let p = c .before .before .before .before in
-    let l = start p .args .l in
-    let j : ℕ = p .loop .j in
-    let r : ℕ = c .line-total .result % (l .l1 * l .nc + 1) in (
-      (omega arith, length-set (p .loop .known) j r ∙ p .loop .inv .0 .1),
-      below-more _ j
-          (λ i h. getD-set-other (p .loop .known) j i r 0 (λ q. omega arith) ∙ p .loop .inv .1 i h)
-          (rw (← c .line-total .ensures) (getD-set-same (p .loop .known) j r 0 (omega arith))),
-    )
+loop-again c = ?f
 
 same-length : tie.Need-same-length Inv-loop μ-loop
 same-length c = search needs
 
+same-length-2 : tie.Need-same-length-2 Inv-loop μ-loop
+same-length-2 c = search needs
+
 returns : tie.Need-returns Inv-loop μ-loop
-returns c =
-    let p = c .before in
-    let a = start p .args in
-    λ j h.
-    p .loop .inv .1 j (omega arith) ∙ cleared-sum (a .l) (a .heavy) (a .row) _ (p .before .cleared .ensures) j h
+returns c = ?g
 
 pub light-sums-spec : {M : Type 1} → statement M
 light-sums-spec =
@@ -115,9 +86,8 @@ light-sums-spec =
     mul-modulus
     add-modulus
     weights-requires
-    cleared-requires
+    clear-heavy-requires
     loop-holds
-    slice-aggregate-line-total
     line-total-requires
     rem-known
     cast-known
@@ -127,4 +97,5 @@ light-sums-spec =
     loop-less
     loop-again
     same-length
+    same-length-2
     returns)
