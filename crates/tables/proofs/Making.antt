@@ -366,7 +366,7 @@ module _ {l : Layout} {y : List ℕ} {heavy : Heavy} {t : Table} {x : List ℕ} 
   whole sound u = (
     λ s. ⊎-elim (used-up s) (sound .spare s) (lt-or-ge s (heavy .n)),
     record {
-      decided = λ i c p q. ⊎-elim (λ w. absurd (past c q w)) (λ w. w) (u .decided i c p q);
+      decided = record { at = λ i c p q. ⊎-elim (λ w. absurd (past c q w)) (λ w. w) (u .decided i c p q) };
       loses = u .loses;
     },
   )
