@@ -6,9 +6,22 @@ use mathlib.Core.List.{List, [], _∷_, _++_}
 use lib.Dec.{eqb}
 use lib.ListN.{length, take, drop}
 
--- the longest string of bits that the papers speak of: "n is at most 2,040", "a length w (1 to 2,040)"
+-- the most bits of a string, that is of a row, of received bits or of a string to be mended: "n is at most 2,040", "a
+-- length w (1 to 2,040)"
 abbrev pub longest : ℕ
 longest = 2040
+
+-- the most chunks of a row
+abbrev pub mostChunks : ℕ
+mostChunks = 255
+
+-- the most chunks of a line, that is blocks of a row (l1) or chunks of a block (l2): each count is a byte of the message
+abbrev pub mostInLine : ℕ
+mostInLine = 255
+
+-- the most bits of a line, that is of a block or of a chunk-string: as many chunks of at most 8 bits
+abbrev pub longestLine : ℕ
+longestLine = 2040
 
 -- each element is a bit
 abbrev pub AllBits : List ℕ → Type 0

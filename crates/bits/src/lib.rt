@@ -7,8 +7,17 @@ ghost use lib.ListN.{length, take, drop, getD};
 ghost use Rattle.bits.specs.Filling.{filled, Ready, Goes};
 ghost use Rattle.bits.specs.Bits.{AllBits, longest, number, digits, bytes, bytesFor, pack as packed, unpack as unpacked, fits as fit};
 
-// The most bits that a string has.
+// The most bits of a string: a row, received bits, a string to be mended.
 pub const LONGEST: usize = 2040;
+
+// The most chunks of a row.
+pub const MOST_CHUNKS: usize = 255;
+
+// The most chunks of a line, that is blocks of a row or chunks of a block: each count is a byte of the message.
+pub const MOST_IN_LINE: usize = 255;
+
+// The most bits of a line, that is of a block or of a chunk-string: as many chunks of at most 8 bits.
+pub const LONGEST_LINE: usize = 2040;
 
 // A byte as a number of any size.
 pub fn wide(b: u8) -> usize

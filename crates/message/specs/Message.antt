@@ -18,6 +18,10 @@ unfoldable pub width : ℕ → ℕ
 unfolding halvings
 width w = halvings w w
 
+-- the most numbers of a message: l1 + l2 is at most 256 in a legal layout, and r at most 16
+abbrev pub mostNumbers : ℕ
+mostNumbers = 272
+
 -- the bits of the fields of a message: l1 block sums, l2 chunk-string sums, r checks
 unfoldable pub fieldsLength : Layout → ℕ
 unfolding width

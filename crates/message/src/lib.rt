@@ -14,6 +14,9 @@ pub struct Layout {
     pub r: usize,
 }
 
+// The most numbers of a message: l1 + l2 is at most 256 in a legal layout, and r at most 16.
+pub const MOST_NUMBERS: usize = 272;
+
 // What writing answers: the message's length in bytes, or a refusal.
 pub enum Written {
     Length(usize),
