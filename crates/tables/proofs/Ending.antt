@@ -79,7 +79,7 @@ module _ {l : Layout} {numbers y : List ℕ} {heavy : Heavy} {t : Table} {hand x
             (λ w. absurd (omega (arith, a, rw (reached-not j 0 (w .0) (omega arith)) at (w .1 .1 .1))))
             inl)
             inr
-            (u .decided i c (sound .inside h some) b);
+            (u .decided .at i c (sound .inside h some) b);
         lose = λ z o e. (value-low l x (sent .0) (chunkOf l (t .cells) z), u .loses z o);
         later = later;
         has-sum = block-sum given x sent i (sound .inside h some);

@@ -57,9 +57,7 @@ module _ {l : Layout} {y totals counts numbers : List ℕ} {heavy : Heavy} {shap
     now sets apart e o c) where
   -- what changes only what is not decided in the table changes only what could be any at the start
   pub going-same : {after : List ℕ} → SameBut l (Free heavy c 0 (now .cells)) hand after → SameBut l free first after
-  going-same s =
-      same-trans l free (going .same)
-      (same-wider l (Free heavy c 0 (now .cells)) free (λ i j p q f. going .fewer i j f) s)
+  going-same s = same-trans (going .same) (same-wider (λ i j p q. going .fewer i j) s)
 
   -- the state's mark leaves no room for a row that is not known
   pub going-near : (mark : ℕ) → IsMark shape marks c (stateOf shape (each (now .left))) mark
@@ -127,7 +125,7 @@ module _ {l : Layout} {y totals counts numbers : List ℕ} {heavy : Heavy} {shap
           going-lost (λ x sent u. false≢true (sym fails ∙ stepped .under x (sent .0) (stays u .0) (u .1) .0))
 
       pub going-read : SameBut l free first after
-      going-read = going-same (same-trans l (Free heavy c 0 (now .cells)) kept (stepped .same))
+      going-read = going-same (same-trans kept (stepped .same))
 
       -- or they are under the next table
       pub going-next : ok ≡ true → length after ≡ length first → (fresh : List ℕ)

@@ -20,7 +20,7 @@ use Rattle.consistent.specs.Greedy.{losses, inAll}
 use Rattle.lines.specs.Lines.{values}
 use Rattle.cells.specs.Cells.{share, NoSingle, Open, OpenAt, SameBut}
 use Rattle.cells.specs.declared.Cells.{Cells}
-use Rattle.cells.proofs.Same.{same-sym, same-trans}
+use Rattle.cells.proofs.Same.{same-sym, same-trans, same-wider}
 use Rattle.cells.proofs.Shares.{share-found, all-found}
 use Rattle.cells.proofs.State.{same-or-not}
 use Rattle.column.specs.Column.{chunkAt}
@@ -49,13 +49,14 @@ reached-next j h s n =
     past p = ⊎-elim (λ q. q) (λ q. absurd (n (omega arith))) (lt-or-ge h s)
 
 -- a chunk that is not decided was not where its heavy block had come less far
-undecided-less : {heavy : Heavy} {j h k g i c : ℕ}
+undecided-less : (heavy : Heavy) (j h k g i c : ℕ)
     → ((s : ℕ) → s < heavy .n → reached k g s ≤ reached j h s)
     → Undecided heavy j h i c → Undecided heavy k g i c
-undecided-less less (s, (k, (b, r))) = (s, (k, (b, omega (arith, less s k, r))))
+undecided-less heavy j h k g i c less (s, (m, (b, r))) = (s, (m, (b, omega (arith, less s m, r))))
 
-pub undecided-share : {heavy : Heavy} {j h i c : ℕ} → Undecided heavy j (h + 1) i c → Undecided heavy j h i c
-undecided-share {heavy} {j} {h} = undecided-less (λ s k. ⊎-elim (here s) (other s) (same-or-not s h))
+pub undecided-share : (heavy : Heavy) (j h i c : ℕ) → Undecided heavy j (h + 1) i c → Undecided heavy j h i c
+undecided-share heavy j h i c =
+    undecided-less heavy j (h + 1) j h i c (λ s k. ⊎-elim (here s) (other s) (same-or-not s h))
   where
     here : (s : ℕ) → s ≡ h → reached j h s ≤ reached j (h + 1) s
     here s e = omega (arith, reached-past j (h + 1) s (omega arith), reached-not j h s (omega arith))
@@ -67,15 +68,18 @@ undecided-share {heavy} {j} {h} = undecided-less (λ s k. ⊎-elim (here s) (oth
 reached-end : (j n s : ℕ) → s < n → reached (j + 1) 0 s ≡ reached j n s
 reached-end j n s k = reached-not (j + 1) 0 s (omega arith) ∙ sym (reached-past j n s k)
 
-pub undecided-end : {heavy : Heavy} {j i c : ℕ} → Undecided heavy (j + 1) 0 i c → Undecided heavy j (heavy .n) i c
-undecided-end {heavy} {j} = undecided-less (λ s k. omega (arith, reached-end j (heavy .n) s k))
+pub undecided-end : (heavy : Heavy) (j i c : ℕ) → Undecided heavy (j + 1) 0 i c → Undecided heavy j (heavy .n) i c
+undecided-end heavy j i c =
+    undecided-less heavy (j + 1) 0 j (heavy .n) i c (λ s k. omega (arith, reached-end j (heavy .n) s k))
 
-pub undecided-start : {heavy : Heavy} {j i c : ℕ} → Undecided heavy j (heavy .n) i c → Undecided heavy (j + 1) 0 i c
-undecided-start {heavy} {j} = undecided-less (λ s k. omega (arith, reached-end j (heavy .n) s k))
+pub undecided-start : (heavy : Heavy) (j i c : ℕ) → Undecided heavy j (heavy .n) i c → Undecided heavy (j + 1) 0 i c
+undecided-start heavy j i c =
+    undecided-less heavy j (heavy .n) (j + 1) 0 i c (λ s k. omega (arith, reached-end j (heavy .n) s k))
 
-pub undecided-column : {heavy : Heavy} {j i c : ℕ} → Undecided heavy (j + 1) 0 i c → Undecided heavy j 0 i c
-undecided-column {heavy} {j} =
-    undecided-less (λ s k. omega (arith, reached-not j 0 s (omega arith), reached-not (j + 1) 0 s (omega arith)))
+pub undecided-column : (heavy : Heavy) (j i c : ℕ) → Undecided heavy (j + 1) 0 i c → Undecided heavy j 0 i c
+undecided-column heavy j i c =
+    undecided-less heavy (j + 1) 0 j 0 i c
+    (λ s k. omega (arith, reached-not j 0 s (omega arith), reached-not (j + 1) 0 s (omega arith)))
 
 -- ---- losses that move from what is left to a cell
 -- those of a key and those of all
@@ -260,11 +264,13 @@ module _ {l : Layout} {y : List ℕ} {heavy : Heavy} {j h : ℕ} {t : Table} {ha
       record {
         ends = u .ends;
         shifts = shifts-next (t .left) 0 own (omega arith) (λ s n. refl);
-        decided = λ i c p q.
-            ⊎-elim
-            (⊎-elim (λ w. fresh i c (undecided-next i c w)) (λ o. inl (inr o)))
-            (λ e. inr (kept (i * l .l2 + c) e))
-            (u .decided i c p q);
+        decided = record {
+          at = λ i c p q.
+              ⊎-elim
+              (⊎-elim (λ w. fresh i c (undecided-next i c w)) (λ o. inl (inr o)))
+              (λ e. inr (kept (i * l .l2 + c) e))
+              (u .decided .at i c p q);
+        };
         loses = u .loses;
       }
     where
@@ -295,13 +301,11 @@ module _ {l : Layout} {y : List ℕ} {heavy : Heavy} {j h : ℕ} {t : Table} {ha
         ends = u .ends;
         shifts = shifts-next left a own (omega (arith, getD-set-same (t .left) h (getD (t .left) h 0 - a) 0 in-left))
             (λ s n. getD-set-other (t .left) h s (getD (t .left) h 0 - a) 0 n);
-        decided = λ i c p q.
-            ⊎-elim
-            (λ w. inl (⊎-elim
-            (λ f. fresh i c (undecided-next i c f))
-            (λ o. inr (at-kept (t .cells) twelve room unused block j a place i c o)) w))
-            inr
-            (u .decided i c p q);
+        decided = same-wider
+            (λ i c p q. ⊎-elim
+            (λ w. fresh i c (undecided-next i c w))
+            (λ o. inr (at-kept (t .cells) twelve room unused block j a place i c o)))
+            (u .decided);
         loses = each-pushed (t .cells) twelve room unused block j a place
             (λ b c lost p. losses (digits (l .nc) (getD (values l x) (b * l .l2 + c) 0)) (drop p y) ≡ lost) (u .loses) is;
       }
@@ -318,7 +322,7 @@ module _ {l : Layout} {y : List ℕ} {heavy : Heavy} {j h : ℕ} {t : Table} {ha
       fresh i c (inr w) = inr (rw (← w .0, ← w .1) (at-new (t .cells) twelve room unused block j a place pos))
 
 -- ---- a share: the chunks that are decided stay so
-module _ {heavy : Heavy} {j h : ℕ} (some : h < heavy .n) where
+module _ (heavy : Heavy) (j h : ℕ) (some : h < heavy .n) where
   -- the chunk that is shared out to was not decided
   pub undecided-here : Undecided heavy j h (getD (heavy .block) h 0) j
   undecided-here = (h, (some, (refl, omega (arith, reached-not j h h (omega arith)))))
@@ -326,7 +330,7 @@ module _ {heavy : Heavy} {j h : ℕ} (some : h < heavy .n) where
   pub fewer-cell : (cells : Cells) → Twelve cells → cells .n < 12 → getD (cells .lost) (cells .n) 0 ≡ 0
       → (a place i c : ℕ) → Free heavy j (h + 1) (pushed cells (getD (heavy .block) h 0) j a place) i c
       → Free heavy j h cells i c
-  fewer-cell cells twelve room unused a place i c (inl w) = inl (undecided-share w)
+  fewer-cell cells twelve room unused a place i c (inl w) = inl (undecided-share heavy j h i c w)
   fewer-cell cells twelve room unused a place i c (inr o) =
       ⊎-elim inr (λ e. inl (rw (← e .0, ← e .1) undecided-here))
       (at-old cells twelve room unused (getD (heavy .block) h 0) j a place i c o)
@@ -388,20 +392,18 @@ module _ {l : Layout} {y : List ℕ} {heavy : Heavy} {t : Table} {hand x : List 
       record {
         ends = u .ends;
         shifts = λ s k. rw (reached-end j (heavy .n) s k) (u .shifts s k);
-        decided = λ i c p q.
-            ⊎-elim (λ f. inl (⊎-elim (λ w. inl (undecided-start w)) inr f)) inr (u .decided i c p q);
+        decided = same-wider (λ i c p q. ⊎-elim (λ w. inl (undecided-start heavy j i c w)) inr) (u .decided);
         loses = u .loses;
       }
 
   -- the rows under a state depend on the row in hand only where its chunks are decided
   pub under-same : {other : List ℕ} {j h : ℕ} → SameBut l (Free heavy j h (t .cells)) hand other
       → Under l y heavy j h t hand x → Under l y heavy j h t other x
-  under-same {other} {j} {h} s u =
-      let free = Free heavy j h (t .cells) in
+  under-same s u =
       record {
         ends = u .ends;
         shifts = u .shifts;
-        decided = same-trans l free (same-sym l free s) (u .decided);
+        decided = same-trans (same-sym s) (u .decided);
         loses = u .loses;
       }
 
@@ -420,7 +422,7 @@ module _ {l : Layout} {y : List ℕ} {heavy : Heavy} {t : Table} {hand x : List 
   whole sound u = (
     λ s. ⊎-elim (used-up s) (sound .spare s) (lt-or-ge s (heavy .n)),
     record {
-      decided = λ i c p q. ⊎-elim (λ f. inl (⊎-elim (λ w. absurd (past c q w)) (λ o. o) f)) inr (u .decided i c p q);
+      decided = same-wider (λ i c p q. ⊎-elim (λ w. absurd (past c q w)) (λ o. o)) (u .decided);
       loses = u .loses;
     },
   )

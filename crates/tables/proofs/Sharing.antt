@@ -27,7 +27,7 @@ use Rattle.tables.proofs.Making.{shift-at, under-read, under-cell, room
 
 module _ {l : Layout} {y : List ℕ} {heavy : Heavy} {j h a : ℕ} {t : Table} (q : Sharable l y heavy j h a t) where
   -- the chunk is one of the row
-  inside : chunkAt l heavy j h < l .l1 * l .l2
+  pub inside : chunkAt l heavy j h < l .l1 * l .l2
   inside = chunk-inside (l .l1) (l .l2) (getD (heavy .block) h 0) j (q .sound .inside h (q .some)) (q .column)
 
   size : Sizes l
@@ -48,6 +48,10 @@ module _ {l : Layout} {y : List ℕ} {heavy : Heavy} {j h a : ℕ} {t : Table} (
 
   pub chunk-bits : l .nc ≤ 8
   chunk-bits = legal-bounds l (q .is-legal) .nc-high
+
+  -- there is room for a cell
+  pub cell-room : 0 < a → length (t .left) ≡ 6 → length (heavy .block) ≡ 6 → t .cells .n < 12
+  cell-room pos in-left in-block = room-cell (q .sound) j h a 0 (q .some) (q .less) in-left in-block pos
 
 -- where the chunk is read: the place for the losses that a row has before it
 module _ {l : Layout} {y : List ℕ} {heavy : Heavy} {j h a : ℕ} {t : Table} (q : Sharable l y heavy j h a t)
@@ -86,8 +90,8 @@ module _ {l : Layout} {y : List ℕ} {heavy : Heavy} {j h a : ℕ} {t : Table} (
         falls = λ e. absurd (false≢true e);
         others = λ s n. refl;
         under = λ x row u own. absurd (none x row u own);
-        fewer = λ i c. ⊎-elim (λ w. inl (undecided-share w)) inr;
-        same = same-refl l (Free heavy j h (t .cells)) hand;
+        fewer = λ i c. ⊎-elim (λ w. inl (undecided-share heavy j h i c w)) inr;
+        same = same-refl;
       }
 
   -- too few bits are left to read the chunk
@@ -99,16 +103,14 @@ module _ {l : Layout} {y : List ℕ} {heavy : Heavy} {j h a : ℕ} {t : Table} (
       → Shared l y heavy j h a t hand true t (set hand (chunkAt l heavy j h) (number (l .nc) (drop place y)))
   shared-read z n =
       let v = number (l .nc) (drop place y) in
-      let free = Free heavy j h (t .cells) in
       record {
         sound = q .sound;
         falls = λ e. omega (arith, z);
         others = λ s n. refl;
         under = λ x row u own.
             (refl, under-read u (q .some) v (rw z at own) (is-read x row u own z) (omega (arith, inside q)));
-        fewer = λ i c. ⊎-elim (λ w. inl (undecided-share w)) inr;
-        same = same-set l free (getD (heavy .block) h 0) j v (q .column) (inl (undecided-here (q .some)))
-            (same-refl l free hand);
+        fewer = λ i c. ⊎-elim (λ w. inl (undecided-share heavy j h i c w)) inr;
+        same = same-set (getD (heavy .block) h 0) j v (q .column) (inl (undecided-here heavy j h (q .some))) same-refl;
       }
 
   -- the received row does not reach to where the chunk would be read
@@ -116,25 +118,18 @@ module _ {l : Layout} {y : List ℕ} {heavy : Heavy} {j h a : ℕ} {t : Table} (
   shared-beyond beyond = failed (λ x row u own. omega (arith, reaches x row u))
 
   -- the chunk becomes a cell
-  module _ (pos : 0 < a) (in-left : length (t .left) ≡ 6) (in-block : length (heavy .block) ≡ 6)
-      (twelve : Twelve (t .cells)) where
-    pub cell-room : t .cells .n < 12
-    cell-room = room-cell (q .sound) j h a place (q .some) (q .less) in-left in-block pos
-
-    pub shared-cell : place ≤ length y
-        → Shared l y heavy j h a t hand true (withCell t h (getD (heavy .block) h 0) j a place) hand
-    shared-cell within =
-        let in-range : h < length (t .left) = omega (arith, q .some, q .sound .few) in
-        let unused = q .sound .fresh (t .cells .n) (omega arith) in
-        record {
-          sound = sound-cell (q .sound) j h a place (q .some) (q .less) in-left in-block pos (q .column) within twelve;
-          falls = λ e. omega (arith, getD-set-same (t .left) h (getD (t .left) h 0 - a) 0 in-range, q .less);
-          others = λ s n. getD-set-other (t .left) h s (getD (t .left) h 0 - a) 0 n;
-          under = λ x row u own. (
-            refl,
-            under-cell u (q .some) a place own pos (q .less) in-range twelve cell-room unused
-                (loses x row u own),
-          );
-          fewer = fewer-cell (q .some) (t .cells) twelve cell-room unused a place;
-          same = same-refl l (Free heavy j h (t .cells)) hand;
-        }
+  pub shared-cell : 0 < a → length (t .left) ≡ 6 → length (heavy .block) ≡ 6 → Twelve (t .cells) → place ≤ length y
+      → Shared l y heavy j h a t hand true (withCell t h (getD (heavy .block) h 0) j a place) hand
+  shared-cell pos in-left in-block twelve within =
+      let in-range : h < length (t .left) = omega (arith, q .some, q .sound .few) in
+      let unused = q .sound .fresh (t .cells .n) (omega arith) in
+      let room = cell-room q pos in-left in-block in
+      record {
+        sound = sound-cell (q .sound) j h a place (q .some) (q .less) in-left in-block pos (q .column) within twelve;
+        falls = λ e. omega (arith, getD-set-same (t .left) h (getD (t .left) h 0 - a) 0 in-range, q .less);
+        others = λ s n. getD-set-other (t .left) h s (getD (t .left) h 0 - a) 0 n;
+        under = λ x row u own.
+            (refl, under-cell u (q .some) a place own pos (q .less) in-range twelve room unused (loses x row u own));
+        fewer = fewer-cell heavy j h (q .some) (t .cells) twelve room unused a place;
+        same = same-refl;
+      }

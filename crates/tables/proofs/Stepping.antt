@@ -68,7 +68,7 @@ module _ {l : Layout} {y : List ℕ} {heavy : Heavy} {j : ℕ} {next : ℕ → �
         has-left = λ s h. absurd (omega arith);
         under = λ x row u own. u;
         fewer = λ i c f. f;
-        same = same-refl l (Free heavy j 0 (t .cells)) hand;
+        same = same-refl;
       }
 
   -- no row under the table has so much left
@@ -81,7 +81,7 @@ module _ {l : Layout} {y : List ℕ} {heavy : Heavy} {j : ℕ} {next : ℕ → �
         sound = rw is sound;
         has-left = λ e. absurd (false≢true (sym fails ∙ e));
         under = λ x row u own. absurd (none x row u own);
-        fewer = λ i c. ⊎-elim (λ w. inl (undecided-column w)) (λ o. inr (rw is at o));
+        fewer = λ i c. ⊎-elim (λ w. inl (undecided-column heavy j i c w)) (λ o. inr (rw is at o));
         same = same;
       }
 
@@ -94,7 +94,7 @@ module _ {l : Layout} {y : List ℕ} {heavy : Heavy} {j : ℕ} {next : ℕ → �
           sound = half .sound;
           has-left = λ q s k. half .has-left s (omega arith);
           under = λ x row u own. (went, next-column (rw end at (half .under x row u own)));
-          fewer = λ i c f. half .fewer i c (rw end (⊎-elim (λ w. inl (undecided-end w)) inr f));
+          fewer = λ i c f. half .fewer i c (rw end (⊎-elim (λ w. inl (undecided-end heavy j i c w)) inr f));
           same = half .same;
         }
 
@@ -131,8 +131,5 @@ module _ {l : Layout} {y : List ℕ} {heavy : Heavy} {j : ℕ} {next : ℕ → �
                   (same-or-not s h);
               under = λ x row u own. here x row u own .1;
               fewer = λ i c f. half .fewer i c (shared .fewer i c f);
-              same =
-                  let free = Free heavy j 0 (t .cells) in
-                  same-trans l free (half .same)
-                  (same-wider l (Free heavy j h (now .cells)) free (λ i c p q f. half .fewer i c f) (shared .same));
+              same = same-trans (half .same) (same-wider (λ i c p q. half .fewer i c) (shared .same));
             }
