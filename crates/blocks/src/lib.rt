@@ -157,19 +157,22 @@ pub fn can_end(
     counts: &[u16],
     numbers: &[u16],
     cells: Cells,
-    row: [u8; 255],
+    row: &[u8],
     i: usize,
     end: u8,
     j: usize,
 ) -> bool
     requires { ⌜ ((legal l ≡ true) × (AllBits (now y) × (length (now y) ≤ longest)))
         × (Tables (now y) 0 (now totals) (now counts)
-        × (Placed l (length (now y)) cells × ((i < l .l1)
+        × (Placed l (length (now y)) cells × (((i < l .l1) × (l .l1 * l .l2 ≤ length (now row)))
         × ((i < length (now numbers)) × (getD (now numbers) i 0 ≤ l .l2 * l .nc))))) ⌝ }
     ensures { λ r. ⌜ ((vs : List ℕ)
-        → Ended l (now (y .entry)) (now (numbers .entry)) cells row i end j vs → r ≡ true) ⌝ }
+        → Ended l (now (y .entry)) (now (numbers .entry)) cells (now (row .entry)) i end j vs → r ≡ true) ⌝ }
 {
-    let mut out = row;
+    let mut out: [u8; 255] = [0; 255];
+    let first = i * l.l2;
+    let behind = first + l.l2;
+    bits::copy_to(&row[first..behind], &mut out, first);
     if !read_on(l, y, i, end, j, &mut out) {
         return false;
     }
@@ -178,7 +181,7 @@ pub fn can_end(
         return true;
     }
     let modulus = l.l2 * l.nc + 1;
-    let part = lines::line_sum(l.nc, i * l.l2, 1, l.l2, &out);
+    let part = lines::line_sum(l.nc, first, 1, l.l2, &out);
     let need = column::missing(numbers[i] as usize, part, modulus);
     weigh::can_bring(l.nc, modulus, y, totals, counts, cut.chunks, need)
 }

@@ -68,7 +68,7 @@ module _ (l : Layout) (y : List ℕ) (cells : Cells) (row x : List ℕ) (u : Und
   -- a cell is found: its chunk goes into the row in hand, and it has no losses left
   pub decide : (z v : ℕ) → chunkOf l cells z < length row → getD (values l x) (chunkOf l cells z) 0 ≡ v
       → Under l y (found cells z) (set row (chunkOf l cells z) v) x
-  decide z v h e = record { decided = now-decided; loses = still }
+  decide z v h e = record { decided = record { at = now-decided }; loses = still }
     where
       at : ℕ
       at = chunkOf l cells z
@@ -87,7 +87,7 @@ module _ (l : Layout) (y : List ℕ) (cells : Cells) (row x : List ℕ) (u : Und
           ⊎-elim
           (λ o. was-open o (same-or-not (o .0) z))
           (λ f. inr (put (i * l .l2 + j) (inr f)))
-          (u .decided i j p q)
+          (u .decided .at i j p q)
         where
           was-open : (o : OpenAt cells i j) → (o .0 ≡ z) ⊎ (o .0 ≡ z → ⊥)
               → OpenAt (found cells z) i j ⊎ (getD (values l x) (i * l .l2 + j) 0 ≡ getD (set row at v) (i * l .l2 + j) 0)
@@ -104,7 +104,7 @@ module _ (l : Layout) (y : List ℕ) (cells : Cells) (row x : List ℕ) (u : Und
   -- a chunk where no cell is open is the one in hand
   pub in-hand : (i j : ℕ) → i < l .l1 → j < l .l2 → (OpenAt cells i j → ⊥)
       → getD (values l x) (i * l .l2 + j) 0 ≡ getD row (i * l .l2 + j) 0
-  in-hand i j h g n = ⊎-elim (λ o. absurd (n o)) (λ e. e) (u .decided i j h g)
+  in-hand i j h g n = ⊎-elim (λ o. absurd (n o)) (λ e. e) (u .decided .at i j h g)
 
   -- ---- a chunk-string, and a block, without open losses: all its chunks are those in hand
   pub closed-column : (j : ℕ) → length (cells .column) ≡ 12 → j < l .l2 → share (cells .column) (cells .lost) j ≡ 0

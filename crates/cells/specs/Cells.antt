@@ -56,11 +56,16 @@ Placed l m cells =
     (z : ℕ) → Open cells z
     → (getD (cells .block) z 0 < l .l1) × ((getD (cells .column) z 0 < l .l2) × (getD (cells .place) z 0 ≤ m))
 
+-- but for the free places, chunks that are given by their block and their column, the chunks of two rows are the same.
+-- What a step may change of the row in hand is said with the rows at its entry and at its exit.
+pub record SameBut (l : Layout) (free : ℕ → ℕ → Type 0) (entry exit : List ℕ) : Type 0 where
+  pub at : (i c : ℕ) → i < l .l1 → c < l .l2
+      → free i c ⊎ (getD exit (i * l .l2 + c) 0 ≡ getD entry (i * l .l2 + c) 0)
+
 -- the row x is under the state: its chunks are those of the row in hand but for the open cells, and each open cell
 -- loses just its count against the received row from its place on
 pub record Under (l : Layout) (y : List ℕ) (cells : Cells) (row x : List ℕ) : Type 0 where
-  pub decided : (i j : ℕ) → i < l .l1 → j < l .l2
-      → OpenAt cells i j ⊎ (getD (values l x) (i * l .l2 + j) 0 ≡ getD row (i * l .l2 + j) 0)
+  pub decided : SameBut l (OpenAt cells) row (values l x)
   pub loses : (z : ℕ) → Open cells z
       → losses (digits (l .nc) (getD (values l x) (chunkOf l cells z) 0)) (drop (getD (cells .place) z 0) y)
       ≡ getD (cells .lost) z 0

@@ -33,41 +33,42 @@ fn clear(n: usize, at: usize, out: &mut [u8])
     }
 }
 
-// The row in hand with the chunks of the heavy blocks as zero.
-fn cleared(l: Layout, heavy: Heavy, row: [u8; bits::MOST_CHUNKS]) -> [u8; bits::MOST_CHUNKS]
-    requires { ⌜ ((legal l ≡ true) × (heavy .n ≤ 6))
+// Makes the chunks of the heavy blocks zero in the row in hand.
+fn clear_heavy(l: Layout, heavy: Heavy, row: &mut [u8])
+    requires { ⌜ ((legal l ≡ true) × ((heavy .n ≤ 6) × (l .l1 * l .l2 ≤ length (now row))))
         × ((s : ℕ) → s < heavy .n → getD (heavy .block) s 0 < l .l1) ⌝ }
-    ensures { λ r. ⌜ Cleared l heavy (heavy .n) row r ⌝ }
+    ensures { λ _. ⌜ Cleared l heavy (heavy .n) (now (row .entry)) (now (row .exit)) ⌝ }
 {
     let n = heavy.n;
-    let mut out = row;
     let mut s: usize = 0;
     while s < n {
-        clear(l.l2, bits::wide(heavy.block[s]) * l.l2, &mut out);
+        clear(l.l2, bits::wide(heavy.block[s]) * l.l2, row);
         s += 1;
     }
-    out
 }
 
-// The sums of the chunk-strings where the chunks of the heavy blocks count as zero.
+// The sums of the chunk-strings where the chunks of the heavy blocks count as zero; in the row in hand they are made so, since nothing is
+// decided of them yet.
 pub fn light_sums(
     l: Layout,
     y: &[u8],
     numbers: &[u16],
     heavy: Heavy,
-    row: [u8; bits::MOST_CHUNKS],
+    row: &mut [u8],
     known: &mut [u16],
 )
-    requires { ⌜ Fit l (now y) (now numbers) heavy × (l .l2 ≤ length (now known)) ⌝ }
-    ensures { λ _. ⌜ Light l heavy row (now (known .exit)) ⌝ }
+    requires { ⌜ Fit l (now y) (now numbers) heavy
+        × ((l .l1 * l .l2 ≤ length (now row)) × (l .l2 ≤ length (now known))) ⌝ }
+    ensures { λ _. ⌜ Light l heavy (now (row .entry)) (now (known .exit))
+        × Cleared l heavy (heavy .n) (now (row .entry)) (now (row .exit)) ⌝ }
 {
     let l2 = l.l2;
     let modulus = l.l1 * l.nc + 1;
     let table = vt::weights();
-    let out = cleared(l, heavy, row);
+    clear_heavy(l, heavy, row);
     let mut j: usize = 0;
     while j < l2 {
-        let total = lines::line_total(&table, l.nc, j, l2, l.l1, &out);
+        let total = lines::line_total(&table, l.nc, j, l2, l.l1, row);
         known[j] = (total % modulus) as u16;
         j += 1;
     }
