@@ -9,7 +9,7 @@ use native.Mathlib.Nat.{zero-add, zero-mul, suc-mul, add-mul, one-mul, mul-one, 
 use native.Mathlib.Omega.{arith}
 use lib.ListN.{length, getD, take, drop, length-append, length-drop}
 use lib.Seq.{take-add, take-all, drop-drop}
-use Rattle.bits.specs.Bits.{AllBits, mostChunks, number, digits}
+use Rattle.bits.specs.Bits.{AllBits, number, digits}
 use Rattle.bits.proofs.Laws.{length-digits, bits-append, bits-digits, bits-drop}
 use Rattle.rows.specs.Order.{Row}
 use Rattle.vt.specs.Sum.{sum}

@@ -8,7 +8,7 @@ use mathlib.Core.Logic.{inl, inr, ⊎-elim}
 use native.Mathlib.Omega.{arith}
 use lib.ListN.{length, getD, set, drop}
 use lib.Seq.{getD-set-same, getD-set-other}
-use Rattle.bits.specs.Bits.{longest, number, digits}
+use Rattle.bits.specs.Bits.{longest, number, digits, mostChunks, mostInLine}
 use Rattle.rows.specs.Order.{Row}
 use Rattle.message.specs.Layout.{rowBits}
 use Rattle.message.specs.declared.Layout.{Layout}
@@ -34,7 +34,7 @@ module _ {l : Layout} {y : List ℕ} {heavy : Heavy} {j h a : ℕ} {t : Table} (
   size = sizes l (legal-bounds l (q .is-legal))
 
   -- what follows for its number, for its place, and for the column
-  pub chunk-low : chunkAt l heavy j h < 255
+  pub chunk-low : chunkAt l heavy j h < mostChunks
   chunk-low = omega (arith, inside, size .chunks)
 
   pub start-low : chunkAt l heavy j h * l .nc ≤ longest
@@ -43,7 +43,7 @@ module _ {l : Layout} {y : List ℕ} {heavy : Heavy} {j h a : ℕ} {t : Table} (
   pub received-low : length y ≤ longest
   received-low = omega (arith, q .short, size .row)
 
-  pub column-low : j < 255
+  pub column-low : j < mostInLine
   column-low = omega (arith, q .column, size .l2-high)
 
   pub chunk-bits : l .nc ≤ 8

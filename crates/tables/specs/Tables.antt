@@ -7,7 +7,7 @@ use mathlib.Core.Logic.{_⊎_}
 use mathlib.Core.List.{List}
 use lib.Dec.{ltb}
 use lib.ListN.{length, getD, set, take, drop}
-use Rattle.bits.specs.Bits.{AllBits, digits}
+use Rattle.bits.specs.Bits.{AllBits, digits, mostChunks}
 use Rattle.rows.specs.Held.{Held, Known}
 use Rattle.rows.specs.Order.{Row}
 use Rattle.message.specs.Layout.{legal, rowBits, blockBits}
@@ -105,7 +105,7 @@ pub record Looked (l : Layout) (y totals counts known z : List ℕ) (differ j : 
   pub tables : Tables y 0 totals counts
   pub sums : l .l2 ≤ length known
   pub others : l .l1 * l .l2 ≤ length z
-  pub small : differ ≤ 255 + j * 6
+  pub small : differ ≤ mostChunks + j * 6
 
 -- in how many chunks the row x is another than the chunks z
 abbrev pub apart : Layout → (z x : List ℕ) → ℕ

@@ -4,7 +4,7 @@ ghost use mathlib.Core.Bool.{true, false};
 ghost use mathlib.Core.List.{List};
 ghost use Prim.Native.Nat.{ℕ, _+_, _-_, _*_, _<_, _≤_};
 ghost use lib.ListN.{length, getD};
-ghost use Rattle.bits.specs.Bits.{AllBits, longest};
+ghost use Rattle.bits.specs.Bits.{AllBits, longest, mostChunks};
 ghost use Rattle.rows.specs.Slice.{rowsIn};
 ghost use Rattle.message.specs.Layout.{legal, rowBits};
 ghost use Rattle.windows.specs.Windows.{Tables};
@@ -554,7 +554,7 @@ fn is_heavy(heavy: Heavy, h: usize, i: usize) -> bool
 fn apart_light(l: Layout, heavy: Heavy, row: &[u8], z: &[u8]) -> usize
     requires { ⌜ (legal l ≡ true) × (HeavyOf l heavy × ((l .l1 * l .l2 ≤ length (now row)) × (l .l1 * l .l2 ≤ length (now z)))) ⌝ }
     ensures { λ r. ⌜ ((vs : List ℕ) → LightIn l heavy (now (row .entry)) vs
-        → over (unlike vs (now (z .entry))) 0 (l .l1 * l .l2) ≤ r + apartFrom l heavy (now (z .entry)) vs 0) × (r ≤ 255) ⌝ }
+        → over (unlike vs (now (z .entry))) 0 (l .l1 * l .l2) ≤ r + apartFrom l heavy (now (z .entry)) vs 0) × (r ≤ mostChunks) ⌝ }
 {
     let mut count: usize = 0;
     let mut h: usize = 0;
@@ -612,7 +612,7 @@ pub fn tables(
         × SameBut l (Undecided heavy 0 0) (now (row .entry)) (now (row .exit)) ⌝ }
 {
     let left = t.left;
-    let mut known: [u16; 255] = [0; 255];
+    let mut known: [u16; bits::MOST_IN_LINE] = [0; bits::MOST_IN_LINE];
     column::light_sums(l, y, numbers, heavy, row, &mut known);
     if !costs::enough(l, y, totals, counts, numbers, heavy, left, &known) {
         return kept;

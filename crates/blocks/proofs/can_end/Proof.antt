@@ -9,6 +9,7 @@ use native.Mathlib.Omega.{arith}
 use borrow.Author.Tests.{not-true, not-false}
 use lib.ListN.{length, getD, drop, length-drop}
 use lib.Seq.{length-take-le}
+use Rattle.bits.specs.Bits.{longestLine, mostChunks}
 use Rattle.vt.specs.Sum.{sum}
 use Rattle.message.proofs.Fields.{field-room}
 use Rattle.message.proofs.Legal.{legal-bounds, sizes}
@@ -45,13 +46,13 @@ is-cut : (c : tie.Else2) → let a = begin (read c) .args in
     × (cut c .cut-out .last .1 .1 .1 .1 .0 ≡ bare (a .l) (a .cells) (a .i) 12 (read c .read-on .last .1 .1 .1 .1 .1 .0))
 is-cut c = cut c .cut-out .ensures (not-false (cut c .cut-out .result .ok) (c .if2 .left))
 
--- the block has at most 2040 bits
-block-high : (s : tie.Start) → s .args .l .l2 * s .args .l .nc ≤ 2040
+-- the block is no longer than a line
+block-high : (s : tie.Start) → s .args .l .l2 * s .args .l .nc ≤ longestLine
 block-high s = sizes (s .args .l) (legal-bounds (s .args .l) (s .pre .0 .0)) .block
 
--- the block stands in the row in hand and among 255 chunks
+-- the block stands in the row in hand and among as many chunks as a row has
 block-room : (s : tie.Start) → let a = s .args in
-    (a .i * a .l .l2 + a .l .l2 ≤ length (a .row .now)) × (a .i * a .l .l2 + a .l .l2 ≤ 255)
+    (a .i * a .l .l2 + a .l .l2 ≤ length (a .row .now)) × (a .i * a .l .l2 + a .l .l2 ≤ mostChunks)
 block-room s =
     let l = s .args .l in
     let f = field-room (l .l1) (l .l2) (s .args .i) (s .pre .1 .1 .1 .0 .0) in

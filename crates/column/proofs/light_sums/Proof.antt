@@ -8,7 +8,7 @@ use borrow.Author.Count.{below-more}
 use borrow.Author.Needs.{needs}
 use lib.ListN.{length, getD, length-set}
 use lib.Seq.{getD-set-same, getD-set-other}
-use Rattle.bits.specs.Bits.{mostChunks, longestLine}
+use Rattle.bits.specs.Bits.{longestLine}
 use Rattle.vt.specs.Sum.{total}
 use Rattle.message.proofs.Legal.{string-high}
 use Rattle.lines.specs.Lines.{line}

@@ -13,6 +13,7 @@ use borrow.Author.Needs.{needs}
 use borrow.Author.Tests.{not-true, not-false}
 use borrow.Fn.Kinds.{In}
 use borrow.Fn.PlainCycle.{Measures, is, falls, and}
+use Rattle.bits.specs.Bits.{mostInLine}
 use Rattle.message.proofs.Legal.{legal-bounds, sizes}
 use Rattle.found.specs.Found.{Grown}
 use Rattle.found.proofs.Found.{grown-length, grown-holding, grown-none, grown-nothing, grown-weaken, grown-turn}
@@ -177,7 +178,7 @@ looped t c = c .before .before .before .before .before
 -- the numbers of the loop stay low
 high : (t : ℕ) (c : columns-lts.At-loop (columns-claims t) (columns-at t) columns.Post columns-Inv-loop
     columns-μ-loop)
-    → (c .loop .c ≤ 255) × (c .loop .apart ≤ 4000)
+    → (c .loop .c ≤ mostInLine) × (c .loop .apart ≤ 4000)
 high t c =
     let s = start t (c .before) in
     let g = c .loop .inv in
@@ -508,7 +509,7 @@ enter t c = entered t (c .before .before)
 next-low : (t : ℕ)
     (c : losses-here-lts.After-exits (losses-here-claims t) (losses-here-at t) losses-here.Post
     losses-here-Inv-loop losses-here-μ-loop)
-    → enter t c .args .j + 1 ≤ 255
+    → enter t c .args .j + 1 ≤ mostInLine
 next-low t c =
     let s = enter t c in
     let size = sizes (s .args .l) (legal-bounds (s .args .l) (s .pre .1 .0 .is-legal)) in

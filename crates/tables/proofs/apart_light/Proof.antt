@@ -7,6 +7,7 @@ use mathlib.Core.Logic.{⊎-elim}
 use native.Mathlib.Omega.{arith}
 use borrow.Author.Needs.{needs}
 use lib.ListN.{length}
+use Rattle.bits.specs.Bits.{mostChunks}
 use Rattle.message.specs.Layout.{legal}
 use Rattle.message.specs.declared.Layout.{Layout}
 use Rattle.message.proofs.Fields.{field-room}
@@ -21,8 +22,8 @@ Inv-loop l heavy row z count₀ h₀ i₀ count h i = Counted l heavy row z coun
 abbrev μ-loop : tie.MeasureT-loop
 μ-loop l heavy row z count₀ h₀ i₀ count h i = l .l1 - i
 
--- the blocks passed and the one that is looked at stand among the chunks of the layout, which are at most 255
-room : (l : Layout) → legal l ≡ true → (i : ℕ) → i < l .l1 → (i * l .l2 + l .l2 ≤ l .l1 * l .l2) × (l .l1 * l .l2 ≤ 255)
+-- the blocks passed and the one that is looked at stand among the chunks of the layout, which are not too many
+room : (l : Layout) → legal l ≡ true → (i : ℕ) → i < l .l1 → (i * l .l2 + l .l2 ≤ l .l1 * l .l2) × (l .l1 * l .l2 ≤ mostChunks)
 room l legal-l i h = (field-room (l .l1) (l .l2) i h, sizes l (legal-bounds l legal-l) .chunks)
 
 loop-holds : tie.Need-loop-holds Inv-loop μ-loop
