@@ -231,16 +231,16 @@ pub fn near_anchor(
     numbers: &[u16],
     y: &[u8],
     desk: &[u8],
-    counts: [u8; 255],
+    counts: &[u8],
     row: &[u8],
     i: usize,
 ) -> bool
-    requires { ⌜ Given l (now numbers) (now y) × ((l .l1 * l .l2 ≤ length (now row)) × ((i ≤ l .l1)
-        × (inAll (take i counts) + length (now y) ≤ rowBits l))) ⌝ }
+    requires { ⌜ Given l (now numbers) (now y) × (((l .l1 * l .l2 ≤ length (now row)) × (l .l1 ≤ length (now counts)))
+        × ((i ≤ l .l1) × (inAll (take i (now counts)) + length (now y) ≤ rowBits l))) ⌝ }
     ensures { λ r. ⌜ (r ≡ true → (held : Held) (x : List ℕ)
         → Anchored l (now (numbers .entry)) (now (y .entry)) held (now (desk .entry))
-        → Sent l (now (numbers .entry)) (now (y .entry)) x → OwnCounts l (now (y .entry)) counts i x
-        → LightInHand l counts i (now (row .entry)) x → Known held x) ⌝ }
+        → Sent l (now (numbers .entry)) (now (y .entry)) x → OwnCounts l (now (y .entry)) (now (counts .entry)) i x
+        → LightInHand l (now (counts .entry)) i (now (row .entry)) x → Known held x) ⌝ }
 {
     if !is_set(desk) {
         return false;

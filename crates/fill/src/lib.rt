@@ -175,7 +175,7 @@ fn add_recovered(
     if !all_lose(l, y, cells, &whole) {
         return kept;
     }
-    found::add_row(l, y, numbers, whole, cap, list, kept)
+    found::add_row(l, y, numbers, &whole, cap, list, kept)
 }
 
 // How many cells are open.

@@ -137,11 +137,11 @@ fn compare_block(l: Layout, y: &[u8], row: &[u8], b: usize, d: usize, a: usize, 
 }
 
 // Whether every row under the first i counts of a loss pattern comes after the row `last`.
-fn after_row(l: Layout, y: &[u8], counts: [u8; 255], row: &[u8], i: usize, last: &[u8]) -> bool
-    requires { ⌜ (legal l ≡ true) × (AllBits (now y) × ((l .l1 * l .l2 ≤ length (now row)) × ((i ≤ l .l1)
-        × (length (now last) ≡ bytesFor (rowBits l))))) ⌝ }
-    ensures { λ r. ⌜ (r ≡ true → (x : List ℕ) → Row (rowBits l) x → OwnCounts l (now (y .entry)) counts i x
-        → LightInHand l counts i (now (row .entry)) x → Less (unpacked (now (last .entry))) x) ⌝ }
+fn after_row(l: Layout, y: &[u8], counts: &[u8], row: &[u8], i: usize, last: &[u8]) -> bool
+    requires { ⌜ (legal l ≡ true) × (AllBits (now y) × (((l .l1 * l .l2 ≤ length (now row)) × (l .l1 ≤ length (now counts)))
+        × ((i ≤ l .l1) × (length (now last) ≡ bytesFor (rowBits l))))) ⌝ }
+    ensures { λ r. ⌜ (r ≡ true → (x : List ℕ) → Row (rowBits l) x → OwnCounts l (now (y .entry)) (now (counts .entry)) i x
+        → LightInHand l (now (counts .entry)) i (now (row .entry)) x → Less (unpacked (now (last .entry))) x) ⌝ }
 {
     let mut d: usize = 0;
     let mut b: usize = 0;
@@ -163,7 +163,7 @@ pub fn above(
     l: Layout,
     numbers: &[u16],
     y: &[u8],
-    counts: [u8; 255],
+    counts: &[u8],
     row: &[u8],
     i: usize,
     cap: usize,
@@ -172,9 +172,10 @@ pub fn above(
 ) -> bool
     requires { ⌜ Given l (now numbers) (now y)
         × (Holding l (now numbers) (now y) cap (now list) (kept .count) (kept .more)
-        × ((l .l1 * l .l2 ≤ length (now row)) × (i ≤ l .l1))) ⌝ }
+        × (((l .l1 * l .l2 ≤ length (now row)) × (l .l1 ≤ length (now counts))) × (i ≤ l .l1))) ⌝ }
     ensures { λ r. ⌜ (r ≡ true → (x : List ℕ) → Sent l (now (numbers .entry)) (now (y .entry)) x
-        → OwnCounts l (now (y .entry)) counts i x → LightInHand l counts i (now (row .entry)) x
+        → OwnCounts l (now (y .entry)) (now (counts .entry)) i x
+        → LightInHand l (now (counts .entry)) i (now (row .entry)) x
         → Known (rowsIn (rowBits l) (now (list .entry)) (kept .count) (kept .more)) x) ⌝ }
 {
     if !kept.more {

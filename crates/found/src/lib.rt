@@ -1,6 +1,8 @@
 // What a search has found: the list slice as it grows. Contracts cite specs/Found.antt; strings of bits are unpacked, one byte a
 // bit.
 ghost use mathlib.Core.Path.{_≡_};
+ghost use Prim.Native.Nat.{_*_, _≤_};
+ghost use lib.ListN.{length};
 ghost use Rattle.rows.specs.Order.{Row};
 ghost use Rattle.message.specs.Layout.{rowBits};
 ghost use Rattle.found.specs.Found.{Given, Sent, Holding, Grown, InHand};
@@ -49,24 +51,24 @@ pub fn add_bits(
     add_sent(l, y, numbers, x, cap, list, kept)
 }
 
-// Adds the row in hand, given by the numbers of its chunks, if it is consistent.
+// Adds the row in hand, which is lent as the numbers of its chunks, if it is consistent.
 pub fn add_row(
     l: Layout,
     y: &[u8],
     numbers: &[u16],
-    row: [u8; 255],
+    row: &[u8],
     cap: usize,
     list: &mut [u8],
     kept: Kept,
 ) -> Kept
-    requires { ⌜ Given l (now numbers) (now y)
-        × Holding l (now numbers) (now y) cap (now list) (kept .count) (kept .more) ⌝ }
-    ensures { λ r. ⌜ Grown l (now (numbers .entry)) (now (y .entry)) cap (InHand l row)
+    requires { ⌜ Given l (now numbers) (now y) × ((l .l1 * l .l2 ≤ length (now row))
+        × Holding l (now numbers) (now y) cap (now list) (kept .count) (kept .more)) ⌝ }
+    ensures { λ r. ⌜ Grown l (now (numbers .entry)) (now (y .entry)) cap (InHand l (now (row .entry)))
         (now (list .entry)) (kept .count) (kept .more) (now (list .exit)) (r .count) (r .more) ⌝ }
 {
     let mut x: [u8; bits::LONGEST] = [0; bits::LONGEST];
     let count = l.l1 * l.l2;
     let n = count * l.nc;
-    lines::spread(l.nc, 0, 1, count, &row, &mut x, 0);
+    lines::spread(l.nc, 0, 1, count, row, &mut x, 0);
     add_bits(l, y, numbers, &x[0..n], cap, list, kept)
 }

@@ -107,7 +107,7 @@ fn finish(
     let hs = heavy_of(l.l1, pattern);
     let heavy = hs.heavy;
     if heavy.n == 0 {
-        return found::add_row(l, y, numbers, hand, cap, list, kept);
+        return found::add_row(l, y, numbers, &hand, cap, list, kept);
     }
     let left = hs.left;
     let cells = Cells {
@@ -234,10 +234,10 @@ fn patterns(
 {
     let i = l.l1 - later;
     let own = pattern.counts;
-    if anchor::near_anchor(l, numbers, y, desk, own, row, i) {
+    if anchor::near_anchor(l, numbers, y, desk, &own, row, i) {
         return kept;
     }
-    if floor::above(l, numbers, y, own, row, i, cap, list, kept) {
+    if floor::above(l, numbers, y, &own, row, i, cap, list, kept) {
         return kept;
     }
     if later == 0 {

@@ -7,9 +7,7 @@ use mathlib.Core.Bool.{true, false≢true}
 use native.Mathlib.Omega.{arith}
 use borrow.Author.Tests.{leb-true, ltb-true, not-false}
 use lib.Dec.{ltb}
-use lib.ListN.{length, getD, take}
-use mir.Syntax.{w8}
-use mir.Val.{Fits}
+use lib.ListN.{length, take}
 use Rattle.bits.proofs.Laws.{both-left}
 use Rattle.message.specs.Layout.{rowBits}
 use Rattle.message.proofs.Legal.{Bounds, Sizes, legal-bounds, sizes}
@@ -21,15 +19,15 @@ use Rattle.anchor.proofs.near_anchor.Statement.{statement}
 use Rattle.anchor.proofs.near_anchor.Tie as tie
 
 abbrev Inv-loop : tie.InvT-loop
-Inv-loop l numbers y desk row i counts least most₀ d₀ b₀ most d b =
+Inv-loop l numbers y desk counts row i least most₀ d₀ b₀ most d b =
     ((b ≤ i) × (d ≡ inAll (take b counts))) × ((most < least) × Counted l numbers y desk counts row i b most)
 
 abbrev μ-loop : tie.MeasureT-loop
-μ-loop l numbers y desk row i counts least most₀ d₀ b₀ most d b = i - b
+μ-loop l numbers y desk counts row i least most₀ d₀ b₀ most d b = i - b
 
 -- where the function starts, seen from where `is_set` has answered
 abbrev begin : tie.After-is-set Inv-loop μ-loop → tie.Start Inv-loop μ-loop
-begin c = c .before .before .before .before .before
+begin c = c .before .before .before .before .before .before
 
 -- where the function starts, seen from the loop
 abbrev start : tie.At-loop Inv-loop μ-loop → tie.Start Inv-loop μ-loop
@@ -56,27 +54,21 @@ few t =
       arith,
       s .pre .1 .1 .1,
       t .loop .inv .0 .1,
-      total-grows (s .args .t5) (t .loop .b) (s .args .i) (t .loop .inv .0 .0),
+      total-grows (s .args .counts .now) (t .loop .b) (s .args .i) (t .loop .inv .0 .0),
     )
 
 -- a count is a byte
 byte : (c : tie.After-wide Inv-loop μ-loop) → c .wide .result ≤ 255
-byte c =
-    let b : Fits w8 (getD (start (c .before .before) .args .t5) (c .before .before .loop .b) 0) = search needs in
-    omega (arith, c .wide .ensures)
+byte c = omega (arith, c .wide .ensures, c .before .shared-slice-known6 .given (c .before .before .before .loop .b))
 
 -- an entry of the desk too
 entry : (c : tie.After-wide2 Inv-loop μ-loop) → c .wide2 .result ≤ 255
 entry c =
     let t = c .before .before .before .before .before in
-    omega (arith, c .wide2 .ensures, c .before .shared-slice-known5 .given (laterAt (start t .args .i) (t .loop .d)))
+    omega (arith, c .wide2 .ensures, c .before .shared-slice-known7 .given (laterAt (start t .args .i) (t .loop .d)))
 
 at-most : (a b c : ℕ) → c ≤ b + 1 → ltb a c ≡ true → a ≤ b
 at-most a b c h e = omega (arith, ltb-true a c e)
-
--- the pattern has 255 counts
-hand : (s : tie.Start Inv-loop μ-loop) → length (s .args .t5) ≡ 255
-hand s = search needs
 
 is-set-requires : tie.Need-is-set-requires Inv-loop μ-loop
 is-set-requires c κs = search needs
@@ -91,26 +83,28 @@ loop-holds : tie.Need-loop-holds Inv-loop μ-loop
 loop-holds c =
     let s = begin (c .before .before) in
     let a = s .args in (
-      (omega arith, sym (total-none (a .t5))),
-      (omega arith, counted-none (s .pre .0) (a .desk .now) (a .t5) (a .row .now) (a .i)),
+      (omega arith, sym (total-none (a .counts .now))),
+      (omega arith, counted-none (s .pre .0) (a .desk .now) (a .counts .now) (a .row .now) (a .i)),
     )
 
-array-read-wide : tie.Need-array-read-wide Inv-loop μ-loop
-array-read-wide c = omega (arith, size (start (c .before)) .l1-high, start (c .before) .pre .1 .1 .0)
+shared-slice-read-wide : tie.Need-shared-slice-read-wide Inv-loop μ-loop
+shared-slice-read-wide c =
+    let s = start (c .before .before) in
+    omega (arith, s .pre .1 .0 .1, s .pre .1 .1 .0)
 
 wide-requires : tie.Need-wide-requires Inv-loop μ-loop
 wide-requires c κs = search needs
 
 block-most-requires : tie.Need-block-most-requires Inv-loop μ-loop
 block-most-requires c κs =
-    let t = c .before .before in
+    let t = c .before .before .before in
     let s = start t in
     let e : c .wide .result ≤ 255 = byte c in
-    ((s .pre .0, long t), (s .pre .1 .0, (omega (arith, s .pre .1 .1 .0), (omega (arith, few t, s .pre .0 .few), e))))
+    ((s .pre .0, long t), (s .pre .1 .0 .0, (omega (arith, s .pre .1 .1 .0), (omega (arith, few t, s .pre .0 .few), e))))
 
 add-most : tie.Need-add-most Inv-loop μ-loop
 add-most c =
-    let s = start (c .before .before .before) in
+    let s = start (c .before .before .before .before) in
     omega (arith, c .block-most .ensures .1, bounds s .r-high)
 
 returns-2 : tie.Need-returns-2 Inv-loop μ-loop
@@ -118,13 +112,13 @@ returns-2 c = λ e. absurd (false≢true e)
 
 add-d : tie.Need-add-d Inv-loop μ-loop
 add-d c =
-    let t = c .before .before .before .before in
+    let t = c .before .before .before .before .before in
     let s = start t in
     omega (arith, few t, s .pre .0 .few, byte (c .before .before))
 
 add-b : tie.Need-add-b Inv-loop μ-loop
 add-b c =
-    let s = start (c .before .before .before .before) in
+    let s = start (c .before .before .before .before .before) in
     omega (arith, size s .l1-high, s .pre .1 .1 .0)
 
 loop-less : tie.Need-loop-less Inv-loop μ-loop
@@ -133,17 +127,17 @@ loop-less c = search needs
 loop-again : tie.Need-loop-again Inv-loop μ-loop
 loop-again c =
     let k = c .before in
-    let t = k .before .before .before in
+    let t = k .before .before .before .before in
     let p = t .loop in
     let s = start t in
     let a = s .args in
-    let n = hand s in
-    let next = total-next (a .t5) (p .b) (omega (arith, size s .l1-high, s .pre .1 .1 .0)) in
+    let n = s .pre .1 .0 .1 in
+    let next = total-next (a .counts .now) (p .b) (omega (arith, size s .l1-high, s .pre .1 .1 .0)) in
     let most = rw (p .inv .0 .1, k .before .wide .ensures) at (k .block-most .ensures .0) in (
       (omega arith, omega (arith, p .inv .0 .1, k .before .wide .ensures, next)),
       (
         omega (arith, c .if2 .left),
-        counted-next (s .pre .0) (a .desk .now) (a .t5) (a .row .now) (a .i) (p .b) (p .most) (k .block-most .result)
+        counted-next (s .pre .0) (a .desk .now) (a .counts .now) (a .row .now) (a .i) (p .b) (p .most) (k .block-most .result)
             (omega arith)
             (omega (arith, size s .l1-high, s .pre .1 .1 .0)) most (p .inv .1 .1),
       ),
@@ -176,8 +170,8 @@ add-wide-2 c =
     let t = c .before .before .before in
     omega (arith, few t, start t .pre .0 .few, size (start t) .l1-high, start t .pre .1 .1 .0)
 
-shared-slice-read-wide : tie.Need-shared-slice-read-wide Inv-loop μ-loop
-shared-slice-read-wide c =
+shared-slice-read-wide-2 : tie.Need-shared-slice-read-wide-2 Inv-loop μ-loop
+shared-slice-read-wide-2 c =
     let t = c .before .before .before .before in
     omega (arith, few t, start t .pre .0 .few, size (start t) .l1-high, start t .pre .1 .1 .0, long t)
 
@@ -201,9 +195,9 @@ returns-3 c =
     let s = start t in
     let a = s .args in
     let e : p .b ≡ a .i = omega (arith, c .before .before .before .before .loop-test .left) in
-    let d : p .d ≡ inAll (take (a .i) (a .t5)) = p .inv .0 .1 ∙ ap (λ (n : ℕ). inAll (take n (a .t5))) e in
+    let d : p .d ≡ inAll (take (a .i) (a .counts .now)) = p .inv .0 .1 ∙ ap (λ (n : ℕ). inAll (take n (a .counts .now))) e in
     λ small held x anchored sent own light.
-    counted-known (s .pre .0) (a .desk .now) (a .t5) (a .row .now) (a .i) (p .most) (s .pre .1 .1 .0)
+    counted-known (s .pre .0) (a .desk .now) (a .counts .now) (a .row .now) (a .i) (p .most) (s .pre .1 .1 .0)
     (rw e at (p .inv .1 .1))
     (rw (← d, ← c .wide2 .ensures) (at-most _ _ _ (omega arith) small)) held x (anchored (there t)) sent own light
 
@@ -217,7 +211,7 @@ near-anchor-spec =
     returns
     add-least
     loop-holds
-    array-read-wide
+    shared-slice-read-wide
     wide-requires
     block-most-requires
     add-most
@@ -233,7 +227,7 @@ near-anchor-spec =
     mul-wide
     add-wide
     add-wide-2
-    shared-slice-read-wide
+    shared-slice-read-wide-2
     wide-requires-2
     add-result
     add-result-2

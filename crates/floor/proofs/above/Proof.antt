@@ -15,7 +15,7 @@ use Rattle.floor.proofs.above.Tie as tie
 
 -- where the function starts, seen from where the first test does not hold
 abbrev entry : tie.Else1 → tie.Start
-entry c = c .before .before .before .before .before .before
+entry c = c .before .before .before .before .before .before .before
 
 -- where the function starts, seen from where the last row is read
 abbrev start : tie.After-struct-known5 → tie.Start

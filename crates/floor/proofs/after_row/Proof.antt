@@ -9,9 +9,7 @@ use mathlib.Core.List.{List}
 use native.Mathlib.Nat.{zero-mul}
 use native.Mathlib.Omega.{arith}
 use borrow.Author.Tests.{eqb-true}
-use lib.ListN.{length, getD, take}
-use mir.Syntax.{w8}
-use mir.Val.{Fits}
+use lib.ListN.{length, take}
 use Rattle.bits.specs.Bits.{unpack}
 use Rattle.rows.specs.Order.{Row}
 use Rattle.message.specs.Layout.{rowBits, blockBits}
@@ -25,75 +23,72 @@ use Rattle.floor.proofs.after_row.Statement.{statement}
 use Rattle.floor.proofs.after_row.Tie as tie
 
 abbrev Inv-loop : tie.InvT-loop
-Inv-loop l y row i last counts d₀ b₀ d b =
+Inv-loop l y counts row i last d₀ b₀ d b =
     ((b ≤ i) × ((d ≡ inAll (take b counts)) × (d ≤ 255 * b)))
     × ((x : List ℕ) → Row (rowBits l) x → OwnCounts l y counts i x → LightInHand l counts i row x
     → AtLeast (b * blockBits l) (unpack last) x)
 
 abbrev μ-loop : tie.MeasureT-loop
-μ-loop l y row i last counts d₀ b₀ d b = i - b
+μ-loop l y counts row i last d₀ b₀ d b = i - b
 
 -- where the function starts, seen from the loop
 abbrev start : tie.At-loop Inv-loop μ-loop → tie.Start Inv-loop μ-loop
-start t = t .before .before .before .before
+start t = t .before .before .before .before .before
 
 -- there are as many counts as blocks
 few : (s : tie.Start Inv-loop μ-loop) → s .args .i ≤ 255
 few s = omega (arith, sizes (s .args .l) (legal-bounds (s .args .l) (s .pre .0)) .l1-high, s .pre .1 .1 .1 .0)
 
-many : (s : tie.Start Inv-loop μ-loop) → length (s .args .t3) ≡ 255
-many s = search needs
+many : (s : tie.Start Inv-loop μ-loop) → s .args .i ≤ length (s .args .counts .now)
+many s = omega (arith, s .pre .1 .1 .0 .1, s .pre .1 .1 .1 .0)
 
 -- a count is a byte
 byte : (c : tie.After-wide Inv-loop μ-loop) → c .wide .result ≤ 255
-byte c =
-    let t = c .before .before in
-    let b : Fits w8 (getD (start t .args .t3) (t .loop .b) 0) = search needs in
-    omega (arith, c .wide .ensures)
+byte c = omega (arith, c .wide .ensures, c .before .shared-slice-known5 .given (c .before .before .before .loop .b))
 
 loop-holds : tie.Need-loop-holds Inv-loop μ-loop
 loop-holds c =
-    let a = c .before .before .before .args in
+    let a = c .before .before .before .before .args in
     let none = zero-mul (blockBits (a .l)) in
-    ((omega arith, (sym (total-none (a .t3)), omega arith)), λ x r own light. rw none (inr refl))
+    ((omega arith, (sym (total-none (a .counts .now)), omega arith)), λ x r own light. rw none (inr refl))
 
-array-read-wide : tie.Need-array-read-wide Inv-loop μ-loop
-array-read-wide c = omega (arith, few (start (c .before)))
+shared-slice-read-wide : tie.Need-shared-slice-read-wide Inv-loop μ-loop
+shared-slice-read-wide c = omega (arith, many (start (c .before .before)))
 
 wide-requires : tie.Need-wide-requires Inv-loop μ-loop
 wide-requires c κs = search needs
 
 compare-block-requires : tie.Need-compare-block-requires Inv-loop μ-loop
 compare-block-requires c κs =
-    let s = start (c .before .before) in
-    let h = c .before .loop-test .taken in
-    (s .pre .0, (s .pre .1 .0, (omega (arith, s .pre .1 .1 .1 .0), (s .pre .1 .1 .0, s .pre .1 .1 .1 .1))))
+    let s = start (c .before .before .before) in
+    let h = c .before .before .loop-test .taken in
+    (s .pre .0, (s .pre .1 .0, (omega (arith, s .pre .1 .1 .1 .0), (s .pre .1 .1 .0 .0, s .pre .1 .1 .1 .1))))
 
 -- what the comparison of block b says of a row under the counts
-compared : (c : tie.After-compare-block Inv-loop μ-loop) → let t = c .before .before .before in let a = start t .args in
-    (x : List ℕ) → Row (rowBits (a .l)) x → OwnCounts (a .l) (a .y .now) (a .t3) (a .i) x
-    → LightInHand (a .l) (a .t3) (a .i) (a .row .now) x
+compared : (c : tie.After-compare-block Inv-loop μ-loop) → let t = c .before .before .before .before in let a = start t .args in
+    (x : List ℕ) → Row (rowBits (a .l)) x → OwnCounts (a .l) (a .y .now) (a .counts .now) (a .i) x
+    → LightInHand (a .l) (a .counts .now) (a .i) (a .row .now) x
     → BlockCompared (a .l) (t .loop .b) (unpack (a .last .now)) x (c .compare-block .result)
 compared c x r own light =
-    let t = c .before .before .before in
+    let t = c .before .before .before .before in
     let s = start t in
     let a = s .args in
-    let inside = c .before .before .loop-test .taken in
+    let inside = c .before .before .before .loop-test .taken in
     let n = many s in
-    let loses = own-loses (a .l) (a .y .now) (a .t3) (a .i) x own (t .loop .b) inside (omega (arith, few s)) in
+    let loses = own-loses (a .l) (a .y .now) (a .counts .now) (a .i) x own (t .loop .b) inside (omega arith) in
     c .compare-block .ensures x r (rw (t .loop .inv .0 .1 .0, c .before .wide .ensures) loses)
     (λ h j k. light (t .loop .b) j inside k (omega (arith, c .before .wide .ensures)))
 
 returns : tie.Need-returns Inv-loop μ-loop
 returns c =
-    let t = c .before .before .before .before in
+    let t = c .before .before .before .before .before in
     λ e x r own light. compared (c .before) x r own light .after (eqb-true _ _ e) (t .loop .inv .1 x r own light)
 
 add-d : tie.Need-add-d Inv-loop μ-loop
 add-d c =
     let w = c .before .before in
-    let t = w .before .before in
-    omega (arith, t .loop .inv .0 .1 .1, byte w, few (start t), w .before .loop-test .taken)
+    let t = w .before .before .before in
+    omega (arith, t .loop .inv .0 .1 .1, byte w, few (start t), w .before .before .loop-test .taken)
 
 add-b : tie.Need-add-b Inv-loop μ-loop
 add-b c = search needs
@@ -104,12 +99,12 @@ loop-less c = search needs
 loop-again : tie.Need-loop-again Inv-loop μ-loop
 loop-again c =
     let w = c .before .before in
-    let t = w .before .before in
+    let t = w .before .before .before in
     let s = start t in
     let a = s .args in
-    let inside = w .before .loop-test .taken in
+    let inside = w .before .before .loop-test .taken in
     let n = many s in
-    let next = total-next (a .t3) (t .loop .b) (omega (arith, few s)) in
+    let next = total-next (a .counts .now) (t .loop .b) (omega arith) in
     let own = t .loop .inv .0 .1 in (
       (omega arith, (omega (arith, own .0, w .wide .ensures), omega (arith, own .1, byte w))),
       λ x r own light.
@@ -127,7 +122,7 @@ after-row-spec =
     Inv-loop
     μ-loop
     loop-holds
-    array-read-wide
+    shared-slice-read-wide
     wide-requires
     compare-block-requires
     returns

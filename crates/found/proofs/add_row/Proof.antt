@@ -22,11 +22,11 @@ size : (s : tie.Start) → Sizes (s .args .l)
 size s = sizes (s .args .l) (bounds s)
 
 mul-count : tie.Need-mul-count
-mul-count c = omega (arith, size (c .before .before .before .before) .chunks)
+mul-count c = omega (arith, size (c .before .before .before .before .before) .chunks)
 
 -- where the function starts, seen from where the sizes of the row are known
 abbrev entry : tie.After-struct-known2 → tie.Start
-entry c = c .before .before .before .before .before
+entry c = c .before .before .before .before .before .before
 
 mul-n : tie.Need-mul-n
 mul-n c = omega (arith, size (entry c) .row)
@@ -34,19 +34,15 @@ mul-n c = omega (arith, size (entry c) .row)
 slice-aggregate-spread : tie.Need-slice-aggregate-spread
 slice-aggregate-spread c = search needs
 
-slice-aggregate-spread-2 : tie.Need-slice-aggregate-spread-2
-slice-aggregate-spread-2 c = search needs
-
 spread-requires : tie.Need-spread-requires
 spread-requires c κs =
-    let s = entry (c .before .before) in
-    let long : length (s .args .t4) ≡ 255 = search needs in
-    let inside : Inside (s .args .l .nc) 0 1 (s .args .l .l1 * s .args .l .l2) (length (s .args .t4)) =
+    let s = entry (c .before) in
+    let inside : Inside (s .args .l .nc) 0 1 (s .args .l .l1 * s .args .l .l2) (length (s .args .row .now)) =
     record {
       nc-high = bounds s .nc-high;
       short = size s .row;
       stride-high = omega arith;
-      last = omega (arith, size s .chunks);
+      last = omega (arith, size s .chunks, s .pre .1 .0);
     }
     in
     (inside, omega (arith, size s .row))
@@ -59,7 +55,7 @@ part-add-bits-start c = search needs
 
 -- where the function starts, seen from where `spread` has answered
 abbrev begin : tie.After-spread → tie.Start
-begin c = entry (c .before .before .before)
+begin c = entry (c .before .before)
 
 part-add-bits-end : tie.Need-part-add-bits-end
 part-add-bits-end c =
@@ -73,18 +69,18 @@ abbrev bits : tie.After-add-bits-arg2 → List ℕ
 bits c = take (rowBits (start c .args .l) - 0) (c .before .before .before .before .spread .last .1 .1 .1 .1 .1 .0)
 
 -- they are those of the chunks in hand
-bits-are : (c : tie.After-add-bits-arg2) → bits c ≡ handBits (start c .args .l) (start c .args .t4)
+bits-are : (c : tie.After-add-bits-arg2) → bits c ≡ handBits (start c .args .l) (start c .args .row .now)
 bits-are c =
     let a = start c .args in
     let k = c .before .before .before .before .spread in
-    front-part (handBits (a .l) (a .t4)) (drop (0 + rowBits (a .l)) _) (k .last .1 .1 .1 .1 .1 .0) (rowBits (a .l))
-    (hand-row (a .l) (a .t4) .0) (k .ensures)
+    front-part (handBits (a .l) (a .row .now)) (drop (0 + rowBits (a .l)) _) (k .last .1 .1 .1 .1 .1 .0) (rowBits (a .l))
+    (hand-row (a .l) (a .row .now) .0) (k .ensures)
 
 add-bits-requires : tie.Need-add-bits-requires
 add-bits-requires c κs =
     let s = start c in
-    let row = subst (Row (rowBits (s .args .l))) (sym (bits-are c)) (hand-row (s .args .l) (s .args .t4)) in
-    (s .pre .0, (row, s .pre .1))
+    let row = subst (Row (rowBits (s .args .l))) (sym (bits-are c)) (hand-row (s .args .l) (s .args .row .now)) in
+    (s .pre .0, (row, s .pre .1 .1))
 
 same-length : tie.Need-same-length
 same-length c = search needs
@@ -94,7 +90,7 @@ returns c =
     let k = c .before .before in
     let i = k .before in
     let a = start i .args in
-    grown-weaken (λ x sent h. hand-only (a .l) (a .t4) x (sent .0) h ∙ sym (bits-are i)) (k .add-bits .ensures)
+    grown-weaken (λ x sent h. hand-only (a .l) (a .row .now) x (sent .0) h ∙ sym (bits-are i)) (k .add-bits .ensures)
 
 pub add-row-spec : {M : Type 1} → statement M
 add-row-spec =
@@ -103,7 +99,6 @@ add-row-spec =
     mul-count
     mul-n
     slice-aggregate-spread
-    slice-aggregate-spread-2
     spread-requires
     sub-add-bits
     part-add-bits-start

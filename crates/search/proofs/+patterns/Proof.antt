@@ -141,10 +141,10 @@ abbrev begin : (t : ℕ) → Block t → Start t
 begin t c = outset t (c .before .before .before .before .before)
 
 abbrev first : (t : ℕ) → Anchor t → Start t
-first t c = begin t (c .before .before .before .before)
+first t c = begin t (c .before .before .before .before .before)
 
 abbrev entry : (t : ℕ) → Tested t → Start t
-entry t c = first t (c .before .before .before .before)
+entry t c = first t (c .before .before .before .before .before)
 
 -- where the first count is known and where blocks are left, seen from before the loop
 abbrev chosen : (t : ℕ) → Ready t → Chosen t
@@ -185,6 +185,9 @@ high t s = sizes (s .args .l) (legal-bounds (s .args .l) (s .pre .1 .0 .0 .is-le
 
 length-counts : (t : ℕ) (s : Start t) → length (s .args .pattern .counts) ≡ 255
 length-counts t s = search needs
+
+counts-fit : (t : ℕ) (s : Start t) → s .args .l .l1 ≤ length (s .args .pattern .counts)
+counts-fit t s = omega (arith, length-counts t s, high t s .l1-high)
 
 -- the most that block i can lose is what is left of all losses, at most twelve
 abbrev mostOf : (t : ℕ) → Start t → ℕ
@@ -245,13 +248,19 @@ patterns-sub-i : (t : ℕ)
     → patterns-lts.Need-sub-i (called t) (patterns-at t) patterns.Post patterns-Inv-loop patterns-μ-loop
 patterns-sub-i t c = begin t c .pre .1 .1 .0
 
+patterns-slice-aggregate-near-anchor : (t : ℕ)
+    → patterns-lts.Need-slice-aggregate-near-anchor (called t) (patterns-at t) patterns.Post patterns-Inv-loop patterns-μ-loop
+patterns-slice-aggregate-near-anchor t c =
+    let own = length-counts t (begin t (c .before .before .before)) in
+    search (needs, own)
+
 patterns-near-anchor-requires : (t : ℕ)
     → patterns-lts.Need-near-anchor-requires (called t) (patterns-at t) patterns.Post patterns-Inv-loop patterns-μ-loop
 patterns-near-anchor-requires t c κs =
-    let s = begin t (c .before .before .before) in
+    let s = begin t (c .before .before .before .before) in
     let b = s .pre .1 .1 .1 .0 in
     let row = high t s .chunks in
-    (s .pre .1 .0 .0, (omega (arith, b .hand), (omega arith, omega (arith, b .sums, b .most))))
+    (s .pre .1 .0 .0, ((omega (arith, b .hand), counts-fit t s), (omega arith, omega (arith, b .sums, b .most))))
 
 patterns-same-length : (t : ℕ)
     → patterns-lts.Need-same-length (called t) (patterns-at t) patterns.Post patterns-Inv-loop patterns-μ-loop
@@ -271,12 +280,18 @@ patterns-returns t c =
       (refl, s .pre .1 .1 .1 .1 .1),
     )
 
+patterns-slice-aggregate-above : (t : ℕ)
+    → patterns-lts.Need-slice-aggregate-above (called t) (patterns-at t) patterns.Post patterns-Inv-loop patterns-μ-loop
+patterns-slice-aggregate-above t c =
+    let own = length-counts t (first t (c .before .before)) in
+    search (needs, own)
+
 patterns-above-requires : (t : ℕ)
     → patterns-lts.Need-above-requires (called t) (patterns-at t) patterns.Post patterns-Inv-loop patterns-μ-loop
 patterns-above-requires t c κs =
-    let s = first t (c .before .before .before) in
+    let s = first t (c .before .before .before .before) in
     let row = high t s .chunks in
-    (s .pre .1 .0 .0, (s .pre .1 .0 .1, (omega (arith, s .pre .1 .1 .1 .0 .hand), omega arith)))
+    (s .pre .1 .0 .0, (s .pre .1 .0 .1, ((omega (arith, s .pre .1 .1 .1 .0 .hand), counts-fit t s), omega arith)))
 
 patterns-same-length-3 : (t : ℕ)
     → patterns-lts.Need-same-length-3 (called t) (patterns-at t) patterns.Post patterns-Inv-loop patterns-μ-loop
@@ -621,10 +636,12 @@ pub +patterns-spec : {M : Type 1} → statement M
     patterns-Inv-loop
     patterns-μ-loop
     (patterns-sub-i t)
+    (patterns-slice-aggregate-near-anchor t)
     (patterns-near-anchor-requires t)
     (patterns-same-length t)
     (patterns-same-length-2 t)
     (patterns-returns t)
+    (patterns-slice-aggregate-above t)
     (patterns-above-requires t)
     (patterns-same-length-3 t)
     (patterns-same-length-4 t)

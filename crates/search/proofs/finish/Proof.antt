@@ -57,8 +57,13 @@ anchor-near l numbers y held desk given small a e x sent near =
 heavy-of-requires : tie.Need-heavy-of-requires
 heavy-of-requires c κs = let s = entry c in (few s, s .pre .1 .1 .0)
 
+slice-aggregate-add-row : tie.Need-slice-aggregate-add-row
+slice-aggregate-add-row c = let hand = long (start (c .before .before .before .before)) in search (needs, hand)
+
 add-row-requires : tie.Need-add-row-requires
-add-row-requires c κs = search needs
+add-row-requires c κs =
+    let s = start (c .before .before .before .before .before) in
+    (s .pre .0, (omega (arith, long s, chunks s), s .pre .1 .0))
 
 same-length : tie.Need-same-length
 same-length c = search needs
@@ -66,14 +71,14 @@ same-length c = search needs
 returns : tie.Need-returns
 returns c =
     let r = c .before .before in
-    let h = r .before .before .before .before .before in
+    let h = r .before .before .before .before .before .before in
     let s = start h in
     let a = s .args in
     let low = legal-bounds (a .l) (s .pre .0 .is-legal) .l2-low in
     let f = h .heavy-of in
     grown-weaken
     (λ x k u. all-in-hand (a .l) (a .y .now) (a .pattern .counts) (f .result .heavy) (f .result .left) (f .ensures) low
-    (r .before .before .if1 .taken) _ x u)
+    (r .before .before .before .if1 .taken) _ x u)
     (r .add-row .ensures)
 
 is-set-requires : tie.Need-is-set-requires
@@ -182,6 +187,7 @@ finish-spec =
     tie.close
     (tie.spec
     heavy-of-requires
+    slice-aggregate-add-row
     add-row-requires
     same-length
     returns
