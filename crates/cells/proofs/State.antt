@@ -1,11 +1,11 @@
 -- The rows under a state: what is known of a block or a chunk-string by the losses that are still open in it, and what
 -- a cell that is found changes. Assumes nothing.
-use Prim.Native.Nat.{ℕ, _+_, _*_, _<_}
+use Prim.Native.Nat.{ℕ, _+_, _*_, _/_, _%_, _<_}
 use mathlib.Core.Path.{_≡_, refl, sym, ap, _∙_}
 use mathlib.Core.Bool.{Bool, true, false}
 use mathlib.Core.Logic.{_⊎_, inl, inr, ⊎-elim}
 use mathlib.Core.List.{List}
-use native.Mathlib.Nat.{mul-one, add-comm}
+use native.Mathlib.Nat.{mul-one, add-comm, mod-lt, div-lt-iff-lt-mul, div-add-mod'}
 use native.Mathlib.Omega.{arith}
 use borrow.Author.Tests.{eqb-true, eqb-false}
 use lib.Dec.{eqb}
@@ -15,6 +15,7 @@ use Rattle.bits.specs.Bits.{mostChunks, digits}
 use Rattle.bits.proofs.Laws.{set-zero}
 use Rattle.message.specs.Layout.{legal}
 use Rattle.message.specs.declared.Layout.{Layout}
+use Rattle.message.proofs.Fields.{field-room}
 use Rattle.message.proofs.Legal.{chunk-lies}
 use Rattle.consistent.specs.Greedy.{losses}
 use Rattle.lines.specs.Lines.{values, line}
@@ -33,6 +34,10 @@ same-or-not a b = go (eqb a b) refl
 -- chunk j of block i, counted in row order, is one of a row's
 pub chunk-low : (l : Layout) → legal l ≡ true → (i j : ℕ) → i < l .l1 → j < l .l2 → i * l .l2 + j < mostChunks
 chunk-low l e i j h g = chunk-lies l e i j h g .low
+
+-- and one of the layout's
+pub chunk-inside : (l : Layout) (i j : ℕ) → i < l .l1 → j < l .l2 → i * l .l2 + j < l .l1 * l .l2
+chunk-inside l i j h g = omega (arith, field-room (l .l1) (l .l2) i h)
 
 -- ---- the open cells of a block or a column
 module _ (cells : Cells) (keys : List ℕ) (n : length keys ≡ 12) where
@@ -105,6 +110,13 @@ module _ (l : Layout) (y : List ℕ) (cells : Cells) (row x : List ℕ) (u : Und
   pub in-hand : (i j : ℕ) → i < l .l1 → j < l .l2 → (OpenAt cells i j → ⊥)
       → getD (values l x) (i * l .l2 + j) 0 ≡ getD row (i * l .l2 + j) 0
   in-hand i j h g n = ⊎-elim (λ o. absurd (n o)) (λ e. e) (u .decided .at i j h g)
+
+  -- the same of a chunk that is given by its number in row order
+  pub chunk-in-hand : 0 < l .l2 → (c : ℕ) → c < l .l1 * l .l2 → (OpenAt cells (c / l .l2) (c % l .l2) → ⊥)
+      → getD (values l x) c 0 ≡ getD row c 0
+  chunk-in-hand low c h none =
+      let i : c / l .l2 < l .l1 = div-lt-iff-lt-mul {k = l .l2} {x = c} {y = l .l1} low .1 h in
+      rw (div-add-mod' c (l .l2)) at (in-hand (c / l .l2) (c % l .l2) i (mod-lt c low) none)
 
   -- ---- a chunk-string, and a block, without open losses: all its chunks are those in hand
   pub closed-column : (j : ℕ) → length (cells .column) ≡ 12 → j < l .l2 → share (cells .column) (cells .lost) j ≡ 0

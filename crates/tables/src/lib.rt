@@ -119,7 +119,7 @@ fn mend_table(
 {
     let left = t.left;
     if none_left(left) {
-        return kept;
+        return turns::mend_strings(l, y, numbers, t.cells, row, cap, list, kept);
     }
     kept
 }
