@@ -1,6 +1,6 @@
 #!/usr/bin/env bash
-# Proves every crate (rt ci), then builds the static library, runs the Rust tests over it and those of the tool film, and tries
-# the installation. The very last line is 'N passed, M failed', the counts of all together. A step that breaks without saying how
+# Looks at the must-fail edits, proves every crate (rt ci), then builds the static library, runs the Rust tests over it and those
+# of the tool film, and tries the installation. The very last line is 'N passed, M failed', the counts of all together. A step that breaks without saying how
 # many failed counts as one failed. Exit status 0 only if nothing failed.
 set -u
 
@@ -66,6 +66,7 @@ count_step() {
     passed=$((passed + 1))
 }
 
+count_step tools/edits.sh
 count_proofs
 run rt staticlib dairyhour || broke "the static library could not be built"
 # The program that the proofs were compiled to, for the tests that run it.

@@ -372,14 +372,23 @@ fn all_patterns(
     )
 }
 
-// All consistent rows where bits were lost. Where it is only one an anchor is not worth its preparation: the desk is too short for it.
+// Whether an anchor is worth its preparation, with r checks and so many lost bits: without checks it leaves out only itself, and with one lost
+// bit there is little to leave out.
+fn anchor_pays(r: usize, lost: usize) -> bool {
+    if r == 0 {
+        return false;
+    }
+    2 <= lost
+}
+
+// All consistent rows where bits were lost. Where an anchor does not pay, the desk is too short for it.
 fn some_lost(l: Layout, y: &[u8], numbers: &[u16], cap: usize, list: &mut [u8]) -> Kept
     requires { ⌜ Given l (now numbers) (now y) × (cap * bytesFor (rowBits l) ≤ length (now list)) ⌝ }
     ensures { λ r. ⌜ Listed l (now (numbers .entry)) (now (y .entry)) cap (now (list .entry)) (now (list .exit))
         (r .count) (r .more) ⌝ }
 {
     let lost = l.l1 * l.l2 * l.nc - y.len();
-    if lost < 2 {
+    if !anchor_pays(l.r, lost) {
         let mut short: [u8; 1] = [0; 1];
         return all_patterns(l, y, numbers, &mut short, cap, list);
     }

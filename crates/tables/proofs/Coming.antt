@@ -67,11 +67,11 @@ pub left-own : {l : Layout} {y : List ℕ} {heavy : Heavy} {j : ℕ} {t : Table}
 left-own {j = j} u s h = omega (arith, rw (reached-not j 0 s (omega arith)) at (u .shifts s h))
 
 -- rows that are known stay so while the rows held grow
-pub near-stays : {l : Layout} {numbers y : List ℕ} {cap : ℕ} {P : List ℕ → Type 0} {entry exit : List ℕ} {c d : ℕ}
+pub near-stays : (l : Layout) (numbers y : List ℕ) {cap : ℕ} {P : List ℕ → Type 0} {entry exit : List ℕ} {c d : ℕ}
     {m o : Bool} (z : List ℕ) (room : ℕ) → Holding l numbers y cap entry c m
     → Grown l numbers y cap P entry c m exit d o → NearKnown l numbers y (rowsIn (rowBits l) entry c m) z room
     → NearKnown l numbers y (rowsIn (rowBits l) exit d o) z room
-near-stays z room h g near x sent few =
+near-stays l numbers y z room h g near x sent few =
     subst (λ (s : Held). Known s x) (sym (grown-rows h g)) (known-stays (h .well) (g .found) x (near x sent few))
 
 -- ---- numbers and their states

@@ -147,7 +147,7 @@ module _ {l : Layout} {y totals counts numbers : List ℕ} {heavy : Heavy} {shap
             shaped = shape-next stepped went (going .shaped) (going .shaped .within);
             at-top = state-next stepped went (going .shaped) ∙ going .at-top;
             looked = looked-next few (going .looked);
-            near = near-stays z room (going .holding) g (going .near);
+            near = near-stays l numbers y z room (going .holding) g (going .near);
             joins = λ exit h p k.
                 joined
                 (grown-weaken

@@ -34,8 +34,8 @@ counted : (s : tie.Start) → s .args .l .l1 ≤ length (s .args .pattern .count
 counted s = let n : length (s .args .pattern .counts) ≡ mostInLine = search needs in omega (arith, few s)
 
 -- where the function starts, seen from the call of `heavy_of`
-abbrev entry : tie.After-slice-known → tie.Start
-entry c = c .before .before .before .before .before .before
+abbrev entry : tie.After-slice-known2 → tie.Start
+entry c = c .before .before .before .before .before .before .before
 
 -- the function's entry
 abbrev start : tie.After-heavy-of → tie.Start
@@ -60,7 +60,10 @@ add-row-requires c κs =
     (s .pre .0, (s .pre .1 .1 .0 .1, s .pre .1 .0))
 
 same-length : tie.Need-same-length
-same-length c = search needs
+same-length c = refl
+
+same-length-2 : tie.Need-same-length-2
+same-length-2 c = c .before .before .add-row .kept .1 .1 .1 .1 .1 .0
 
 returns : tie.Need-returns
 returns c =
@@ -87,6 +90,9 @@ add-near c =
     let s = start (at-heavy (c .before .before)) in
     omega (arith, legal-bounds (s .args .l) (s .pre .0 .is-legal) .r-high)
 
+add-behind : tie.Need-add-behind
+add-behind c = search needs
+
 sub-tables : tie.Need-sub-tables
 sub-tables c = search needs
 
@@ -99,19 +105,19 @@ is-anchored c = sym (c .before .is-set .ensures) ∙ c .if2 .taken
 
 part-tables-end : tie.Need-part-tables-end
 part-tables-end c =
-    let s = start (at-heavy (c .before .before)) in
-    omega (arith, set-long (s .args .desk .now) (is-anchored (c .before)))
+    let s = start (at-heavy (c .before .before .before)) in
+    omega (arith, set-long (s .args .desk .now) (is-anchored (c .before .before)))
 
 tables-requires : tie.Need-tables-requires
 tables-requires c κs =
-    let h = at-heavy (c .before .before .before .before) in
+    let h = at-heavy (c .before .before .before .before .before) in
     let s = start h in
     let a = s .args in
     let f = h .heavy-of in
     let sound =
     starts-sound (a .l) (a .pattern .counts) (f .result .heavy) _ (f .ensures) refl (zeros-at 12) (length (a .y .now))
     (s .pre .1 .1 .0 .0) in
-    let set = is-anchored (c .before .before .before) in
+    let set = is-anchored (c .before .before .before .before) in
     let part = anchor-part (a .desk .now) set in (
       (s .pre .0, s .pre .1 .0),
       (
@@ -127,13 +133,16 @@ tables-requires c κs =
       ),
     )
 
-same-length-2 : tie.Need-same-length-2
-same-length-2 c = search needs
+same-length-3 : tie.Need-same-length-3
+same-length-3 c = c .before .before .before .before .tables .kept .1 .1 .1 .1 .1 .1 .1 .0
+
+same-length-4 : tie.Need-same-length-4
+same-length-4 c = c .before .before .before .before .tables .kept .1 .1 .1 .1 .1 .1 .1 .1 .1 .1 .1 .0
 
 returns-2 : tie.Need-returns-2
 returns-2 c =
-    let q = c .before .before in
-    let h = at-heavy (q .before .before .before .before .before) in
+    let q = c .before .before .before .before in
+    let h = at-heavy (q .before .before .before .before .before .before) in
     let s = start h in
     let a = s .args in
     let f = h .heavy-of in
@@ -147,7 +156,7 @@ slice-aggregate-tables c = search needs
 
 tables-requires-2 : tie.Need-tables-requires-2
 tables-requires-2 c κs =
-    let h = at-heavy (c .before .before .before) in
+    let h = at-heavy (c .before .before .before .before) in
     let s = start h in
     let a = s .args in
     let f = h .heavy-of in
@@ -161,13 +170,16 @@ tables-requires-2 c κs =
       ),
     )
 
-same-length-3 : tie.Need-same-length-3
-same-length-3 c = search needs
+same-length-5 : tie.Need-same-length-5
+same-length-5 c = c .before .before .before .before .tables2 .kept .1 .1 .1 .1 .1 .1 .1 .0
+
+same-length-6 : tie.Need-same-length-6
+same-length-6 c = c .before .before .before .before .tables2 .kept .1 .1 .1 .1 .1 .1 .1 .1 .1 .1 .1 .0
 
 returns-3 : tie.Need-returns-3
 returns-3 c =
-    let q = c .before .before in
-    let h = at-heavy (q .before .before .before .before) in
+    let q = c .before .before .before .before in
+    let h = at-heavy (q .before .before .before .before .before) in
     let s = start h in
     let a = s .args in
     let f = h .heavy-of in
@@ -183,16 +195,20 @@ finish-spec =
     heavy-of-requires
     add-row-requires
     same-length
+    same-length-2
     returns
     is-set-requires
     add-near
+    add-behind
     sub-tables
     part-tables-start
     part-tables-end
     tables-requires
-    same-length-2
+    same-length-3
+    same-length-4
     returns-2
     slice-aggregate-tables
     tables-requires-2
-    same-length-3
+    same-length-5
+    same-length-6
     returns-3)

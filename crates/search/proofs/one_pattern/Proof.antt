@@ -44,24 +44,36 @@ slice-aggregate-copy-to c = search needs
 copy-to-requires : tie.Need-copy-to-requires
 copy-to-requires c κs = omega (arith, start (c .before .before) .pre .1 .1 .0 .0)
 
+slice-aggregate-finish : tie.Need-slice-aggregate-finish
+slice-aggregate-finish c = search needs
+
 finish-requires : tie.Need-finish-requires
 finish-requires c κs =
-    let e = c .before .before .before .before in
+    let e = c .before .before .before .before .before in
     let s = start (e .before) in
     let k = s .pre .0 .few in
-    (s .pre .0, (s .pre .1 .0, (omega (arith, e .if1 .left, s .pre .1 .1 .0 .1), s .pre .1 .1 .1)))
+    let long = c .before .before .before .copy-to .kept .1 .0 in (
+      s .pre .0,
+      (
+        s .pre .1 .0,
+        (
+          (omega (arith, e .if1 .left, s .pre .1 .1 .0 .1), omega (arith, high s .chunks, long)),
+          s .pre .1 .1 .1,
+        ),
+      ),
+    )
 
 same-length : tie.Need-same-length
-same-length c = search needs
+same-length c = c .before .before .before .finish .kept .1 .1 .1 .1 .1 .1 .1 .1 .1 .0
 
 returns-2 : tie.Need-returns-2
 returns-2 c =
-    let k = c .before .before .before .before .before in
+    let k = c .before .before .before .before .before .before .before in
     let s = start (k .before .before .before) in
     let a = s .args in
     let n = s .pre .1 .1 .0 .0 in
     let hand = copied (a .row .now) (replicate mostChunks 0) (k .copy-to .last .1 .0) (omega arith) (k .copy-to .ensures) in
-    rw hand at (c .before .before .finish .ensures)
+    rw hand at (c .before .before .before .finish .ensures)
 
 pub one-pattern-spec : {M : Type 1} → statement M
 one-pattern-spec =
@@ -73,6 +85,7 @@ one-pattern-spec =
     returns
     slice-aggregate-copy-to
     copy-to-requires
+    slice-aggregate-finish
     finish-requires
     same-length
     returns-2)

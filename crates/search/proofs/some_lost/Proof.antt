@@ -22,12 +22,15 @@ mul-lost-2 c = omega (arith, size (start c) .row)
 sub-lost : tie.Need-sub-lost
 sub-lost c = start c .pre .0 .short
 
+anchor-pays-requires : tie.Need-anchor-pays-requires
+anchor-pays-requires c κs = search needs
+
 slice-aggregate-all-patterns : tie.Need-slice-aggregate-all-patterns
 slice-aggregate-all-patterns c = search needs
 
 all-patterns-requires : tie.Need-all-patterns-requires
 all-patterns-requires c κs =
-    let s = start (c .before .before .before) in
+    let s = start (c .before .before .before .before) in
     (s .pre .0, (s .pre .1, refl))
 
 same-length : tie.Need-same-length
@@ -41,7 +44,7 @@ slice-aggregate-all-patterns-2 c = search needs
 
 all-patterns-requires-2 : tie.Need-all-patterns-requires-2
 all-patterns-requires-2 c κs =
-    let s = start (c .before .before .before) in
+    let s = start (c .before .before .before .before) in
     (s .pre .0, (s .pre .1, refl))
 
 same-length-2 : tie.Need-same-length-2
@@ -57,6 +60,7 @@ some-lost-spec =
     mul-lost
     mul-lost-2
     sub-lost
+    anchor-pays-requires
     slice-aggregate-all-patterns
     all-patterns-requires
     same-length

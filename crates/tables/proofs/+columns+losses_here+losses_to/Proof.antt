@@ -562,7 +562,7 @@ losses-here-losses-to-requires t c κs =
     omega (arith, i .loop-test .taken, n .before .number-of .ensures)
     in
     let holding = grown-holding (p .1 .0) (v .0) in
-    let near = near-stays (a .z .now) (a .room) (p .1 .0) (v .0) (p .1 .1 .1 .1 .1 .1) in
+    let near = near-stays (a .l) (a .numbers .now) (a .y .now) (a .z .now) (a .room) (p .1 .0) (v .0) (p .1 .1 .1 .1 .1 .1) in
 
     let of = p .1 .1 .1 .1 .0 in
     let looked = p .1 .1 .1 .1 .1 .0 in (
