@@ -10,7 +10,7 @@ use lib.Seq.{getD-set-other}
 use Rattle.bits.proofs.Laws.{lt-or-ge}
 use Rattle.message.specs.declared.Layout.{Layout}
 use Rattle.message.proofs.Fields.{field-room}
-use Rattle.cells.specs.Cells.{OpenAt, SameBut, Under, found}
+use Rattle.cells.specs.Cells.{chunkOf, Open, OpenAt, SameBut, Under, found}
 use Rattle.cells.specs.declared.Cells.{Cells}
 use Rattle.cells.proofs.State.{same-or-not, open-before}
 
@@ -58,6 +58,17 @@ module _ {l : Layout} {free : ℕ → ℕ → Type 0} where
 -- the cells that are open when one is found were open before
 pub still-open : (cells : Cells) (z i c : ℕ) → OpenAt (found cells z) i c → OpenAt cells i c
 still-open cells z i c o = (o .0, (open-before cells z (o .0) (o .1 .0) .1, o .1 .1))
+
+-- the chunk of an open cell may be set
+pub cell-set : (l : Layout) (cells : Cells) (z v : ℕ) → Open cells z → getD (cells .column) z 0 < l .l2 → {row : List ℕ}
+    → SameBut l (OpenAt cells) row (set row (chunkOf l cells z) v)
+cell-set l cells z v o low =
+    same-set (getD (cells .block) z 0) (getD (cells .column) z 0) v low (z, (o, (refl, refl))) same-refl
+
+-- what is free once a cell is found was free before
+pub same-found : {l : Layout} (cells : Cells) (z : ℕ) {a b : List ℕ} → SameBut l (OpenAt (found cells z)) a b
+    → SameBut l (OpenAt cells) a b
+same-found cells z = same-wider (λ i c h g. still-open cells z i c)
 
 -- the rows under a state are the same for rows in hand that are the same but for the open cells; `same-sym` gives the
 -- other way

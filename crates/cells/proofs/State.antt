@@ -1,17 +1,17 @@
 -- The rows under a state: what is known of a block or a chunk-string by the losses that are still open in it, and what
 -- a cell that is found changes. Assumes nothing.
-use Prim.Native.Nat.{ℕ, _+_, _*_, _<_}
+use Prim.Native.Nat.{ℕ, _+_, _*_, _/_, _%_, _<_}
 use mathlib.Core.Path.{_≡_, refl, sym, ap, _∙_}
 use mathlib.Core.Bool.{Bool, true, false}
 use mathlib.Core.Logic.{_⊎_, inl, inr, ⊎-elim}
 use mathlib.Core.List.{List}
-use native.Mathlib.Nat.{mul-one, add-comm}
+use native.Mathlib.Nat.{mul-one, add-comm, mod-lt, div-lt-iff-lt-mul, div-add-mod'}
 use native.Mathlib.Omega.{arith}
 use borrow.Author.Tests.{eqb-true, eqb-false}
 use lib.Dec.{eqb}
 use lib.ListN.{length, getD, drop, set}
 use lib.Seq.{getD-set-same, getD-set-other}
-use Rattle.bits.specs.Bits.{digits}
+use Rattle.bits.specs.Bits.{mostChunks, digits}
 use Rattle.bits.proofs.Laws.{set-zero}
 use Rattle.message.specs.Layout.{legal}
 use Rattle.message.specs.declared.Layout.{Layout}
@@ -31,9 +31,13 @@ same-or-not a b = go (eqb a b) refl
     go true e = inl (eqb-true a b e)
     go false e = inr (eqb-false a b e)
 
--- chunk j of block i, counted in row order, is one of at most 255
-pub chunk-low : (l : Layout) → legal l ≡ true → (i j : ℕ) → i < l .l1 → j < l .l2 → i * l .l2 + j < 255
+-- chunk j of block i, counted in row order, is one of a row's
+pub chunk-low : (l : Layout) → legal l ≡ true → (i j : ℕ) → i < l .l1 → j < l .l2 → i * l .l2 + j < mostChunks
 chunk-low l e i j h g = omega (arith, sizes l (legal-bounds l e) .chunks, field-room (l .l1) (l .l2) i h)
+
+-- and one of the layout's
+pub chunk-inside : (l : Layout) (i j : ℕ) → i < l .l1 → j < l .l2 → i * l .l2 + j < l .l1 * l .l2
+chunk-inside l i j h g = omega (arith, field-room (l .l1) (l .l2) i h)
 
 -- ---- the open cells of a block or a column
 module _ (cells : Cells) (keys : List ℕ) (n : length keys ≡ 12) where
@@ -106,6 +110,13 @@ module _ (l : Layout) (y : List ℕ) (cells : Cells) (row x : List ℕ) (u : Und
   pub in-hand : (i j : ℕ) → i < l .l1 → j < l .l2 → (OpenAt cells i j → ⊥)
       → getD (values l x) (i * l .l2 + j) 0 ≡ getD row (i * l .l2 + j) 0
   in-hand i j h g n = ⊎-elim (λ o. absurd (n o)) (λ e. e) (u .decided .at i j h g)
+
+  -- the same of a chunk that is given by its number in row order
+  pub chunk-in-hand : 0 < l .l2 → (c : ℕ) → c < l .l1 * l .l2 → (OpenAt cells (c / l .l2) (c % l .l2) → ⊥)
+      → getD (values l x) c 0 ≡ getD row c 0
+  chunk-in-hand low c h none =
+      let i : c / l .l2 < l .l1 = div-lt-iff-lt-mul {k = l .l2} {x = c} {y = l .l1} low .1 h in
+      rw (div-add-mod' c (l .l2)) at (in-hand (c / l .l2) (c % l .l2) i (mod-lt c low) none)
 
   -- ---- a chunk-string, and a block, without open losses: all its chunks are those in hand
   pub closed-column : (j : ℕ) → length (cells .column) ≡ 12 → j < l .l2 → share (cells .column) (cells .lost) j ≡ 0

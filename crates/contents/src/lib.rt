@@ -124,10 +124,10 @@ pub fn asked(
     stride: usize,
     count: usize,
     t: usize,
-    row: &[u8; 255],
+    row: &[u8],
     want: usize,
 ) -> Ask
-    requires { ⌜ Inside nc start stride count 255 × ((0 < stride) × (t < count)) ⌝ }
+    requires { ⌜ Inside nc start stride count (length (now row)) × ((0 < stride) × (t < count)) ⌝ }
     ensures { λ r. ⌜ Small r × ((v : ℕ)
         → sum (line nc start stride count (set (now (row .entry)) (start + t * stride) v)) ≡ want → Allows nc r v) ⌝ }
 {

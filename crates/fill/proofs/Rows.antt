@@ -1,26 +1,49 @@
 -- What is known of a consistent row under a state: a line of chunks at most one of which is open has its sum, and its
 -- chunk at a cell is one of the contents tried. Rests on the laws of lines, found and cells. Assumes nothing.
-use Prim.Native.Nat.{ℕ, _+_, _*_, _<_}
+use Prim.Native.Nat.{ℕ, _+_, _*_, _<_, _≤_}
 use mathlib.Core.Path.{_≡_, refl, sym, ap, _∙_}
+use mathlib.Core.Bool.{true}
 use mathlib.Core.Logic.{_⊎_, inl, inr, ⊎-elim}
 use mathlib.Core.List.{List}
 use native.Mathlib.Nat.{add-comm, mul-one}
 use native.Mathlib.Omega.{arith}
 use lib.ListN.{length, getD, set}
+use Rattle.bits.specs.Bits.{mostChunks}
 use Rattle.bits.proofs.Laws.{lt-or-ge}
 use Rattle.vt.specs.Sum.{sum}
+use Rattle.message.specs.Layout.{legal}
 use Rattle.message.specs.declared.Layout.{Layout}
 use Rattle.message.proofs.Fields.{field-room}
+use Rattle.message.proofs.Legal.{legal-bounds}
 use Rattle.consistent.specs.Greedy.{inAll}
-use Rattle.lines.specs.Lines.{values, line}
-use Rattle.lines.proofs.Lines.{block-line, string-line}
+use Rattle.erasures.specs.Erasures.{weight}
+use Rattle.lines.specs.Lines.{values, line, Inside}
+use Rattle.lines.proofs.Lines.{block-line, string-line, block-inside, string-inside}
 use Rattle.found.specs.Found.{Given, Sent, InHand}
 use Rattle.found.proofs.Found.{sent-parts}
 use Rattle.cells.specs.Cells.{share, chunkOf, Open, Placed, Under, found}
 use Rattle.cells.specs.declared.Cells.{Cells}
 use Rattle.cells.proofs.Shares.{all-found}
-use Rattle.cells.proofs.State.{decide, closed-column, closed-block}
+use Rattle.cells.proofs.State.{chunk-inside, decide, chunk-in-hand, closed-column, closed-block}
+use Rattle.recover.proofs.Weights.{weight-none}
 use Rattle.fill.specs.Fill.{AllLose, With, Tried}
+
+-- ---- the lines of a layout stand in a row in hand
+module _ (l : Layout) (e : legal l ≡ true) (size : ℕ) (h : l .l1 * l .l2 ≤ size) where
+  pub block-within : (i : ℕ) → i < l .l1 → Inside (l .nc) (i * l .l2) 1 (l .l2) size
+  block-within i k =
+      let n = block-inside l e (mostChunks + size) (omega arith) i k in
+      record {
+        nc-high = n .nc-high;
+        short = n .short;
+        stride-high = n .stride-high;
+        last = omega (arith, mul-one (l .l2), field-room (l .l1) (l .l2) i k);
+      }
+
+  pub string-within : (j : ℕ) → j < l .l2 → Inside (l .nc) j (l .l2) (l .l1) size
+  string-within j k =
+      let n = string-inside l e (mostChunks + size) (omega arith) j k in
+      record { nc-high = n .nc-high; short = n .short; stride-high = n .stride-high; last = omega arith }
 
 -- ---- one consistent row under a state
 module _ {l : Layout} {numbers y x : List ℕ} (given : Given l numbers y) (s : Sent l numbers y x)
@@ -68,14 +91,20 @@ module _ {l : Layout} {numbers y x : List ℕ} (given : Given l numbers y) (s : 
       rw (mul-one (getD (cells .column) z 0))
       (block-has given s (decide l y cells row x u z own h refl) (getD (cells .block) z 0) n g e)
 
+-- where no cell is open, a row under the state is the one in hand
+pub closed-in-hand : {l : Layout} {y : List ℕ} {cells : Cells} {row x : List ℕ} → legal l ≡ true
+    → weight (cells .lost) ≡ 0 → Under l y cells row x → InHand l row x
+closed-in-hand {l} {y} {cells} {row} {x} e none u c h =
+    chunk-in-hand l y cells row x u (legal-bounds l e .l2-low) c h
+    (λ o. omega (arith, weight-none (cells .lost) none (o .0), o .1 .0 .1))
+
 -- where a row under the state is the one in hand, each open cell loses just its count there
 pub in-hand-loses : (l : Layout) (y : List ℕ) (cells : Cells) → Placed l (length y) cells
     → (hand : List ℕ) {row x : List ℕ}
     → Under l y cells row x → InHand l hand x → AllLose l y cells hand
 in-hand-loses l y cells p hand u h z o =
     let q = p z o in
-    let room = field-room (l .l1) (l .l2) (getD (cells .block) z 0) (q .0) in
-    let low : chunkOf l cells z < l .l1 * l .l2 = omega (arith, q .1 .0) in
+    let low = chunk-inside l (getD (cells .block) z 0) (getD (cells .column) z 0) (q .0) (q .1 .0) in
     rw (h (chunkOf l cells z) low) at (u .loses z o)
 
 -- ---- the contents of a cell, one after another

@@ -5,7 +5,6 @@
 use cells::Cells;
 use contents::Ask;
 use message::Layout;
-use recover::Erased;
 use rows::Kept;
 ghost use mathlib.Core.Path.{_≡_};
 ghost use mathlib.Core.Bool.{true};
@@ -16,10 +15,10 @@ ghost use lib.ListN.{length, getD, set};
 ghost use Rattle.message.specs.Layout.{legal};
 ghost use Rattle.lines.specs.Lines.{values};
 ghost use Rattle.found.specs.Found.{Given, Sent, Holding, Grown};
-ghost use Rattle.cells.specs.Cells.{share, NoSingle, chunkOf, Open, Placed, Under};
+ghost use Rattle.erasures.specs.Erasures.{weight};
+ghost use Rattle.cells.specs.Cells.{share, NoSingle, chunkOf, Open, OpenAt, Placed, SameBut, Under};
 ghost use Rattle.contents.specs.Asks.{Small};
 ghost use Rattle.contents.specs.Contents.{Among};
-ghost use Rattle.recover.specs.Recover.{OpenInside, Collected};
 ghost use Rattle.fill.specs.Fill.{Asks, AllLose, With};
 
 // A number of a message as a number of any size.
@@ -83,10 +82,10 @@ fn choose(cells: Cells) -> usize
 }
 
 // What the sum of its chunk-string asks of cell z: nothing where another cell is open there.
-fn ask_string(l: Layout, numbers: &[u16], cells: Cells, row: [u8; 255], z: usize) -> Ask
-    requires { ⌜ (legal l ≡ true) × ((length (now numbers) ≡ l .l1 + l .l2 + l .r)
+fn ask_string(l: Layout, numbers: &[u16], cells: Cells, row: &[u8], z: usize) -> Ask
+    requires { ⌜ ((legal l ≡ true) × (l .l1 * l .l2 ≤ length (now row))) × ((length (now numbers) ≡ l .l1 + l .l2 + l .r)
         × ((z < 12) × ((getD (cells .block) z 0 < l .l1) × (getD (cells .column) z 0 < l .l2)))) ⌝ }
-    ensures { λ r. ⌜ Small r × Asks l (now (numbers .entry)) cells row z r ⌝ }
+    ensures { λ r. ⌜ Small r × Asks l (now (numbers .entry)) cells (now (row .entry)) z r ⌝ }
 {
     let column = cells.column;
     let lost = cells.lost;
@@ -96,14 +95,14 @@ fn ask_string(l: Layout, numbers: &[u16], cells: Cells, row: [u8; 255], z: usize
     let i = bits::wide(cells.block[z]);
     let j = bits::wide(column[z]);
     let k = l.l1 + j;
-    contents::asked(l.nc, j, l.l2, l.l1, i, &row, wide(numbers[k]))
+    contents::asked(l.nc, j, l.l2, l.l1, i, row, wide(numbers[k]))
 }
 
 // The same of its block.
-fn ask_block(l: Layout, numbers: &[u16], cells: Cells, row: [u8; 255], z: usize) -> Ask
-    requires { ⌜ (legal l ≡ true) × ((length (now numbers) ≡ l .l1 + l .l2 + l .r)
+fn ask_block(l: Layout, numbers: &[u16], cells: Cells, row: &[u8], z: usize) -> Ask
+    requires { ⌜ ((legal l ≡ true) × (l .l1 * l .l2 ≤ length (now row))) × ((length (now numbers) ≡ l .l1 + l .l2 + l .r)
         × ((z < 12) × ((getD (cells .block) z 0 < l .l1) × (getD (cells .column) z 0 < l .l2)))) ⌝ }
-    ensures { λ r. ⌜ Small r × Asks l (now (numbers .entry)) cells row z r ⌝ }
+    ensures { λ r. ⌜ Small r × Asks l (now (numbers .entry)) cells (now (row .entry)) z r ⌝ }
 {
     let block = cells.block;
     let lost = cells.lost;
@@ -112,7 +111,7 @@ fn ask_block(l: Layout, numbers: &[u16], cells: Cells, row: [u8; 255], z: usize)
     }
     let i = bits::wide(block[z]);
     let j = bits::wide(cells.column[z]);
-    contents::asked(l.nc, i * l.l2, 1, l.l2, j, &row, wide(numbers[i]))
+    contents::asked(l.nc, i * l.l2, 1, l.l2, j, row, wide(numbers[i]))
 }
 
 // Lists the contents of cell z, which is open, that lose just its count and that its sums allow; the answer is how many they are.
@@ -121,14 +120,15 @@ fn list_contents(
     y: &[u8],
     numbers: &[u16],
     cells: Cells,
-    row: [u8; 255],
+    row: &[u8],
     z: usize,
     out: &mut [u8],
 ) -> usize
-    requires { ⌜ Given l (now numbers) (now y) × ((Placed l (length (now y)) cells × Open cells z)
-        × (256 ≤ length (now out))) ⌝ }
+    requires { ⌜ (Given l (now numbers) (now y) × (l .l1 * l .l2 ≤ length (now row)))
+        × ((Placed l (length (now y)) cells × Open cells z) × (256 ≤ length (now out))) ⌝ }
     ensures { λ r. ⌜ (r ≤ 256) × ((x : List ℕ) → Sent l (now (numbers .entry)) (now (y .entry)) x
-        → Under l (now (y .entry)) cells row x → Among (now (out .exit)) 0 r (getD (values l x) (chunkOf l cells z) 0)) ⌝ }
+        → Under l (now (y .entry)) cells (now (row .entry)) x
+        → Among (now (out .exit)) 0 r (getD (values l x) (chunkOf l cells z) 0)) ⌝ }
 {
     let all = contents::contents(l.nc, y, cells.place[z], cells.lost[z], out);
     let some = contents::sift(l.nc, ask_string(l, numbers, cells, row, z), out, all);
@@ -136,8 +136,8 @@ fn list_contents(
 }
 
 // Whether each open cell of the row in hand loses just its count: a row that fails is not under the state.
-fn all_lose(l: Layout, y: &[u8], cells: Cells, row: &[u8; 255]) -> bool
-    requires { ⌜ (legal l ≡ true) × Placed l (length (now y)) cells ⌝ }
+fn all_lose(l: Layout, y: &[u8], cells: Cells, row: &[u8]) -> bool
+    requires { ⌜ ((legal l ≡ true) × (l .l1 * l .l2 ≤ length (now row))) × Placed l (length (now y)) cells ⌝ }
     ensures { λ r. ⌜ (AllLose l (now (y .entry)) cells (now (row .entry)) → r ≡ true) ⌝ }
 {
     let mut z: usize = 0;
@@ -153,34 +153,36 @@ fn all_lose(l: Layout, y: &[u8], cells: Cells, row: &[u8; 255]) -> bool
     true
 }
 
-// The one row that the checks leave, where there are at most as many open cells as checks. The test of its open cells is much
-// quicker than that of the whole row, and most rows fail it.
+// The one row that the checks leave, where a cell is open and there are at most as many open cells as checks. The test of its open
+// cells is much quicker than that of the whole row, and most rows fail it.
 fn add_recovered(
     l: Layout,
     y: &[u8],
     numbers: &[u16],
     cells: Cells,
-    erased: Erased,
-    row: [u8; 255],
+    row: &mut [u8],
     cap: usize,
     list: &mut [u8],
     kept: Kept,
 ) -> Kept
-    requires { ⌜ Given l (now numbers) (now y) × (Holding l (now numbers) (now y) cap (now list) (kept .count) (kept .more)
-        × (Placed l (length (now y)) cells × (Collected l cells 12 (erased .n) (erased .places) × (erased .n ≤ l .r)))) ⌝ }
-    ensures { λ r. ⌜ Grown l (now (numbers .entry)) (now (y .entry)) cap (Under l (now (y .entry)) cells row)
-        (now (list .entry)) (kept .count) (kept .more) (now (list .exit)) (r .count) (r .more) ⌝ }
+    requires { ⌜ (Given l (now numbers) (now y) × (l .l1 * l .l2 ≤ length (now row)))
+        × (Holding l (now numbers) (now y) cap (now list) (kept .count) (kept .more)
+        × (Placed l (length (now y)) cells × ((0 < weight (cells .lost)) × (weight (cells .lost) ≤ l .r)))) ⌝ }
+    ensures { λ r. ⌜ Grown l (now (numbers .entry)) (now (y .entry)) cap (Under l (now (y .entry)) cells (now (row .entry)))
+        (now (list .entry)) (kept .count) (kept .more) (now (list .exit)) (r .count) (r .more)
+        × SameBut l (OpenAt cells) (now (row .entry)) (now (row .exit)) ⌝ }
 {
-    let whole = recover::recover(l, numbers, erased, &row);
-    if !all_lose(l, y, cells, &whole) {
+    let erased = recover::collect(l, cells);
+    recover::recover(l, numbers, erased, row);
+    if !all_lose(l, y, cells, row) {
         return kept;
     }
-    found::add_row(l, y, numbers, &whole, cap, list, kept)
+    found::add_row(l, y, numbers, row, cap, list, kept)
 }
 
 // How many cells are open.
 fn open_cells(lost: [u8; 12]) -> usize
-    ensures { λ r. ⌜ (r ≤ 12) × (((k : ℕ) → k < 12 → getD lost k 0 ≡ 0) → r ≡ 0) ⌝ }
+    ensures { λ r. ⌜ (r ≡ weight lost) × (r ≤ 12) ⌝ }
 {
     let mut n: usize = 0;
     let mut z: usize = 0;
@@ -193,46 +195,31 @@ fn open_cells(lost: [u8; 12]) -> usize
     n
 }
 
-// The open cells as erased chunks, or more of them than there are checks, where their places are not needed.
-fn few_erased(l: Layout, cells: Cells) -> Erased
-    requires { ⌜ ((legal l ≡ true) × OpenInside l cells) ⌝ }
-    ensures { λ r. ⌜ (r .n ≤ l .r → Collected l cells 12 (r .n) (r .places))
-        × (((k : ℕ) → k < 12 → getD (cells .lost) k 0 ≡ 0) → r .n ≤ l .r) ⌝ }
-{
-    let lost = cells.lost;
-    if l.r < open_cells(lost) {
-        return Erased {
-            n: l.r + 1,
-            places: [0; 12],
-        };
-    }
-    recover::collect(l, cells)
-}
-
 // The rows in which cell z, which is open, has the content v.
 fn try_content(
     l: Layout,
     y: &[u8],
     numbers: &[u16],
     cells: Cells,
-    row: [u8; 255],
+    row: &mut [u8],
     z: usize,
     v: u8,
     cap: usize,
     list: &mut [u8],
     kept: Kept,
 ) -> Kept
-    requires { ⌜ Given l (now numbers) (now y) × (Holding l (now numbers) (now y) cap (now list) (kept .count) (kept .more)
+    requires { ⌜ (Given l (now numbers) (now y) × (l .l1 * l .l2 ≤ length (now row)))
+        × (Holding l (now numbers) (now y) cap (now list) (kept .count) (kept .more)
         × (Placed l (length (now y)) cells × Open cells z)) ⌝ }
-    ensures { λ r. ⌜ Grown l (now (numbers .entry)) (now (y .entry)) cap (With l (now (y .entry)) cells row z v)
-        (now (list .entry)) (kept .count) (kept .more) (now (list .exit)) (r .count) (r .more) ⌝ }
+    ensures { λ r. ⌜ Grown l (now (numbers .entry)) (now (y .entry)) cap (With l (now (y .entry)) cells (now (row .entry)) z v)
+        (now (list .entry)) (kept .count) (kept .more) (now (list .exit)) (r .count) (r .more)
+        × SameBut l (OpenAt cells) (now (row .entry)) (now (row .exit)) ⌝ }
 {
     let at = recover::chunk_of(l, cells, z);
-    let mut filled = row;
-    filled[at] = v;
+    row[at] = v;
     let mut next = cells;
     next.lost[z] = 0;
-    try_contents(l, y, numbers, next, filled, cap, list, kept)
+    try_contents(l, y, numbers, next, row, cap, list, kept)
 }
 
 // Every content of cell z, which is open, that loses just its count and that its sums allow.
@@ -241,16 +228,18 @@ fn try_each(
     y: &[u8],
     numbers: &[u16],
     cells: Cells,
-    row: [u8; 255],
+    row: &mut [u8],
     z: usize,
     cap: usize,
     list: &mut [u8],
     kept: Kept,
 ) -> Kept
-    requires { ⌜ Given l (now numbers) (now y) × (Holding l (now numbers) (now y) cap (now list) (kept .count) (kept .more)
+    requires { ⌜ (Given l (now numbers) (now y) × (l .l1 * l .l2 ≤ length (now row)))
+        × (Holding l (now numbers) (now y) cap (now list) (kept .count) (kept .more)
         × (Placed l (length (now y)) cells × Open cells z)) ⌝ }
-    ensures { λ r. ⌜ Grown l (now (numbers .entry)) (now (y .entry)) cap (Under l (now (y .entry)) cells row)
-        (now (list .entry)) (kept .count) (kept .more) (now (list .exit)) (r .count) (r .more) ⌝ }
+    ensures { λ r. ⌜ Grown l (now (numbers .entry)) (now (y .entry)) cap (Under l (now (y .entry)) cells (now (row .entry)))
+        (now (list .entry)) (kept .count) (kept .more) (now (list .exit)) (r .count) (r .more)
+        × SameBut l (OpenAt cells) (now (row .entry)) (now (row .exit)) ⌝ }
 {
     let mut tried: [u8; 256] = [0; 256];
     let n = list_contents(l, y, numbers, cells, row, z, &mut tried);
@@ -263,25 +252,32 @@ fn try_each(
     held
 }
 
-// Every content of the open cells, cell by cell while there are more of them than checks; the others have one content only.
+// Every content of the open cells, cell by cell while there are more of them than checks; the others have one content only. Where no
+// cell is open the row in hand is the only one.
 fn try_contents(
     l: Layout,
     y: &[u8],
     numbers: &[u16],
     cells: Cells,
-    row: [u8; 255],
+    row: &mut [u8],
     cap: usize,
     list: &mut [u8],
     kept: Kept,
 ) -> Kept
-    requires { ⌜ Given l (now numbers) (now y) × (Holding l (now numbers) (now y) cap (now list) (kept .count) (kept .more)
+    requires { ⌜ (Given l (now numbers) (now y) × (l .l1 * l .l2 ≤ length (now row)))
+        × (Holding l (now numbers) (now y) cap (now list) (kept .count) (kept .more)
         × Placed l (length (now y)) cells) ⌝ }
-    ensures { λ r. ⌜ Grown l (now (numbers .entry)) (now (y .entry)) cap (Under l (now (y .entry)) cells row)
-        (now (list .entry)) (kept .count) (kept .more) (now (list .exit)) (r .count) (r .more) ⌝ }
+    ensures { λ r. ⌜ Grown l (now (numbers .entry)) (now (y .entry)) cap (Under l (now (y .entry)) cells (now (row .entry)))
+        (now (list .entry)) (kept .count) (kept .more) (now (list .exit)) (r .count) (r .more)
+        × SameBut l (OpenAt cells) (now (row .entry)) (now (row .exit)) ⌝ }
 {
-    let erased = few_erased(l, cells);
-    if erased.n <= l.r {
-        return add_recovered(l, y, numbers, cells, erased, row, cap, list, kept);
+    let lost = cells.lost;
+    let open = open_cells(lost);
+    if open == 0 {
+        return found::add_row(l, y, numbers, row, cap, list, kept);
+    }
+    if open <= l.r {
+        return add_recovered(l, y, numbers, cells, row, cap, list, kept);
     }
     let z = choose(cells);
     try_each(l, y, numbers, cells, row, z, cap, list, kept)
@@ -294,16 +290,18 @@ pub fn fill(
     y: &[u8],
     numbers: &[u16],
     cells: Cells,
-    row: [u8; 255],
+    row: &mut [u8],
     cap: usize,
     list: &mut [u8],
     kept: Kept,
 ) -> Kept
-    requires { ⌜ Given l (now numbers) (now y) × (Holding l (now numbers) (now y) cap (now list) (kept .count) (kept .more)
+    requires { ⌜ (Given l (now numbers) (now y) × (l .l1 * l .l2 ≤ length (now row)))
+        × (Holding l (now numbers) (now y) cap (now list) (kept .count) (kept .more)
         × (Placed l (length (now y)) cells × (NoSingle (cells .block) (cells .lost)
         × NoSingle (cells .column) (cells .lost)))) ⌝ }
-    ensures { λ r. ⌜ Grown l (now (numbers .entry)) (now (y .entry)) cap (Under l (now (y .entry)) cells row)
-        (now (list .entry)) (kept .count) (kept .more) (now (list .exit)) (r .count) (r .more) ⌝ }
+    ensures { λ r. ⌜ Grown l (now (numbers .entry)) (now (y .entry)) cap (Under l (now (y .entry)) cells (now (row .entry)))
+        (now (list .entry)) (kept .count) (kept .more) (now (list .exit)) (r .count) (r .more)
+        × SameBut l (OpenAt cells) (now (row .entry)) (now (row .exit)) ⌝ }
 {
     try_contents(l, y, numbers, cells, row, cap, list, kept)
 }

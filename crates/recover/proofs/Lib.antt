@@ -1,3 +1,4 @@
 mod Filled
 mod Recovered
+pub mod Weights
 pub mod Spots

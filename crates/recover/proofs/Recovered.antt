@@ -1,28 +1,26 @@
 -- The open cells of a row under a state are what the checks leave for the erased chunks. Assumes nothing.
-use Prim.Native.Nat.{ℕ, zero, suc, _+_, _-_, _*_, _/_, _%_, _^_, _<_, _≤_}
-use mathlib.Core.Path.{_≡_, refl, sym, ap, ap₂, _∙_}
-use mathlib.Core.Bool.{true}
+use Prim.Native.Nat.{ℕ, _+_, _-_, _*_, _/_, _%_, _^_, _<_, _≤_}
+use mathlib.Core.Path.{_≡_, sym, ap, ap₂, _∙_}
 use mathlib.Core.Logic.{_⊎_, inl, inr, ⊎-elim}
 use mathlib.Core.List.{List}
-use native.Mathlib.Nat.{mod-eq-of-lt, mod-lt, div-lt-iff-lt-mul, div-add-mod'}
+use native.Mathlib.Nat.{mod-eq-of-lt, mod-lt, div-add-mod'}
 use native.Mathlib.Omega.{arith}
 use lib.Bits.{bitXor, xor-comm}
-use lib.ListN.{length, getD, take, length-take}
+use lib.ListN.{length, getD, take, length-take, List·getD-eq-default}
 use lib.Pow.{pow-pos}
 use lib.Seq.{getD-take, getD-drop, length-take-le, ext-getD}
-use Rattle.bits.proofs.Laws.{entries-take}
+use Rattle.bits.proofs.Laws.{lt-or-ge}
 use Rattle.field.specs.Field.{Elements, check}
 use Rattle.field.proofs.Linear.{check-element}
-use Rattle.message.specs.Layout.{legal}
 use Rattle.message.specs.Message.{checks}
 use Rattle.message.specs.declared.Layout.{Layout}
 use Rattle.message.proofs.Cutting.{each-number}
-use Rattle.message.proofs.Legal.{Bounds, legal-bounds, sizes}
+use Rattle.message.proofs.Legal.{Bounds, legal-bounds}
 use Rattle.lines.specs.Lines.{values}
 use Rattle.lines.proofs.Lines.{length-values, value-low}
 use Rattle.cells.specs.Cells.{Under, OpenAt}
 use Rattle.cells.specs.declared.Cells.{Cells}
-use Rattle.cells.proofs.State.{in-hand}
+use Rattle.cells.proofs.State.{chunk-in-hand}
 use Rattle.found.specs.Found.{Given, Sent, InHand}
 use Rattle.found.proofs.Found.{sent-parts}
 use Rattle.erasures.specs.Erasures.{brought, Brings, Contents}
@@ -31,17 +29,22 @@ use Rattle.recover.specs.Recover.{Among, Collected, PutAt, Missing}
 use Rattle.recover.proofs.Filled.{filled, length-filled, filled-there, filled-other, check-filled}
 use Rattle.recover.proofs.Spots.{among-or-not}
 
--- the front of a list of elements is such a list, and no longer than asked
-pub elements-take : (nc n : ℕ) (xs : List ℕ) → Elements nc xs → Elements nc (take n xs) × (length (take n xs) ≤ n)
-elements-take nc n xs h = (entries-take (λ x. x < 2 ^ nc) n xs h, omega (arith, length-take n xs))
+-- ---- a row that is reduced chunk by chunk
+module _ (nc n : ℕ) (row base : List ℕ) (h : n ≤ length row)
+    (g : (c : ℕ) → c < length (take n row) → getD base c 0 ≡ getD (take n row) c 0 % 2 ^ nc) where
+  -- each of its first chunks is reduced
+  pub reduced-at : (c : ℕ) → c < n → getD base c 0 ≡ getD row c 0 % 2 ^ nc
+  reduced-at c low =
+      let e = length-take-le n row h in
+      g c (omega (arith, e)) ∙ ap (λ (v : ℕ). v % 2 ^ nc) (getD-take n row c 0 low)
 
--- a chunk where no cell is open, given by its number in row order, is the one in hand
-chunk-in-hand : (l : Layout) → legal l ≡ true → (y : List ℕ) (cells : Cells) (row x : List ℕ) → Under l y cells row x
-    → (c : ℕ) → c < l .l1 * l .l2 → (OpenAt cells (c / l .l2) (c % l .l2) → ⊥) → getD (values l x) c 0 ≡ getD row c 0
-chunk-in-hand l e y cells row x u c h none =
-    let low : 0 < l .l2 = legal-bounds l e .l2-low in
-    let i : c / l .l2 < l .l1 = div-lt-iff-lt-mul {k = l .l2} {x = c} {y = l .l1} low .1 h in
-    rw (div-add-mod' c (l .l2)) at (in-hand l y cells row x u (c / l .l2) (c % l .l2) i (mod-lt c low) none)
+  -- so they are elements of the field
+  pub reduced-elements : Elements nc (take n base)
+  reduced-elements c =
+      ⊎-elim
+      (λ low. rw (getD-take n base c 0 low, reduced-at c low) (mod-lt (getD row c 0) (pow-pos nc)))
+      (λ high. rw (List·getD-eq-default (take n base) 0 {n = c} (omega (arith, length-take n base))) (pow-pos nc))
+      (lt-or-ge c n)
 
 -- ---- a row under a state, with n erased chunks at the places of its open cells
 module _ (l : Layout) (ns y x row : List ℕ) (cells : Cells) (n : ℕ) (places : List ℕ) (given : Given l ns y)
@@ -67,7 +70,7 @@ module _ (l : Layout) (ns y x row : List ℕ) (cells : Cells) (n : ℕ) (places 
 
   -- a chunk that is not erased is the one in hand
   kept : (c : ℕ) → c < l .l1 * l .l2 → (Among n places c → ⊥) → getD (values l x) c 0 ≡ getD row c 0
-  kept c h none = chunk-in-hand l (given .is-legal) y cells row x under c h (λ o. none (erased c o))
+  kept c h none = chunk-in-hand l y cells row x under (bounds .l2-low) c h (λ o. none (erased c o))
 
   -- a check of the row is the number given
   given-check : (i : ℕ) → i < l .r → getD ns (l .l1 + l .l2 + i) 0 ≡ check (l .nc) i (values l x)
@@ -81,7 +84,7 @@ module _ (l : Layout) (ns y x row : List ℕ) (cells : Cells) (n : ℕ) (places 
   check-low i = check-element (l .nc) (bounds .nc-low) (bounds .nc-high) i (values l x) (value-low l x (sent .0))
 
   -- ---- the row in hand with the erased chunks cleared, all numbers elements of the field
-  module _ (blank cleared base : List ℕ) (long : 255 ≤ length base) (none : (w : ℕ) → getD blank w 0 ≡ 0)
+  module _ (blank cleared base : List ℕ) (long : l .l1 * l .l2 ≤ length base) (none : (w : ℕ) → getD blank w 0 ≡ 0)
       (clears : PutAt n places blank row cleared)
       (reduces : (c : ℕ) → c < l .l1 * l .l2 → getD base c 0 ≡ getD cleared c 0 % 2 ^ l .nc) where
     -- its first numbers, one for each chunk of the row
@@ -89,7 +92,7 @@ module _ (l : Layout) (ns y x row : List ℕ) (cells : Cells) (n : ℕ) (places 
     front = take (l .l1 * l .l2) base
 
     length-front : length front ≡ l .l1 * l .l2
-    length-front = length-take-le (l .l1 * l .l2) base (omega (arith, long, sizes l bounds .chunks))
+    length-front = length-take-le (l .l1 * l .l2) base long
 
     base-kept : (c : ℕ) → c < l .l1 * l .l2 → (Among n places c → ⊥) → getD (values l x) c 0 ≡ getD base c 0
     base-kept c h other =
@@ -146,17 +149,17 @@ module _ (l : Layout) (ns y x row : List ℕ) (cells : Cells) (n : ℕ) (places 
 
     -- the erased chunks put in, the row is in hand
     recovered : (found exit : List ℕ) → ((w : ℕ) → w < n → getD found w 0 ≡ content w)
-        → PutAt n places found base exit → InHand l exit x
+        → PutAt n places found cleared exit → InHand l exit x
     recovered found exit h p c low =
         ⊎-elim
         (λ a. rw (sym (a .1 .1)) (sym (p .there (a .0) (a .1 .0) ∙ h (a .0) (a .1 .0))))
-        (λ other. base-kept c low other ∙ sym (p .elsewhere c other))
+        (λ other. kept c low other ∙ sym (p .elsewhere c other ∙ clears .elsewhere c other))
         (among-or-not places c n)
 
     -- the contents that the checks leave
     pub solved : (s found exit : List ℕ) → n ≤ l .r → Missing l n ns front s
         → ((e : ℕ → ℕ) → Contents (l .nc) e → Brings (l .nc) s place e 0 (n - 0)
         → (w : ℕ) → 0 ≤ w → w < n → getD found w 0 ≡ e w)
-        → PutAt n places found base exit → InHand l exit x
+        → PutAt n places found cleared exit → InHand l exit x
     solved s found exit few m h =
         recovered found exit (λ w q. h content contents (brings s few m) w (omega arith) q)

@@ -1,17 +1,28 @@
 -- The places of the erased chunks: how they are gathered from the open cells one by one, and how contents are put there.
 -- Assumes nothing.
-use Prim.Native.Nat.{ℕ, zero, suc, _+_, _*_, _<_, _≤_}
+use Prim.Native.Nat.{ℕ, zero, suc, _+_, _-_, _*_, _^_, _<_, _≤_}
 use mathlib.Core.Path.{_≡_, refl, sym, ap, subst, _∙_}
+use mathlib.Core.Bool.{true}
 use mathlib.Core.Logic.{_⊎_, inl, inr, ⊎-elim}
 use mathlib.Core.List.{List}
 use native.Mathlib.Omega.{arith}
+use borrow.Author.Tests.{ne-eqb}
 use lib.ListN.{length, getD, set}
 use lib.Seq.{getD-set-same, getD-set-other}
+use Rattle.message.specs.Layout.{legal}
 use Rattle.message.specs.declared.Layout.{Layout}
-use Rattle.cells.specs.Cells.{Open, chunkOf}
+use Rattle.message.proofs.Legal.{legal-bounds}
+use Rattle.erasures.specs.Erasures.{weight}
+use Rattle.cells.specs.Cells.{Open, OpenAt, chunkOf, SameBut}
 use Rattle.cells.specs.declared.Cells.{Cells}
+use Rattle.cells.proofs.Same.{one-chunk}
 use Rattle.cells.proofs.State.{same-or-not}
-use Rattle.recover.specs.Recover.{Among, Spots, Collected, PutAt}
+use Rattle.recover.specs.Recover.{OpenInside, Among, ErasedAt, Spots, Collected, PutAt}
+use Rattle.recover.proofs.Weights.{weight-next, weight-some}
+
+-- a row with checks has no more chunks than the field has places
+pub few-chunks : (l : Layout) → legal l ≡ true → 0 < l .r → l .l1 * l .l2 ≤ 2 ^ l .nc - 1
+few-chunks l e some = legal-bounds l e .chunks-high
 
 -- ---- a place among others
 -- a place is among the first n or not
@@ -66,17 +77,20 @@ module _ (l : Layout) (cells : Cells) where
   collected-none places =
       record {
         few = omega arith;
+        no-more = omega arith;
         spots = record { inside = λ w h. absurd (omega arith); apart = λ v w h g e. absurd (omega arith) };
         all = λ z h o. absurd (omega arith);
         only = λ w h. absurd (omega arith);
       }
 
   -- the next cell when its place is there already, if it is open
-  pub collected-same : (z n : ℕ) (places : List ℕ) → (Open cells z → Among n places (chunkOf l cells z))
+  pub collected-same : (z n : ℕ) (places : List ℕ) → z < length (cells .lost)
+      → (Open cells z → Among n places (chunkOf l cells z))
       → Collected l cells z n places → Collected l cells (z + 1) n places
-  collected-same z n places h k =
+  collected-same z n places low h k =
       record {
         few = omega (arith, k .few);
+        no-more = omega (arith, k .no-more, weight-next (cells .lost) z low);
         spots = k .spots;
         all = λ w g o. ⊎-elim
             (λ e. rw e (h (rw e at o)))
@@ -86,12 +100,16 @@ module _ (l : Layout) (cells : Cells) where
       }
 
   -- the next cell when its place is new
-  pub collected-new : (z n p : ℕ) (places : List ℕ) → Open cells z → n < length places → p ≡ chunkOf l cells z
-      → p < l .l1 * l .l2 → (Among n places p → ⊥) → Collected l cells z n places
+  pub collected-new : (z n p : ℕ) (places : List ℕ) → z < length (cells .lost) → Open cells z → n < length places
+      → p ≡ chunkOf l cells z → p < l .l1 * l .l2 → (Among n places p → ⊥) → Collected l cells z n places
       → Collected l cells (z + 1) (n + 1) (set places n p)
-  collected-new z n p places unfound room is low new k =
+  collected-new z n p places last unfound room is low new k =
+      let own =
+      rw (ne-eqb (getD (cells .lost) z 0) 0 (λ e. absurd (omega (arith, unfound .1)))) at (weight-next (cells .lost) z last)
+      in
       record {
         few = omega (arith, k .few);
+        no-more = omega (arith, k .no-more, own);
         spots = spots-added n places p room (l .l1 * l .l2) low new (k .spots);
         all = λ w g o. ⊎-elim
             (λ e. rw e (n, (omega arith, added-same n places p room ∙ is)))
@@ -102,12 +120,23 @@ module _ (l : Layout) (cells : Cells) where
             (λ w g. let o = k .only w g in (o .0, (omega (arith, o .1 .0), o .1 .1))) (z, (omega arith, (unfound, is)));
       }
 
-  -- where no cell is open there is no place
-  pub collected-closed : (k n : ℕ) (places : List ℕ) → Collected l cells k n places
-      → ((z : ℕ) → z < k → Open cells z → ⊥) → n ≡ 0
-  collected-closed k zero places c closed = refl
-  collected-closed k (suc n) places c closed = let o = c .only 0 (omega arith) in
-      absurd (closed (o .0) (o .1 .0) (o .1 .1 .0))
+  -- where a cell is open there is a place
+  pub collected-some : (n : ℕ) (places : List ℕ) → length (cells .lost) ≡ 12 → Collected l cells 12 n places
+      → 0 < weight (cells .lost) → 0 < n
+  collected-some n places size k h =
+      let q = weight-some (cells .lost) h in
+      let low : q .0 < 12 = omega (arith, q .1 .0) in
+      omega (arith, k .all (q .0) low (low, q .1 .1) .1 .0)
+
+  -- and the places are those of open cells
+  pub collected-open : (n : ℕ) (places : List ℕ) → OpenInside l cells → Collected l cells 12 n places
+      → (i c : ℕ) → i < l .l1 → c < l .l2 → ErasedAt l n places i c → OpenAt cells i c
+  collected-open n places inside k i c h g a =
+      let o = k .only (a .0) (a .1 .0) in
+      let z = o .0 in
+      let p = one-chunk (l .l2) (getD (cells .block) z 0) (getD (cells .column) z 0) i c (inside z (o .1 .1 .0) .1) g
+      (sym (o .1 .1 .1) ∙ a .1 .1) in
+      (z, (o .1 .1 .0, p))
 
 -- ---- contents put at the places
 module _ (places contents entry : List ℕ) where
@@ -130,3 +159,14 @@ module _ (places contents entry : List ℕ) where
         elsewhere = λ q none. getD-set-other out p q v 0 (λ e. none (w, (omega arith, sym e)))
             ∙ k .elsewhere q (λ a. none (a .0, (omega (arith, a .1 .0), a .1 .1)));
       }
+
+-- what is put at the places, also twice, leaves the other chunks as they are
+pub put-same : {l : Layout} {n : ℕ} {places first second entry between exit : List ℕ}
+    → PutAt n places first entry between → PutAt n places second between exit
+    → SameBut l (ErasedAt l n places) entry exit
+put-same {l} {n} {places} p q =
+    record {
+      at = λ i c h g.
+          ⊎-elim inl (λ none. inr (q .elsewhere (i * l .l2 + c) none ∙ p .elsewhere (i * l .l2 + c) none))
+          (among-or-not places (i * l .l2 + c) n);
+    }

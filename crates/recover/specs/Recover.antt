@@ -3,9 +3,10 @@ use Prim.Native.Nat.{ℕ, _+_, _*_, _%_, _^_, _<_, _≤_}
 use mathlib.Core.Path.{_≡_}
 use mathlib.Core.List.{List}
 use lib.Bits.{bitXor}
-use lib.ListN.{getD}
+use lib.ListN.{getD, drop}
 use Rattle.field.specs.Field.{check}
 use Rattle.message.specs.declared.Layout.{Layout}
+use Rattle.erasures.specs.Erasures.{weight}
 use Rattle.cells.specs.Cells.{Open, chunkOf}
 use Rattle.cells.specs.declared.Cells.{Cells}
 
@@ -18,14 +19,20 @@ OpenInside l cells =
 abbrev pub Among : (n : ℕ) (places : List ℕ) (p : ℕ) → Type 0
 Among n places p = (w : ℕ) × ((w < n) × (getD places w 0 ≡ p))
 
+-- chunk c of block i is at one of the first n places
+abbrev pub ErasedAt : Layout → (n : ℕ) (places : List ℕ) → (i c : ℕ) → Type 0
+ErasedAt l n places i c = Among n places (i * l .l2 + c)
+
 -- the first n places are places of a row of so many chunks, no two of them the same
 pub record Spots (n size : ℕ) (places : List ℕ) : Type 0 where
   pub inside : (w : ℕ) → w < n → getD places w 0 < size
   pub apart : (v w : ℕ) → v < n → w < n → getD places v 0 ≡ getD places w 0 → v ≡ w
 
--- the first n places are those of the chunks that the first k cells leave open, each once
+-- the first n places are those of the chunks that the first k cells leave open, each once; they are no more than the
+-- cells that are open
 pub record Collected (l : Layout) (cells : Cells) (k n : ℕ) (places : List ℕ) : Type 0 where
   pub few : n ≤ k
+  pub no-more : n + weight (drop k (cells .lost)) ≤ weight (cells .lost)
   pub spots : Spots n (l .l1 * l .l2) places
   pub all : (z : ℕ) → z < k → Open cells z → Among n places (chunkOf l cells z)
   pub only : (w : ℕ) → w < n → (z : ℕ) × ((z < k) × (Open cells z × (getD places w 0 ≡ chunkOf l cells z)))

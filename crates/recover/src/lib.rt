@@ -6,13 +6,16 @@ ghost use mathlib.Core.Path.{_≡_};
 ghost use mathlib.Core.Bool.{true, false};
 ghost use Prim.Native.Nat.{ℕ, _+_, _*_, _%_, _^_, _<_, _≤_};
 ghost use mathlib.Core.List.{List};
-ghost use lib.ListN.{length, getD, take};
+ghost use lib.ListN.{length, getD};
 ghost use Rattle.field.specs.Field.{Elements};
 ghost use Rattle.field.specs.Tables.{powers, Logs};
 ghost use Rattle.message.specs.Layout.{legal as isLegal};
-ghost use Rattle.cells.specs.Cells.{chunkOf, Under};
+ghost use Rattle.cells.specs.Cells.{chunkOf, SameBut, Under};
 ghost use Rattle.found.specs.Found.{Given, Sent, InHand};
-ghost use Rattle.recover.specs.Recover.{OpenInside, Among, Spots, Collected, PutAt, Missing};
+ghost use Rattle.recover.specs.Recover.{OpenInside, Among, ErasedAt, Spots, Collected, PutAt, Missing};
+
+// The most places of a row with checks: the largest field has so many powers of 2, one for each place.
+const PLACES: usize = 255;
 
 // The places of erased chunks, in row order counted from 0, each once.
 pub struct Erased {
@@ -39,7 +42,7 @@ fn among(places: [u8; 12], n: usize, c: u8) -> bool
 pub fn chunk_of(l: Layout, cells: Cells, z: usize) -> usize
     requires { ⌜ (isLegal l ≡ true) × ((z < 12)
         × ((getD (cells .block) z 0 < l .l1) × (getD (cells .column) z 0 < l .l2))) ⌝ }
-    ensures { λ r. ⌜ (r ≡ chunkOf l cells z) × (r < 255) ⌝ }
+    ensures { λ r. ⌜ (r ≡ chunkOf l cells z) × (r < l .l1 * l .l2) ⌝ }
 {
     let i = bits::wide(cells.block[z]);
     let j = bits::wide(cells.column[z]);
@@ -48,7 +51,8 @@ pub fn chunk_of(l: Layout, cells: Cells, z: usize) -> usize
 
 // The place of cell z added, if the cell is open and the place is new.
 fn add_cell(l: Layout, cells: Cells, z: usize, e: Erased) -> Erased
-    requires { ⌜ (isLegal l ≡ true) × (OpenInside l cells × ((z < 12) × Collected l cells z (e .n) (e .places))) ⌝ }
+    requires { ⌜ ((isLegal l ≡ true) × (0 < l .r)) × (OpenInside l cells
+        × ((z < 12) × Collected l cells z (e .n) (e .places))) ⌝ }
     ensures { λ r. ⌜ Collected l cells (z + 1) (r .n) (r .places) ⌝ }
 {
     let a = cells.lost[z];
@@ -69,9 +73,9 @@ fn add_cell(l: Layout, cells: Cells, z: usize, e: Erased) -> Erased
     }
 }
 
-// The places of all open cells.
+// The places of all open cells. With checks each is a byte.
 pub fn collect(l: Layout, cells: Cells) -> Erased
-    requires { ⌜ ((isLegal l ≡ true) × OpenInside l cells) ⌝ }
+    requires { ⌜ ((isLegal l ≡ true) × (0 < l .r)) × OpenInside l cells ⌝ }
     ensures { λ r. ⌜ Collected l cells 12 (r .n) (r .places) ⌝ }
 {
     let mut e = Erased {
@@ -86,36 +90,33 @@ pub fn collect(l: Layout, cells: Cells) -> Erased
     e
 }
 
-// Chunks put at the erased places.
-fn put(row: [u8; 255], e: Erased, contents: [u8; 12]) -> [u8; 255]
-    requires { ⌜ (e .n ≤ 12) × Spots (e .n) 255 (e .places) ⌝ }
-    ensures { λ r. ⌜ PutAt (e .n) (e .places) contents row r ⌝ }
+// Puts chunks at the erased places of a row.
+fn put(row: &mut [u8], e: Erased, contents: [u8; 12])
+    requires { ⌜ (e .n ≤ 12) × Spots (e .n) (length (now row)) (e .places) ⌝ }
+    ensures { λ _. ⌜ PutAt (e .n) (e .places) contents (now (row .entry)) (now (row .exit)) ⌝ }
 {
     let n = e.n;
     let places = e.places;
-    let mut out = row;
     let mut w: usize = 0;
     while w < n {
         let at = bits::wide(places[w]);
-        out[at] = contents[w];
+        row[at] = contents[w];
         w += 1;
     }
-    out
 }
 
-// Each of the first numbers of a row as an element of the field; the others are left out, since few of them may be chunks.
-fn reduce(nc: usize, count: usize, row: [u8; 255]) -> [u8; 255]
-    requires { ⌜ ((3 ≤ nc) × (nc ≤ 8)) × (count ≤ 255) ⌝ }
-    ensures { λ r. ⌜ ((c : ℕ) → c < count → getD r c 0 ≡ getD row c 0 % 2 ^ nc) × Elements nc r ⌝ }
+// Writes each number of a row as an element of the field.
+fn reduce(nc: usize, row: &[u8], out: &mut [u8])
+    requires { ⌜ ((3 ≤ nc) × (nc ≤ 8)) × (length (now row) ≤ length (now out)) ⌝ }
+    ensures { λ _. ⌜ ((c : ℕ) → c < length (now (row .entry))
+        → getD (now (out .exit)) c 0 ≡ getD (now (row .entry)) c 0 % 2 ^ nc) ⌝ }
 {
     let ones = field::order(nc) as u8;
-    let mut out: [u8; 255] = [0; 255];
     let mut c: usize = 0;
-    while c < count {
+    while c < row.len() {
         out[c] = row[c] & ones;
         c += 1;
     }
-    out
 }
 
 // What is missing of each of the first n checks: the field sum of the check and that of the chunks.
@@ -145,22 +146,27 @@ fn missing(
     out
 }
 
-// The row with the open cells recovered, whose places are those of e: the only contents that as many checks allow.
-pub fn recover(l: Layout, numbers: &[u16], e: Erased, row: &[u8; 255]) -> [u8; 255]
+// Puts into the row in hand, which is lent, the open cells recovered, whose places are those of e: the only contents that as many
+// checks allow. It is for rows with checks, whose chunks are no more than the places of the field.
+pub fn recover(l: Layout, numbers: &[u16], e: Erased, row: &mut [u8])
     requires { ⌜ (isLegal l ≡ true) × ((length (now numbers) ≡ l .l1 + l .l2 + l .r)
-        × ((e .n ≤ 12) × ((e .n ≤ l .r) × Spots (e .n) (l .l1 * l .l2) (e .places)))) ⌝ }
-    ensures { λ r. ⌜ ((cells : Cells) → Collected l cells 12 (e .n) (e .places)
+        × (((e .n ≤ 12) × ((0 < e .n) × (e .n ≤ l .r)))
+        × (Spots (e .n) (l .l1 * l .l2) (e .places) × (l .l1 * l .l2 ≤ length (now row))))) ⌝ }
+    ensures { λ _. ⌜ SameBut l (ErasedAt l (e .n) (e .places)) (now (row .entry)) (now (row .exit))
+        × ((cells : Cells) → Collected l cells 12 (e .n) (e .places)
         → (y x : List ℕ) → Given l (now (numbers .entry)) y → Sent l (now (numbers .entry)) y x
-        → Under l y cells (now (row .entry)) x → InHand l r x) ⌝ }
+        → Under l y cells (now (row .entry)) x → InHand l (now (row .exit)) x) ⌝ }
 {
     let nc = l.nc;
     let t = field::table();
     let mut logs: [u8; 256] = [0; 256];
     field::fill_logs(&t, nc, &mut logs);
+    put(row, e, [0; 12]);
     let count = l.l1 * l.l2;
-    let base = reduce(nc, count, put(*row, e, [0; 12]));
+    let mut base: [u8; PLACES] = [0; PLACES];
+    reduce(nc, &row[0..count], &mut base);
     let s = missing(l, e.n, &t, &logs, numbers, &base[0..count]);
     let places = e.places;
     let contents = erasures::solve(&t, nc, &logs, places, e.n, 0, s);
-    put(base, e, contents)
+    put(row, e, contents);
 }

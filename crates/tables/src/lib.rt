@@ -114,8 +114,8 @@ fn mend_table(
 {
     let left = t.left;
     if none_left(left) {
-        let row = t.row;
-        return turns::mend_strings(l, y, numbers, t.cells, row, cap, list, kept);
+        let mut row = t.row;
+        return turns::mend_strings(l, y, numbers, t.cells, &mut row, cap, list, kept);
     }
     kept
 }

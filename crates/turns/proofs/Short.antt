@@ -3,49 +3,38 @@
 use Prim.Native.Nat.{ℕ, _+_, _-_, _*_, _<_, _≤_}
 use mathlib.Core.Path.{_≡_, refl, sym, ap, _∙_}
 use mathlib.Core.Bool.{Bool, true, false}
+use mathlib.Core.Logic.{inr}
 use mathlib.Core.List.{List}
 use native.Mathlib.Nat.{mul-one, mul-comm, add-comm}
 use native.Mathlib.Omega.{arith}
 use lib.ListN.{length, getD, take, drop, set}
+use lib.Seq.{getD-take}
 use Rattle.bits.specs.Bits.{digits}
 use Rattle.bits.proofs.Laws.{length-digits}
 use Rattle.vt.specs.Sum.{sum}
 use Rattle.message.specs.Layout.{legal}
 use Rattle.message.specs.declared.Layout.{Layout}
-use Rattle.message.proofs.Fields.{field-room}
-use Rattle.message.proofs.Legal.{Sizes, legal-bounds, sizes}
+use Rattle.message.proofs.Legal.{legal-bounds, sizes}
 use Rattle.consistent.proofs.Greedy.{piece}
 use Rattle.lines.specs.Lines.{values, line, Inside, Mendable}
 use Rattle.lines.proofs.Lines.{value-low, block-line, string-line}
 use Rattle.found.specs.Found.{Given, Sent}
 use Rattle.found.proofs.Found.{sent-parts}
-use Rattle.cells.specs.Cells.{SingleAt, chunkOf, Open, Placed, Under, found}
+use Rattle.cells.specs.Cells.{SingleAt, chunkOf, Open, OpenAt, Placed, SameBut, Under, found}
 use Rattle.cells.specs.declared.Cells.{Cells}
-use Rattle.cells.proofs.State.{chunk-low, decide, single-column, single-block}
+use Rattle.cells.proofs.Same.{cell-set}
+use Rattle.cells.proofs.State.{chunk-inside, decide, single-column, single-block}
+use Rattle.fill.proofs.Rows.{block-within, string-within}
 use Rattle.turns.specs.Turns.{keysOf, lineOf, Ready, chunkAt, Short}
 use Rattle.turns.specs.declared.Line.{Line}
 
 -- ---- where a line stands
 module _ (l : Layout) (e : legal l ≡ true) (i j : ℕ) (h : i < l .l1) (g : j < l .l2) where
-  small : Sizes l
-  small = sizes l (legal-bounds l e)
-
   -- inside of the row
-  line-inside : (strings : Bool) → let n = lineOf strings l i j in Inside (l .nc) (n .start) (n .stride) (n .count) 255
-  line-inside true =
-      record {
-        nc-high = legal-bounds l e .nc-high;
-        short = omega (arith, small .string, mul-comm (l .nc) (l .l1));
-        stride-high = small .l2-high;
-        last = omega (arith, small .chunks);
-      }
-  line-inside false =
-      record {
-        nc-high = legal-bounds l e .nc-high;
-        short = small .block;
-        stride-high = omega arith;
-        last = omega (arith, mul-one (l .l2), small .chunks, field-room (l .l1) (l .l2) i h);
-      }
+  line-inside : (strings : Bool) → let n = lineOf strings l i j in
+      Inside (l .nc) (n .start) (n .stride) (n .count) (l .l1 * l .l2)
+  line-inside true = string-within l e (l .l1 * l .l2) (omega arith) j g
+  line-inside false = block-within l e (l .l1 * l .l2) (omega arith) i h
 
   -- the marked chunk is its own
   mark-inside : (strings : Bool) → let n = lineOf strings l i j in n .hole < n .count
@@ -59,13 +48,10 @@ module _ (l : Layout) (e : legal l ≡ true) (i j : ℕ) (h : i < l .l1) (g : j 
 
   -- ---- its sum
   module _ {numbers y : List ℕ} (given : Given l numbers y) where
-    -- is one of the few numbers given
+    -- is one of the numbers given
     number-inside : (strings : Bool) → lineOf strings l i j .number < length numbers
     number-inside true = omega (arith, given .count)
     number-inside false = omega (arith, given .count)
-
-    numbers-few : length numbers ≤ 526
-    numbers-few = omega (arith, given .count, small .l1-high, small .l2-high, legal-bounds l e .r-high)
 
     sum-low : (strings : Bool) → let n = lineOf strings l i j in getD numbers (n .number) 0 ≤ n .count * l .nc
     sum-low true = omega (arith, given .strings j g, mul-comm (l .nc) (l .l1))
@@ -77,6 +63,11 @@ module _ (l : Layout) (e : legal l ≡ true) (i j : ℕ) (h : i < l .l1) (g : j 
         sum (line (l .nc) (n .start) (n .stride) (n .count) (values l x)) ≡ getD numbers (n .number) 0
     sum-given true x s = sym (string-line l x (s .0) j g) ∙ sent-parts given x s .strings j g
     sum-given false x s = sym (block-line l x (s .0) i h) ∙ sent-parts given x s .blocks i h
+
+-- ---- the chunks of a row in hand that may be longer
+pub front-same : (l : Layout) (free : ℕ → ℕ → Type 0) (row : List ℕ) → SameBut l free row (take (l .l1 * l .l2) row)
+front-same l free row =
+    record { at = λ i c h g. inr (getD-take (l .l1 * l .l2) row (i * l .l2 + c) 0 (chunk-inside l i c h g)) }
 
 -- ---- a line that lost one bit: the next nc − 1 bits received come from its short chunk
 pub short-bits : {nc : ℕ} {n : Line} {s : ℕ} {z vs us : List ℕ} → Short nc n s z vs us
@@ -109,19 +100,20 @@ module _ {l : Layout} {numbers y : List ℕ} (given : Given l numbers y) (cells 
   pub column-low : Column < l .l2
   column-low = placed z single-open .1 .0
 
-  -- it can be mended by its sum
-  pub single-number : (Its-line .number < length numbers) × (length numbers ≤ 526)
-  single-number =
-      let e = given .is-legal in (
-        number-inside l e Block Column block-low column-low given strings,
-        numbers-few l e Block Column block-low column-low given,
-      )
+  -- its chunk may be set
+  pub single-set : (v : ℕ) {row : List ℕ} → SameBut l (OpenAt cells) row (set row (chunkOf l cells z) v)
+  single-set v = cell-set l cells z v single-open column-low
 
-  pub single-ready : Ready (l .nc) y (getD (cells .place) z 0) Its-line (getD numbers (Its-line .number) 0)
+  -- it can be mended by its sum
+  pub single-number : Its-line .number < length numbers
+  single-number = number-inside l (given .is-legal) Block Column block-low column-low given strings
+
+  pub single-ready : Ready (l .nc) y (getD (cells .place) z 0) Its-line (getD numbers (Its-line .number) 0) (l .l1 * l .l2)
   single-ready =
       let e = given .is-legal in
       record {
         inside = line-inside l e Block Column block-low column-low strings;
+        few = sizes l (legal-bounds l e) .chunks;
         some-bits = omega (arith, legal-bounds l e .nc-low);
         marked = mark-inside l e Block Column block-low column-low strings;
         sum-low = sum-low l e Block Column block-low column-low given strings;
@@ -155,8 +147,8 @@ module _ {l : Layout} {numbers y : List ℕ} (given : Given l numbers y) (cells 
         }
 
     -- so where the chunk is found there, the row is under the state with that cell found
-    pub single-found : {v : ℕ} → length row ≡ 255 → v ≡ chunkAt Its-line (values l x)
+    pub single-found : {v : ℕ} → l .l1 * l .l2 ≤ length row → v ≡ chunkAt Its-line (values l x)
         → Under l y (found cells z) (set row (chunkOf l cells z) v) x
     single-found {v} m e =
         decide l y cells row x u z v
-        (omega (arith, chunk-low l (given .is-legal) Block Column block-low column-low)) (sym (e ∙ its-chunk))
+        (omega (arith, chunk-inside l Block Column block-low column-low)) (sym (e ∙ its-chunk))

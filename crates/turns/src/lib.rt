@@ -7,12 +7,12 @@ use rows::Kept;
 ghost use mathlib.Core.Path.{_≡_};
 ghost use mathlib.Core.Bool.{true};
 ghost use mathlib.Core.List.{List};
-ghost use Prim.Native.Nat.{ℕ, _<_, _≤_};
+ghost use Prim.Native.Nat.{ℕ, _*_, _<_, _≤_};
 ghost use lib.ListN.{length, drop};
 ghost use Rattle.message.specs.Layout.{legal as isLegal};
-ghost use Rattle.found.specs.Found.{Given, Sent, Holding, Grown};
-ghost use Rattle.cells.specs.Cells.{NoSingle, SingleAt, Placed, Under, found};
-ghost use Rattle.turns.specs.Turns.{keysOf, lineOf, Ready, chunkAt, Short, Turned};
+ghost use Rattle.found.specs.Found.{Given, Holding, Grown};
+ghost use Rattle.cells.specs.Cells.{NoSingle, SingleAt, OpenAt, Placed, SameBut, Under};
+ghost use Rattle.turns.specs.Turns.{keysOf, lineOf, Ready, chunkAt, Short, Found, Turned};
 
 // A line of chunks with one of them marked: its first chunk, how far its chunks stand apart, how many they are, which one is
 // marked, and which of the numbers given is the line's sum.
@@ -24,12 +24,11 @@ pub struct Line {
     pub number: usize,
 }
 
-// What a turn leaves: whether a row can be under the state at all, whether a cell was found, and the state afterwards.
+// What a turn leaves: whether a row can be under the state at all, whether a cell was found, and the cells afterwards.
 pub struct Turn {
     pub ok: bool,
     pub any: bool,
     pub cells: Cells,
-    pub row: [u8; 255],
 }
 
 // The line of chunk j of block i: its chunk-string or its block.
@@ -71,9 +70,9 @@ fn single(strings: bool, cells: Cells) -> usize
 
 // The chunk of a cell that lost one bit, mended in its line by the line's sum. It fails where too few bits are left, where no bit
 // of the chunk gives the line its sum, or where the chunk found does not lose just one bit against y from the place on.
-fn mend_cell(nc: usize, y: &[u8], place: usize, n: Line, sum: usize, row: [u8; 255]) -> Mended
-    requires { ⌜ Ready nc (now y) place n sum ⌝ }
-    ensures { λ r. ⌜ ((us : List ℕ) → Short nc n sum (drop place (now (y .entry))) row us
+fn mend_cell(nc: usize, y: &[u8], place: usize, n: Line, sum: usize, row: &[u8]) -> Mended
+    requires { ⌜ Ready nc (now y) place n sum (length (now row)) ⌝ }
+    ensures { λ r. ⌜ ((us : List ℕ) → Short nc n sum (drop place (now (y .entry))) (now (row .entry)) us
         → (r .ok ≡ true) × (r .value ≡ chunkAt n us)) ⌝ }
 {
     let none = Mended {
@@ -93,7 +92,7 @@ fn mend_cell(nc: usize, y: &[u8], place: usize, n: Line, sum: usize, row: [u8; 2
         n.hole,
         sum,
         &y[place..end],
-        &row,
+        row,
     );
     if !cells::loses_just(nc, m.value, y, place, 1) {
         return none;
@@ -101,38 +100,35 @@ fn mend_cell(nc: usize, y: &[u8], place: usize, n: Line, sum: usize, row: [u8; 2
     m
 }
 
-// Cell z, which has the only open loss of its chunk-string, or of its block, is found.
+// Cell z, which has the only open loss of its chunk-string, or of its block, is found: its chunk is put into the row in hand.
 fn mend_one(
     strings: bool,
     l: Layout,
     y: &[u8],
     numbers: &[u16],
     cells: Cells,
-    row: [u8; 255],
+    row: &mut [u8],
     z: usize,
 ) -> Turn
-    requires { ⌜ Given l (now numbers) (now y) × (Placed l (length (now y)) cells
+    requires { ⌜ (Given l (now numbers) (now y) × (l .l1 * l .l2 ≤ length (now row))) × (Placed l (length (now y)) cells
         × ((z < 12) × SingleAt (keysOf strings cells) (cells .lost) z)) ⌝ }
-    ensures { λ r. ⌜ (r .any ≡ true) × ((r .cells ≡ found cells z)
-        × ((x : List ℕ) → Sent l (now (numbers .entry)) (now (y .entry)) x → Under l (now (y .entry)) cells row x
-        → (r .ok ≡ true) × Under l (now (y .entry)) (r .cells) (r .row) x)) ⌝ }
+    ensures { λ r. ⌜ Found l (now (numbers .entry)) (now (y .entry)) cells z (now (row .entry)) r (now (row .exit)) ⌝ }
 {
     let i = bits::wide(cells.block[z]);
     let j = bits::wide(cells.column[z]);
     let n = line_of(strings, l, i, j);
     let k = n.number;
     let sum = numbers[k] as usize;
-    let m = mend_cell(l.nc, y, cells.place[z], n, sum, row);
+    let count = l.l1 * l.l2;
+    let m = mend_cell(l.nc, y, cells.place[z], n, sum, &row[0..count]);
     let mut next = cells;
     next.lost[z] = 0;
     let at = i * l.l2 + j;
-    let mut mended = row;
-    mended[at] = m.value;
+    row[at] = m.value;
     Turn {
         ok: m.ok,
         any: true,
         cells: next,
-        row: mended,
     }
 }
 
@@ -143,22 +139,22 @@ fn take_turn(
     y: &[u8],
     numbers: &[u16],
     cells: Cells,
-    row: [u8; 255],
+    row: &mut [u8],
 ) -> Turn
-    requires { ⌜ Given l (now numbers) (now y) × Placed l (length (now y)) cells ⌝ }
-    ensures { λ r. ⌜ Turned strings l (now (numbers .entry)) (now (y .entry)) cells row r ⌝ }
+    requires { ⌜ (Given l (now numbers) (now y) × (l .l1 * l .l2 ≤ length (now row)))
+        × Placed l (length (now y)) cells ⌝ }
+    ensures { λ r. ⌜ Turned strings l (now (numbers .entry)) (now (y .entry)) cells (now (row .entry)) r
+        (now (row .exit)) ⌝ }
 {
     let mut t = Turn {
         ok: true,
         any: false,
         cells: cells,
-        row: row,
     };
     let mut z = single(strings, cells);
     while z < 12 {
         let short = t.cells;
-        let held = t.row;
-        t = mend_one(strings, l, y, numbers, short, held, z);
+        t = mend_one(strings, l, y, numbers, short, row, z);
         if !t.ok {
             return t;
         }
@@ -175,26 +171,27 @@ pub fn mend_strings(
     y: &[u8],
     numbers: &[u16],
     cells: Cells,
-    row: [u8; 255],
+    row: &mut [u8],
     cap: usize,
     list: &mut [u8],
     kept: Kept,
 ) -> Kept
-    requires { ⌜ Given l (now numbers) (now y) × (Holding l (now numbers) (now y) cap (now list) (kept .count) (kept .more)
+    requires { ⌜ (Given l (now numbers) (now y) × (l .l1 * l .l2 ≤ length (now row)))
+        × (Holding l (now numbers) (now y) cap (now list) (kept .count) (kept .more)
         × (Placed l (length (now y)) cells × NoSingle (cells .block) (cells .lost))) ⌝ }
-    ensures { λ r. ⌜ Grown l (now (numbers .entry)) (now (y .entry)) cap (Under l (now (y .entry)) cells row)
-        (now (list .entry)) (kept .count) (kept .more) (now (list .exit)) (r .count) (r .more) ⌝ }
+    ensures { λ r. ⌜ Grown l (now (numbers .entry)) (now (y .entry)) cap (Under l (now (y .entry)) cells (now (row .entry)))
+        (now (list .entry)) (kept .count) (kept .more) (now (list .exit)) (r .count) (r .more)
+        × SameBut l (OpenAt cells) (now (row .entry)) (now (row .exit)) ⌝ }
 {
     let t = take_turn(true, l, y, numbers, cells, row);
     if !t.ok {
         return kept;
     }
     let rest = t.cells;
-    let held = t.row;
     if !t.any {
-        return fill::fill(l, y, numbers, rest, held, cap, list, kept);
+        return fill::fill(l, y, numbers, rest, row, cap, list, kept);
     }
-    mend_blocks(l, y, numbers, rest, held, cap, list, kept)
+    mend_blocks(l, y, numbers, rest, row, cap, list, kept)
 }
 
 // Blocks are mended, where no chunk-string has exactly one open loss. If one was, the chunk-strings have their turn; if none
@@ -204,24 +201,25 @@ pub fn mend_blocks(
     y: &[u8],
     numbers: &[u16],
     cells: Cells,
-    row: [u8; 255],
+    row: &mut [u8],
     cap: usize,
     list: &mut [u8],
     kept: Kept,
 ) -> Kept
-    requires { ⌜ Given l (now numbers) (now y) × (Holding l (now numbers) (now y) cap (now list) (kept .count) (kept .more)
+    requires { ⌜ (Given l (now numbers) (now y) × (l .l1 * l .l2 ≤ length (now row)))
+        × (Holding l (now numbers) (now y) cap (now list) (kept .count) (kept .more)
         × (Placed l (length (now y)) cells × NoSingle (cells .column) (cells .lost))) ⌝ }
-    ensures { λ r. ⌜ Grown l (now (numbers .entry)) (now (y .entry)) cap (Under l (now (y .entry)) cells row)
-        (now (list .entry)) (kept .count) (kept .more) (now (list .exit)) (r .count) (r .more) ⌝ }
+    ensures { λ r. ⌜ Grown l (now (numbers .entry)) (now (y .entry)) cap (Under l (now (y .entry)) cells (now (row .entry)))
+        (now (list .entry)) (kept .count) (kept .more) (now (list .exit)) (r .count) (r .more)
+        × SameBut l (OpenAt cells) (now (row .entry)) (now (row .exit)) ⌝ }
 {
     let t = take_turn(false, l, y, numbers, cells, row);
     if !t.ok {
         return kept;
     }
     let rest = t.cells;
-    let held = t.row;
     if !t.any {
-        return fill::fill(l, y, numbers, rest, held, cap, list, kept);
+        return fill::fill(l, y, numbers, rest, row, cap, list, kept);
     }
-    mend_strings(l, y, numbers, rest, held, cap, list, kept)
+    mend_strings(l, y, numbers, rest, row, cap, list, kept)
 }

@@ -18,7 +18,7 @@ abbrev μ-loop : tie.MeasureT-loop
 
 -- the cell that is looked at is open, and stands in the row
 opened : (c : tie.Then1 Inv-loop μ-loop)
-    → Open (c .before .before .before .before .before .args .t3) (c .before .before .before .loop .z)
+    → Open (c .before .before .before .before .before .before .args .t3) (c .before .before .before .loop .z)
 opened c = (c .before .before .loop-test .taken, c .if1 .taken)
 
 loop-holds : tie.Need-loop-holds Inv-loop μ-loop
@@ -29,27 +29,29 @@ element-copy-out-if1 c = search needs
 
 chunk-of-requires : tie.Need-chunk-of-requires Inv-loop μ-loop
 chunk-of-requires c κs =
-    let s = c .before .before .before .before .before in
+    let s = c .before .before .before .before .before .before in
     let q = s .pre .1 (c .before .before .before .loop .z) (opened c) in
-    (s .pre .0, (c .before .before .loop-test .taken, (q .0, q .1 .0)))
+    (s .pre .0 .0, (c .before .before .loop-test .taken, (q .0, q .1 .0)))
 
-element-copy-out-loses-just : tie.Need-element-copy-out-loses-just Inv-loop μ-loop
-element-copy-out-loses-just c = search needs
+shared-slice-read-loses-just : tie.Need-shared-slice-read-loses-just Inv-loop μ-loop
+shared-slice-read-loses-just c =
+    let s = c .before .before .before .before .before .before .before .before in
+    omega (arith, c .before .chunk-of .ensures .1, s .pre .0 .1)
 
 mul-loses-just : tie.Need-mul-loses-just Inv-loop μ-loop
 mul-loses-just c = search needs
 
+element-copy-out-loses-just : tie.Need-element-copy-out-loses-just Inv-loop μ-loop
+element-copy-out-loses-just c = search needs
+
 element-copy-out-loses-just-2 : tie.Need-element-copy-out-loses-just-2 Inv-loop μ-loop
 element-copy-out-loses-just-2 c = search needs
-
-element-copy-out-loses-just-3 : tie.Need-element-copy-out-loses-just-3 Inv-loop μ-loop
-element-copy-out-loses-just-3 c = search needs
 
 loses-just-requires : tie.Need-loses-just-requires Inv-loop μ-loop
 loses-just-requires c κs =
     let t = c .before .before .before .before in
-    let s = t .before .before .before .before .before in
-    let b = legal-bounds (s .args .l) (s .pre .0) in
+    let s = t .before .before .before .before .before .before in
+    let b = legal-bounds (s .args .l) (s .pre .0 .0) in
     (omega (arith, b .nc-low), (b .nc-high, s .pre .1 (t .before .before .before .loop .z) (opened t) .1 .1))
 
 returns : tie.Need-returns Inv-loop μ-loop
@@ -80,10 +82,10 @@ all-lose-spec =
     loop-holds
     element-copy-out-if1
     chunk-of-requires
-    element-copy-out-loses-just
+    shared-slice-read-loses-just
     mul-loses-just
+    element-copy-out-loses-just
     element-copy-out-loses-just-2
-    element-copy-out-loses-just-3
     loses-just-requires
     returns
     add-z

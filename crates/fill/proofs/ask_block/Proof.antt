@@ -7,10 +7,9 @@ use native.Mathlib.Omega.{arith}
 use lib.ListN.{length, getD}
 use Rattle.message.proofs.Legal.{legal-bounds}
 use Rattle.lines.specs.Lines.{values}
-use Rattle.lines.proofs.Lines.{block-inside}
 use Rattle.cells.specs.Cells.{chunkOf}
-use Rattle.cells.proofs.State.{chunk-low}
-use Rattle.fill.proofs.Rows.{block-alone}
+use Rattle.cells.proofs.State.{chunk-low, chunk-inside}
+use Rattle.fill.proofs.Rows.{block-within, block-alone}
 use Rattle.fill.proofs.ask_block.Statement.{statement}
 use Rattle.fill.proofs.ask_block.Tie as tie
 
@@ -18,11 +17,8 @@ use Rattle.fill.proofs.ask_block.Tie as tie
 cells-block : (c : tie.Start) → length (c .args .t3 .block) ≡ 12
 cells-block c = search needs
 
-row-length : (c : tie.Start) → length (c .args .t4) ≡ 255
-row-length c = search needs
-
-in-row : (c : tie.Start) → chunkOf (c .args .l) (c .args .t3) (c .args .z) < length (c .args .t4)
-in-row c = omega (arith, row-length c, chunk-low (c .args .l) (c .pre .0) _ _ (c .pre .1 .1 .1 .0) (c .pre .1 .1 .1 .1))
+in-row : (c : tie.Start) → chunkOf (c .args .l) (c .args .t3) (c .args .z) < length (c .args .row .now)
+in-row c = omega (arith, c .pre .0 .1, chunk-inside (c .args .l) _ _ (c .pre .1 .1 .1 .0) (c .pre .1 .1 .1 .1))
 
 alone-requires : tie.Need-alone-requires
 alone-requires c κs = search needs
@@ -47,7 +43,7 @@ wide-requires-2 c κs = search needs
 
 -- where the function starts, seen from where the test does not hold
 abbrev start : tie.Else1 → tie.Start
-start c = c .before .before .before .before .before
+start c = c .before .before .before .before .before .before
 
 mul-asked : tie.Need-mul-asked
 mul-asked c =
@@ -55,7 +51,7 @@ mul-asked c =
     let s = start (w .before) in
     let l = s .args .l in
     let e = w .wide .ensures in
-    let low = chunk-low l (s .pre .0) _ 0 (s .pre .1 .1 .1 .0) (legal-bounds l (s .pre .0) .l2-low) in
+    let low = chunk-low l (s .pre .0 .0) _ 0 (s .pre .1 .1 .1 .0) (legal-bounds l (s .pre .0 .0) .l2-low) in
     rw e (omega (arith, low))
 
 mul-wide : tie.Need-mul-wide
@@ -69,17 +65,17 @@ wide-requires-3 c κs = search needs
 
 asked-requires : tie.Need-asked-requires
 asked-requires c κs =
-    let m = c .before .before .before in
+    let m = c .before .before in
     let w = m .before .before .before in
     let s = start (w .before) in
     let a = s .args in (
-      rw (w .wide .ensures) (block-inside (a .l) (s .pre .0) 255 (omega arith) _ (s .pre .1 .1 .1 .0)),
+      rw (w .wide .ensures) (block-within (a .l) (s .pre .0 .0) (length (a .row .now)) (s .pre .0 .1) _ (s .pre .1 .1 .1 .0)),
       (omega arith, rw (m .before .wide2 .ensures) (s .pre .1 .1 .1 .1)),
     )
 
 returns-2 : tie.Need-returns-2
 returns-2 c =
-    let m = c .before .before .before .before in
+    let m = c .before .before .before in
     let w = m .before .before .before in
     let o = w .before in
     let b = start o in

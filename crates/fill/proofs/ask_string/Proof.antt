@@ -7,10 +7,9 @@ use native.Mathlib.Omega.{arith}
 use lib.ListN.{length, getD}
 use Rattle.message.proofs.Legal.{legal-bounds}
 use Rattle.lines.specs.Lines.{values}
-use Rattle.lines.proofs.Lines.{string-inside}
 use Rattle.cells.specs.Cells.{chunkOf}
-use Rattle.cells.proofs.State.{chunk-low}
-use Rattle.fill.proofs.Rows.{string-alone}
+use Rattle.cells.proofs.State.{chunk-inside}
+use Rattle.fill.proofs.Rows.{string-within, string-alone}
 use Rattle.fill.proofs.ask_string.Statement.{statement}
 use Rattle.fill.proofs.ask_string.Tie as tie
 
@@ -18,11 +17,8 @@ use Rattle.fill.proofs.ask_string.Tie as tie
 cells-column : (c : tie.Start) → length (c .args .t3 .column) ≡ 12
 cells-column c = search needs
 
-row-length : (c : tie.Start) → length (c .args .t4) ≡ 255
-row-length c = search needs
-
-in-row : (c : tie.Start) → chunkOf (c .args .l) (c .args .t3) (c .args .z) < length (c .args .t4)
-in-row c = omega (arith, row-length c, chunk-low (c .args .l) (c .pre .0) _ _ (c .pre .1 .1 .1 .0) (c .pre .1 .1 .1 .1))
+in-row : (c : tie.Start) → chunkOf (c .args .l) (c .args .t3) (c .args .z) < length (c .args .row .now)
+in-row c = omega (arith, c .pre .0 .1, chunk-inside (c .args .l) _ _ (c .pre .1 .1 .1 .0) (c .pre .1 .1 .1 .1))
 
 alone-requires : tie.Need-alone-requires
 alone-requires c κs = search needs
@@ -59,20 +55,20 @@ wide-requires-3 c κs = search needs
 
 -- where the function starts, seen from where the test does not hold
 abbrev start : tie.Else1 → tie.Start
-start c = c .before .before .before .before .before
+start c = c .before .before .before .before .before .before
 
 asked-requires : tie.Need-asked-requires
 asked-requires c κs =
-    let w = c .before .before .before .before in
+    let w = c .before .before .before in
     let s = start (w .before .before .before) in
     let a = s .args in (
-      rw (w .wide2 .ensures) (string-inside (a .l) (s .pre .0) 255 (omega arith) _ (s .pre .1 .1 .1 .1)),
-      (legal-bounds (a .l) (s .pre .0) .l2-low, rw (w .before .wide .ensures) (s .pre .1 .1 .1 .0)),
+      rw (w .wide2 .ensures) (string-within (a .l) (s .pre .0 .0) (length (a .row .now)) (s .pre .0 .1) _ (s .pre .1 .1 .1 .1)),
+      (legal-bounds (a .l) (s .pre .0 .0) .l2-low, rw (w .before .wide .ensures) (s .pre .1 .1 .1 .0)),
     )
 
 returns-2 : tie.Need-returns-2
 returns-2 c =
-    let w = c .before .before .before .before .before in
+    let w = c .before .before .before .before in
     let o = w .before .before .before in
     let b = start o in
     let a = b .args in

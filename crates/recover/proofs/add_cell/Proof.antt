@@ -1,18 +1,19 @@
 -- `recover::add_cell` meets its contract: an open cell's chunk stands in the row, and its place is added unless it is
 -- there. Assumes nothing.
 use borrow.Author.Needs.{needs}
-use Prim.Native.Nat.{_*_, _<_}
+use Prim.Native.Nat.{_<_}
 use mathlib.Core.Path.{_≡_}
 use native.Mathlib.Omega.{arith}
 use lib.ListN.{length, getD}
-use Rattle.message.proofs.Fields.{field-room}
+use Rattle.field.proofs.Double.{size-high}
+use Rattle.message.proofs.Legal.{legal-bounds}
 use Rattle.cells.specs.Cells.{Open}
-use Rattle.recover.proofs.Spots.{collected-same, collected-new}
+use Rattle.recover.proofs.Spots.{few-chunks, collected-same, collected-new}
 use Rattle.recover.proofs.add_cell.Statement.{statement}
 use Rattle.recover.proofs.add_cell.Tie as tie
 
-long : (s : tie.Start) → length (s .args .e .places) ≡ 12
-long s = search needs
+long : (s : tie.Start) → (length (s .args .e .places) ≡ 12) × (length (s .args .t2 .lost) ≡ 12)
+long s = (search needs, search needs)
 
 -- where the cell is open: its block and column stand in the row
 inside : (c : tie.Else1) → let a = c .before .before .args in
@@ -21,12 +22,13 @@ inside c =
     let s = c .before .before in
     s .pre .1 .0 (s .args .z) (s .pre .1 .1 .0, omega (arith, c .if1 .left))
 
--- and so does its chunk
-low : (c : tie.After-chunk-of) → let l = c .before .before .before .args .l in c .chunk-of .result < l .l1 * l .l2
-low c =
-    let a = c .before .before .before .args in
-    let i = inside (c .before) in
-    omega (arith, i .1, c .chunk-of .ensures .0, field-room (a .l .l1) (a .l .l2) (getD (a .t2 .block) (a .z) 0) (i .0))
+-- as a row with checks has no more chunks than the field has places, the chunk is a byte
+byte : (c : tie.After-chunk-of) → c .chunk-of .result < 256
+byte c =
+    let s = c .before .before .before in
+    let l = s .args .l in
+    let b = legal-bounds l (s .pre .0 .0) in
+    omega (arith, c .chunk-of .ensures .1, few-chunks l (s .pre .0 .0) (s .pre .0 .1), size-high (l .nc) (b .nc-high))
 
 element-copy-out-a : tie.Need-element-copy-out-a
 element-copy-out-a c = search needs
@@ -35,16 +37,16 @@ returns : tie.Need-returns
 returns c =
     let s = c .before .before in
     let a = s .args in
-    collected-same (a .l) (a .t2) (a .z) (a .e .n) (a .e .places) (λ o. absurd (omega (arith, o .1, c .if1 .taken)))
-    (s .pre .1 .1 .1)
+    collected-same (a .l) (a .t2) (a .z) (a .e .n) (a .e .places)
+    (omega (arith, long s .1, s .pre .1 .1 .0)) (λ o. absurd (omega (arith, o .1, c .if1 .taken))) (s .pre .1 .1 .1)
 
 chunk-of-requires : tie.Need-chunk-of-requires
 chunk-of-requires c κs =
     let s = c .before .before in
-    (s .pre .0, (s .pre .1 .1 .0, inside c))
+    (s .pre .0 .0, (s .pre .1 .1 .0, inside c))
 
 cast-c : tie.Need-cast-c
-cast-c c = search needs
+cast-c c = omega (arith, byte c)
 
 among-requires : tie.Need-among-requires
 among-requires c κs = search needs
@@ -55,6 +57,7 @@ returns-2 c =
     let s = k .before .before .before in
     let a = s .args in
     collected-same (a .l) (a .t2) (a .z) (a .e .n) (a .e .places)
+    (omega (arith, long s .1, s .pre .1 .1 .0))
     (λ o. rw (k .chunk-of .ensures .0) at (c .before .among .ensures .0 (c .if2 .taken))) (s .pre .1 .1 .1)
 
 array-write-next : tie.Need-array-write-next
@@ -68,11 +71,11 @@ returns-3 c =
     let k = c .before .before .before in
     let s = k .before .before .before in
     let a = s .args in
-    let room : a .e .n < length (a .e .places) = omega (arith, long s, s .pre .1 .1 .0, s .pre .1 .1 .1 .few) in
+    let room : a .e .n < length (a .e .places) = omega (arith, long s .0, s .pre .1 .1 .0, s .pre .1 .1 .1 .few) in
     let unfound : Open (a .t2) (a .z) = (s .pre .1 .1 .0, omega (arith, k .before .if1 .left)) in
-    collected-new (a .l) (a .t2) (a .z) (a .e .n) (k .chunk-of .result) (a .e .places) unfound room
-    (k .chunk-of .ensures .0)
-    (low k) (c .before .among .ensures .1 (c .if2 .left)) (s .pre .1 .1 .1)
+    collected-new (a .l) (a .t2) (a .z) (a .e .n) (k .chunk-of .result) (a .e .places)
+    (omega (arith, long s .1, s .pre .1 .1 .0)) unfound room (k .chunk-of .ensures .0) (k .chunk-of .ensures .1)
+    (c .before .among .ensures .1 (c .if2 .left)) (s .pre .1 .1 .1)
 
 pub add-cell-spec : {M : Type 1} → statement M
 add-cell-spec =

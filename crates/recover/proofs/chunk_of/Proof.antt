@@ -1,10 +1,12 @@
--- `recover::chunk_of` meets its contract: the chunk is one of at most 255. Assumes nothing.
+-- `recover::chunk_of` meets its contract: the chunk is one of the layout's. Assumes nothing.
 use borrow.Author.Needs.{needs}
-use Prim.Native.Nat.{_+_, _*_, _<_}
+use Prim.Native.Nat.{_+_, _*_, _<_, _≤_}
 use mathlib.Core.Path.{_≡_, refl}
 use native.Mathlib.Omega.{arith}
+use Rattle.bits.specs.Bits.{mostChunks}
+use Rattle.message.proofs.Legal.{legal-bounds, sizes}
 use Rattle.cells.specs.Cells.{chunkOf}
-use Rattle.cells.proofs.State.{chunk-low}
+use Rattle.cells.proofs.State.{chunk-inside}
 use Rattle.recover.proofs.chunk_of.Statement.{statement}
 use Rattle.recover.proofs.chunk_of.Tie as tie
 
@@ -12,11 +14,14 @@ use Rattle.recover.proofs.chunk_of.Tie as tie
 stands : (c : tie.After-wide2) →
     let a = c .before .before .before .before .args in
     (c .before .before .wide .result * a .l .l2 + c .wide2 .result ≡ chunkOf (a .l) (a .t2) (a .z))
-    × (chunkOf (a .l) (a .t2) (a .z) < 255)
+    × ((chunkOf (a .l) (a .t2) (a .z) < a .l .l1 * a .l .l2) × (a .l .l1 * a .l .l2 ≤ mostChunks))
 stands c =
     let s = c .before .before .before .before in
     let q = s .pre .1 .1 in
-    (rw (c .before .before .wide .ensures, c .wide2 .ensures) refl, chunk-low (s .args .l) (s .pre .0) _ _ (q .0) (q .1))
+    let l = s .args .l in (
+      rw (c .before .before .wide .ensures, c .wide2 .ensures) refl,
+      (chunk-inside l _ _ (q .0) (q .1), sizes l (legal-bounds l (s .pre .0)) .chunks),
+    )
 
 element-copy-out-wide : tie.Need-element-copy-out-wide
 element-copy-out-wide c = search needs

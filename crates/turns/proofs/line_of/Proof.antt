@@ -1,4 +1,4 @@
--- `turns::line_of` meets its contract. A legal layout has at most 255 chunks, so no number is too large. Assumes nothing.
+-- `turns::line_of` meets its contract. A legal layout has few chunks, so no number is too large. Assumes nothing.
 use mathlib.Core.Path.{refl}
 use native.Mathlib.Omega.{arith}
 use Rattle.message.proofs.Legal.{legal-bounds, sizes}

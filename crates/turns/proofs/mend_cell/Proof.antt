@@ -25,7 +25,7 @@ sub-if1 c = search needs
 
 returns : tie.Need-returns
 returns c =
-    let a = c .before .before .args in
+    let a = c .before .before .before .args in
     λ us k. absurd (omega (arith, short-bits k .0, length-drop (a .place) (a .y .now), c .if1 .taken))
 
 add-end : tie.Need-add-end
@@ -40,9 +40,6 @@ part-mend-line-start c = search needs
 part-mend-line-end : tie.Need-part-mend-line-end
 part-mend-line-end c = search needs
 
-slice-aggregate-mend-line : tie.Need-slice-aggregate-mend-line
-slice-aggregate-mend-line c = search needs
-
 -- the bits at hand are the next nc − 1 of y from the place on
 at-hand : (place k : ℕ) (y : List ℕ) → take (place + k - place) (drop place y) ≡ take k (drop place y)
 at-hand place k y =
@@ -50,7 +47,7 @@ at-hand place k y =
     rw e refl
 
 -- where the function starts, seen from the call of `mend_line`
-abbrev start : tie.After-row → tie.Start
+abbrev start : tie.After-mend-line-arg → tie.Start
 start c = c .before .before .before .before
 
 mend-line-requires : tie.Need-mend-line-requires
@@ -58,11 +55,10 @@ mend-line-requires c κs =
     let s = start c in
     let a = s .args in
     let z = drop (a .place) (a .y .now) in
-    let k : a .nc - 1 ≤ length z = simp length-drop (omega (arith, c .before .before .if1 .left)) in
+    let k : a .nc - 1 ≤ length z = simp length-drop (omega (arith, c .before .if1 .left)) in
     let n : length (take (a .nc - 1) z) ≡ a .nc - 1 = length-take-le (a .nc - 1) z k in
-    let r : length (a .t6) ≡ 255 = search needs in
-    rw (at-hand (a .place) (a .nc - 1) (a .y .now), r) (
-      (s .pre .inside, omega arith),
+    rw (at-hand (a .place) (a .nc - 1) (a .y .now)) (
+      (s .pre .inside, s .pre .few),
       (
         s .pre .marked,
         (
@@ -78,7 +74,7 @@ mend-line-requires c κs =
 -- a row that has this line has the chunk that is found there
 found-there : (c : tie.After-mend-line) →
     let a = start (c .before) .args in
-    (us : List ℕ) → Short (a .nc) (a .n) (a .sum) (drop (a .place) (a .y .now)) (a .t6) us
+    (us : List ℕ) → Short (a .nc) (a .n) (a .sum) (drop (a .place) (a .y .now)) (a .row .now) us
     → (c .mend-line .result .ok ≡ true) × (c .mend-line .result .value ≡ chunkAt (a .n) us)
 found-there c us k =
     let a = start (c .before) .args in
@@ -111,7 +107,6 @@ mend-cell-spec =
     sub-mend-line
     part-mend-line-start
     part-mend-line-end
-    slice-aggregate-mend-line
     mend-line-requires
     loses-just-requires
     returns-2
