@@ -12,12 +12,12 @@ use borrow.Author.Tests.{eq-eqb, eqb-true, leb-true, le-ltb}
 use lib.Dec.{eqb, leb}
 use lib.ListN.{length, getD, take, drop, length-drop, length-map}
 use lib.Seq.{length-take-le, take-all, getD-take, getD-drop}
-use Rattle.bits.specs.Bits.{cut, number, bytesFor, unpack}
+use Rattle.bits.specs.Bits.{mostChunks, cut, number, bytesFor, unpack}
 use Rattle.bits.proofs.Laws.{lt-or-ge, both-left, both-right, number-take}
 use Rattle.field.specs.Field.{check}
 use Rattle.field.proofs.Double.{size-low}
 use Rattle.rows.specs.Held.{Held, Known}
-use Rattle.rows.specs.Slice.{rowsIn}
+use Rattle.rows.specs.declared.Kept.{Kept}
 use Rattle.rows.proofs.Held.{known-stays}
 use Rattle.rows.proofs.Slice.{length-cut}
 use Rattle.message.specs.Layout.{rowBits, chunks}
@@ -33,22 +33,32 @@ use Rattle.consistent.proofs.Shift.{lost-most, lost-more, piece-loses}
 use Rattle.erasures.proofs.Anchor.{same-row}
 use Rattle.lines.specs.Lines.{values, line, unlike}
 use Rattle.lines.proofs.Lines.{length-values, value-at, value-low, row-line}
-use Rattle.found.specs.Found.{Given, Sent, Holding, Grown}
-use Rattle.found.proofs.Found.{sent-parts, grown-rows}
-use Rattle.anchor.specs.Anchor.{over, lostBefore, Reads, deskSize, nearAt, laterAt, wide, Prepared, Anchor, isSet, Anchored}
-use Rattle.anchor.specs.Anchor.{OwnCounts, LightInHand, BlockMost}
+use Rattle.consistent.specs.Query.{Query}
+use Rattle.found.specs.Given.{Given, Sent, HoldsSent, AddsSent, heldSent}
+use Rattle.found.proofs.Sent.{sent-parts}
+use Rattle.found.proofs.Steps.{grown-rows}
+use Rattle.anchor.specs.Anchor.{over, lostBefore, Reads, deskSize, nearAt, laterAt, wide, Prepared, isSet}
+use Rattle.anchor.specs.Anchor.{Anchor, Anchors, OwnCounts, LightInHand, BlockMost}
 use Rattle.anchor.proofs.Desk.{blocks-split}
 use Rattle.anchor.proofs.Over.{most-one, over-none, over-front, over-same, over-lost, weight-unlike}
 use Rattle.anchor.proofs.Totals.{total-next}
 
 -- a consistent row under the first i counts of a pattern differs from the anchor in at most m chunks of the first b
 -- blocks
-abbrev pub Counted : Layout → (numbers y desk counts row : List ℕ) (i b m : ℕ) → Type 0
-Counted l numbers y desk counts row i b m =
-    (vs x : List ℕ) → Prepared l y vs desk → Sent l numbers y x → OwnCounts l y counts i x → LightInHand l counts i row x
+abbrev pub Counted : Query → (desk counts row : List ℕ) (i b m : ℕ) → Type 0
+Counted q desk counts row i b m =
+    let l = q .layout in
+    let y = q .received in
+    (vs x : List ℕ) → Prepared l y vs desk → Sent q x → OwnCounts l y counts i x → LightInHand l counts i row x
     → over (unlike (values l x) vs) 0 (b * l .l2) ≤ m
 
-module _ {l : Layout} {numbers y : List ℕ} (given : Given l numbers y) where
+module _ {q : Query} (given : Given q) where
+  abbrev l : Layout
+  l = q .layout
+
+  abbrev y : List ℕ
+  y = q .received
+
   bounds : Bounds l
   bounds = legal-bounds l (given .is-legal)
 
@@ -57,24 +67,24 @@ module _ {l : Layout} {numbers y : List ℕ} (given : Given l numbers y) where
   unfolding checks values
   check-at x i h = each-number (λ (i : ℕ). check (l .nc) i (values l x)) (l .r) i h
 
-  -- two consistent rows that differ in at most r chunks are one
-  pub only-one : (x z : List ℕ) → Sent l numbers y x → Sent l numbers y z
+  -- where there are checks, two consistent rows that differ in at most r chunks are one
+  only-one : 0 < l .r → (x z : List ℕ) → Sent q x → Sent q z
       → over (unlike (values l x) (values l z)) 0 (l .l1 * l .l2) ≤ l .r → x ≡ z
-  only-one x z sx sz few =
+  only-one some x z sx sz few =
       let b = bounds in
       let lx = length-values l x in
       let n : length (values l x) ≡ length (values l z) = lx ∙ sym (length-values l z) in
       let sums = sent-parts given x sx .sums-checks ∙ sym (sent-parts given z sz .sums-checks) in
       let e : values l x ≡ values l z =
       same-row (l .nc) (b .nc-low) (b .nc-high) (l .r) (values l x) (values l z) n
-      (omega (arith, b .chunks-high, size-low (l .nc) (b .nc-low)))
+      (omega (arith, b .field some, size-low (l .nc) (b .nc-low)))
       (value-low l x (sx .0)) (value-low l z (sz .0))
       (omega (arith, weight-unlike (values l x) (values l z) n, ap (over (unlike (values l x) (values l z)) 0) lx))
       (λ i h. sym (check-at x i h) ∙ ap (λ (v : List ℕ). getD v i 0) sums ∙ check-at z i h)
       in
       sym (row-line l x (sx .0)) ∙ ap (line (l .nc) 0 1 (l .l1 * l .l2)) e ∙ row-line l z (sz .0)
 
-  module _ (x : List ℕ) (sent : Sent l numbers y x) where
+  module _ (x : List ℕ) (sent : Sent q x) where
     abbrev lost : ℕ → ℕ
     lost = lostBefore l y x
 
@@ -173,7 +183,7 @@ module _ {l : Layout} {numbers y : List ℕ} (given : Given l numbers y) where
 
   -- ---- a row under the first i counts of a pattern
   module _ (desk counts row : List ℕ) (i : ℕ) where
-    pub counted-none : Counted l numbers y desk counts row i 0 0
+    pub counted-none : Counted q desk counts row i 0 0
     counted-none vs x p s o h = rw (zero-mul (l .l2), over-none (unlike (values l x) vs) 0) (omega arith)
 
     -- its losses before block b
@@ -183,8 +193,8 @@ module _ {l : Layout} {numbers y : List ℕ} (given : Given l numbers y) where
 
     -- one block more
     pub counted-next : (b m n : ℕ) → b < i → i ≤ length counts
-        → BlockMost l numbers y desk row b (inAll (take b counts)) (getD counts b 0) n
-        → Counted l numbers y desk counts row i b m → Counted l numbers y desk counts row i (b + 1) (m + n)
+        → BlockMost q desk row b (inAll (take b counts)) (getD counts b 0) n
+        → Counted q desk counts row i b m → Counted q desk counts row i (b + 1) (m + n)
     counted-next b m n h k more c vs x p s o r =
         let f = unlike (values l x) vs in
         let e : b * l .l2 + l .l2 ≡ (b + 1) * l .l2 = omega (arith, add-mul b 1 (l .l2), one-mul (l .l2)) in
@@ -196,9 +206,9 @@ module _ {l : Layout} {numbers y : List ℕ} (given : Given l numbers y) where
         rw (← e) (omega (arith, c vs x p s o r))
 
     -- all of its chunks: a row that differs from the anchor in at most r of them is the anchor
-    pub counted-known : (m : ℕ) → i ≤ l .l1 → Counted l numbers y desk counts row i i m
+    pub counted-known : (m : ℕ) → i ≤ l .l1 → Counted q desk counts row i i m
         → m + getD desk (laterAt i (inAll (take i counts))) 0 + (rowBits l - length y - inAll (take i counts)) ≤ l .r
-        → (held : Held) (x : List ℕ) → Anchor l numbers y held desk → Sent l numbers y x → OwnCounts l y counts i x
+        → (held : Held) (x : List ℕ) → Anchor q held desk → Sent q x → OwnCounts l y counts i x
         → LightInHand l counts i row x → Known held x
     counted-known m h c few held x a s o r =
         let z = a .row in
@@ -208,11 +218,11 @@ module _ {l : Layout} {numbers y : List ℕ} (given : Given l numbers y) where
         later-bound x s (values l z) desk (a .prepared) i (inAll (take i counts)) h (own-at x o i (omega arith)) in
         let split = over-front f (i * l .l2) ((l .l1 - i) * l .l2) in
         let all : over f 0 (l .l1 * l .l2) ≤ l .r = rw (← blocks-split (l .l1) (l .l2) i h) (omega arith) in
-        subst (Known held) (sym (only-one x z s (a .sent) all)) (a .known)
+        subst (Known held) (sym (only-one (a .some-checks) x z s (a .sent) all)) (a .known)
 
 -- a block in hand is compared with the anchor's chunks on the desk
-pub light-bound : (l : Layout) (y vs desk part us row : List ℕ) (b : ℕ) → l .l1 * l .l2 ≤ 255 → Prepared l y vs desk
-    → part ≡ take 255 (drop 1 desk) → b < l .l1
+pub light-bound : (l : Layout) (y vs desk part us row : List ℕ) (b : ℕ) → l .l1 * l .l2 ≤ mostChunks
+    → Prepared l y vs desk → part ≡ take mostChunks (drop 1 desk) → b < l .l1
     → ((j : ℕ) → j < l .l2 → getD us (b * l .l2 + j) 0 ≡ getD row (b * l .l2 + j) 0)
     → over (unlike us vs) (b * l .l2) (l .l2) ≡ over (unlike row part) (b * l .l2) (l .l2)
 light-bound l y vs desk part us row b few ready e h same =
@@ -222,7 +232,8 @@ light-bound l y vs desk part us row b few ready e h same =
     let room = field-room (l .l1) (l .l2) b h in
     let v : getD vs c 0 ≡ getD part c 0 =
     sym (ready .chunks c (omega arith))
-    ∙ sym (ap (λ (s : List ℕ). getD s c 0) e ∙ getD-take 255 (drop 1 desk) c 0 (omega arith) ∙ getD-drop 1 desk c 0)
+    ∙ sym (ap (λ (s : List ℕ). getD s c 0) e
+    ∙ getD-take mostChunks (drop 1 desk) c 0 (omega arith) ∙ getD-drop 1 desk c 0)
     in
     ap₂ (λ (p q : ℕ). cond (eqb p q) 0 1) (same t k) v)
 
@@ -230,25 +241,30 @@ light-bound l y vs desk part us row b few ready e h same =
 abbrev pub firstRow : Layout → List ℕ → List ℕ
 firstRow l list = take (rowBits l) (unpack (take (bytesFor (rowBits l)) list))
 
-module _ {l : Layout} {numbers y : List ℕ} {cap : ℕ} {list : List ℕ} {m : Bool} where
-  -- it is a consistent row, and is known
-  pub first-held : (c : ℕ) → 0 < c → Holding l numbers y cap list c m
-      → Sent l numbers y (firstRow l list) × Known (rowsIn (rowBits l) list c m) (firstRow l list)
+module _ (q : Query) {cap : ℕ} {list : List ℕ} where
+  held-at : (c : ℕ) (m : Bool) → 0 < c → HoldsSent q cap list (record { count = c; more = m })
+      → Sent q (firstRow (q .layout) list)
+      × Known (heldSent q list (record { count = c; more = m })) (firstRow (q .layout) list)
   unfolding cut
-  first-held zero h k = absurd (omega arith)
-  first-held (suc c) h k = (k .well .each (firstRow l list) (inl refl), inl (inl refl))
+  held-at zero m h k = absurd (omega arith)
+  held-at (suc c) m h k = (k .well .each (firstRow (q .layout) list) (inl refl), inl (inl refl))
+
+  -- it is a consistent row, and is known
+  pub first-held : (kept : Kept) → 0 < kept .count → HoldsSent q cap list kept
+      → Sent q (firstRow (q .layout) list) × Known (heldSent q list kept) (firstRow (q .layout) list)
+  first-held kept = held-at (kept .count) (kept .more)
 
   -- and stands in the slice
-  pub first-room : (c : ℕ) → 0 < c → Holding l numbers y cap list c m → bytesFor (rowBits l) ≤ length list
-  first-room c h k =
-      let w = bytesFor (rowBits l) in
-      let rows = length-map (cut c w list) (λ (b : List ℕ). take (rowBits l) (unpack b)) in
-      let some : 1 ≤ cap = omega (arith, k .well .atMost, length-cut w c list) in
+  pub first-room : (kept : Kept) → 0 < kept .count → HoldsSent q cap list kept → bytesFor (rowBits (q .layout)) ≤ length list
+  first-room kept h k =
+      let n = rowBits (q .layout) in
+      let w = bytesFor n in
+      let rows = length-map (cut (kept .count) w list) (λ (b : List ℕ). take n (unpack b)) in
+      let some : 1 ≤ cap = omega (arith, k .well .atMost, length-cut w (kept .count) list) in
       omega (arith, k .room, mul-le-mul-right w some, one-mul w)
 
 -- ---- a desk on which nothing is written has none
-pub anchored-none : {l : Layout} {numbers y : List ℕ} {held : Held} (desk : List ℕ) → getD desk 0 0 ≡ 0
-    → Anchored l numbers y held desk
+pub anchored-none : {q : Query} {held : Held} (desk : List ℕ) → getD desk 0 0 ≡ 0 → isSet desk ≡ true → Anchor q held desk
 anchored-none desk e s =
     absurd (omega (arith, eqb-true (getD desk 0 0) 1 (both-right (leb deskSize (length desk)) (eqb (getD desk 0 0) 1) s)))
 
@@ -257,26 +273,27 @@ pub set-long : (desk : List ℕ) → isSet desk ≡ true → deskSize ≤ length
 set-long desk e = leb-true deskSize (length desk) (both-left (leb deskSize (length desk)) (eqb (getD desk 0 0) 1) e)
 
 -- ---- a consistent row that differs from the anchor's chunks z in at most r of them is known
-pub near-known : {l : Layout} {numbers y : List ℕ} {held : Held} {desk : List ℕ} → Given l numbers y
-    → Anchor l numbers y held desk
-    → (z : List ℕ) → ((c : ℕ) → c < l .l1 * l .l2 → getD z c 0 ≡ getD desk (1 + c) 0)
-    → (x : List ℕ) → Sent l numbers y x → over (unlike (values l x) z) 0 (l .l1 * l .l2) ≤ l .r → Known held x
-near-known {l} {held = held} given a z e x sent few =
+pub near-known : {q : Query} {held : Held} {desk : List ℕ} → Given q → Anchor q held desk
+    → (z : List ℕ) → ((c : ℕ) → c < q .layout .l1 * q .layout .l2 → getD z c 0 ≡ getD desk (1 + c) 0)
+    → (x : List ℕ) → Sent q x
+    → over (unlike (values (q .layout) x) z) 0 (q .layout .l1 * q .layout .l2) ≤ q .layout .r → Known held x
+near-known {q} {held = held} given a z e x sent few =
+    let l = q .layout in
     let chunk : (c : ℕ) → c < l .l1 * l .l2 → unlike (values l x) z c ≡ unlike (values l x) (values l (a .row)) c =
     λ c h. ap (λ (v : ℕ). cond (eqb (getD (values l x) c 0) v) 0 1) (e c h ∙ a .prepared .chunks c h)
     in
     let same = over-same (unlike (values l x) z) (unlike (values l x) (values l (a .row))) 0 (l .l1 * l .l2)
     (λ t h. rw (zero-add t) (chunk t h))
     in
-    subst (Known held) (sym (only-one given x (a .row) sent (a .sent) (omega (arith, same)))) (a .known)
+    subst (Known held) (sym (only-one given (a .some-checks) x (a .row) sent (a .sent) (omega (arith, same)))) (a .known)
 
 -- ---- an anchor stays one while the rows held grow
-pub anchored-stays : {l : Layout} {numbers y : List ℕ} {cap : ℕ} {P : List ℕ → Type 0} {entry exit : List ℕ} {c d : ℕ}
-    {m o : Bool} {desk : List ℕ} → Holding l numbers y cap entry c m → Grown l numbers y cap P entry c m exit d o
-    → Anchored l numbers y (rowsIn (rowBits l) entry c m) desk → Anchored l numbers y (rowsIn (rowBits l) exit d o) desk
-anchored-stays {l} h g a e =
+pub anchored-stays : {q : Query} {cap : ℕ} {P : List ℕ → Type 0} {entry exit : List ℕ} {kept now : Kept} {desk : List ℕ}
+    → HoldsSent q cap entry kept → AddsSent q cap P entry kept exit now → Anchors q entry kept desk → Anchors q exit now desk
+anchored-stays h g a e =
     let k = a e in
     record {
+      some-checks = k .some-checks;
       row = k .row;
       sent = k .sent;
       known =

@@ -10,11 +10,13 @@ use native.Mathlib.Omega.{arith}
 use lib.Dec.{ltb}
 use lib.ListN.{length, getD, take, drop, set, replicate, getD-replicate, length-append, length-drop, List·getD-append}
 use lib.Seq.{getD-set-same, getD-set-other, length-take-le, getD-take, getD-append-add}
+use Rattle.bits.specs.Bits.{mostChunks, mostInLine}
 use Rattle.bits.proofs.Laws.{lt-or-ge}
 use Rattle.consistent.specs.Consistent.{mostLosses}
 use Rattle.message.specs.Layout.{rowBits}
 use Rattle.message.specs.declared.Layout.{Layout}
-use Rattle.anchor.specs.Anchor.{over, Reads, deskSize, nearAt, laterAt, wide, NearFor, LaterFor, Prepared}
+use Rattle.anchor.specs.Anchor.{over, Reads, deskSize, nearFrom, nearAt, laterFrom, laterAt, wide}
+use Rattle.anchor.specs.Anchor.{NearFor, LaterFor, Prepared}
 use Rattle.anchor.proofs.Over.{over-none, over-split, over-same}
 
 -- the blocks before block i and those from it on are all
@@ -69,10 +71,10 @@ module _ (f : ℕ → ℕ) (l1 l2 : ℕ) where
       let z : l1 - l1 ≡ 0 = omega arith in
       rw (z, zero-mul l2) (over-none f (l1 * l2))
 
-  pub sums-none : l1 ≤ 255 → Sums l1 (replicate 256 0)
+  pub sums-none : l1 ≤ mostInLine → Sums l1 (replicate (mostInLine + 1) 0)
   sums-none h j lo hi =
       let e : l1 ≡ j = omega arith in
-      rw (← e) (getD-replicate {A = ℕ} 256 l1 0 0 (omega arith) ∙ sym sum-last)
+      rw (← e) (getD-replicate {A = ℕ} (mostInLine + 1) l1 0 0 (omega arith) ∙ sym sum-last)
 
   -- one block more in front
   pub sum-next : (i : ℕ) → 0 < i → i ≤ l1
@@ -123,8 +125,8 @@ module _ (s p : List ℕ) (at : ℕ) (room : at + length p ≤ length s) where
       ∙ getD-append-add (take at s) p j 0
 
 -- how many chunks can be another than the anchor's depends on the second part of the desk alone
-pub wide-same : (l : Layout) (s u : List ℕ) (i d a : ℕ) → i ≤ l .l1 → d ≤ mostLosses → l .l1 * l .l2 ≤ 255
-    → ((q : ℕ) → q < 3571 → getD s q 0 ≡ getD u q 0)
+pub wide-same : (l : Layout) (s u : List ℕ) (i d a : ℕ) → i ≤ l .l1 → d ≤ mostLosses → l .l1 * l .l2 ≤ mostChunks
+    → ((q : ℕ) → q < laterFrom → getD s q 0 ≡ getD u q 0)
     → over (wide s d a) (i * l .l2) ((l .l1 - i) * l .l2) ≡ over (wide u d a) (i * l .l2) ((l .l1 - i) * l .l2)
 wide-same l s u i d a h m few e =
     let split : i * l .l2 + (l .l1 - i) * l .l2 ≡ l .l1 * l .l2 = blocks-split (l .l1) (l .l2) i h in
@@ -136,17 +138,17 @@ pub near-none : (nc : ℕ) (y s : List ℕ) → NearFor nc y 0 s s
 near-none nc y s = record { size = refl; before = λ q h. refl; near = λ c d t h m lo hi. absurd (omega arith) }
 
 -- one chunk more
-pub near-next : (nc : ℕ) (y : List ℕ) (n : ℕ) (entry s p exit : List ℕ) → n < 255 → deskSize ≤ length entry
+pub near-next : (nc : ℕ) (y : List ℕ) (n : ℕ) (entry s p exit : List ℕ) → n < mostChunks → deskSize ≤ length entry
     → length p ≡ 13
-    → Runs nc y n (getD s (1 + n) 0) p → exit ≡ take (256 + n * 13) s ++ p ++ drop (256 + n * 13 + length p) s
+    → Runs nc y n (getD s (1 + n) 0) p → exit ≡ take (nearFrom + n * 13) s ++ p ++ drop (nearFrom + n * 13 + length p) s
     → NearFor nc y n entry s → NearFor nc y (n + 1) entry exit
 near-next nc y n entry s p exit h k w r e f =
-    let room : 256 + n * 13 + length p ≤ length s = omega (arith, f .size) in
-    let kept : (q : ℕ) → q < 256 + n * 13 → getD exit q 0 ≡ getD s q 0 =
-    λ q i. ap (λ (v : List ℕ). getD v q 0) e ∙ put-before s p (256 + n * 13) room q i
+    let room : nearFrom + n * 13 + length p ≤ length s = omega (arith, f .size) in
+    let kept : (q : ℕ) → q < nearFrom + n * 13 → getD exit q 0 ≡ getD s q 0 =
+    λ q i. ap (λ (v : List ℕ). getD v q 0) e ∙ put-before s p (nearFrom + n * 13) room q i
     in
     record {
-      size = ap length e ∙ put-length s p (256 + n * 13) room ∙ f .size;
+      size = ap length e ∙ put-length s p (nearFrom + n * 13) room ∙ f .size;
       before = λ q i. kept q (omega arith) ∙ f .before q i;
       near = λ c d t i m lo hi. ⊎-elim
           (λ j. f .near c d t j m lo (omega (arith, kept (nearAt c d) (omega arith))))
@@ -155,7 +157,7 @@ near-next nc y n entry s p exit h k w r e f =
           let new : getD exit (nearAt c d) 0 ≡ getD p d 0 =
           ap (λ (b : ℕ). getD exit (nearAt b d) 0) same
           ∙ ap (λ (v : List ℕ). getD v (nearAt n d) 0) e
-          ∙ put-there s p (256 + n * 13) room d (omega arith)
+          ∙ put-there s p (nearFrom + n * 13) room d (omega arith)
           in
           rw (same, ← f .before (1 + n) (omega arith)) (r d t m lo (omega arith)))
           (lt-or-ge c n);
@@ -166,19 +168,19 @@ pub later-none : (l : Layout) (k : ℕ) (s : List ℕ) → LaterFor l k 0 s s
 later-none l k s = record { size = refl; before = λ q h. refl; later = λ i d h m. absurd (omega arith) }
 
 -- one number of losses more
-pub later-next : (l : Layout) (k n : ℕ) (entry s p exit : List ℕ) → l .l1 ≤ 255 → n ≤ mostLosses → deskSize ≤ length entry
-    → length p ≡ 256
+pub later-next : (l : Layout) (k n : ℕ) (entry s p exit : List ℕ) → l .l1 ≤ mostInLine → n ≤ mostLosses
+    → deskSize ≤ length entry → length p ≡ mostInLine + 1
     → ((i : ℕ) → i ≤ l .l1 → getD p i 0 ≡ over (wide s n (k - n)) (i * l .l2) ((l .l1 - i) * l .l2))
-    → l .l1 * l .l2 ≤ 255
-    → exit ≡ take (3571 + n * 256) s ++ p ++ drop (3571 + n * 256 + length p) s
+    → l .l1 * l .l2 ≤ mostChunks
+    → exit ≡ take (laterFrom + n * (mostInLine + 1)) s ++ p ++ drop (laterFrom + n * (mostInLine + 1) + length p) s
     → LaterFor l k n entry s → LaterFor l k (n + 1) entry exit
 later-next l k n entry s p exit few h z w r chunks e f =
-    let room : 3571 + n * 256 + length p ≤ length s = omega (arith, f .size) in
-    let kept : (q : ℕ) → q < 3571 + n * 256 → getD exit q 0 ≡ getD s q 0 =
-    λ q i. ap (λ (v : List ℕ). getD v q 0) e ∙ put-before s p (3571 + n * 256) room q i
+    let room : laterFrom + n * (mostInLine + 1) + length p ≤ length s = omega (arith, f .size) in
+    let kept : (q : ℕ) → q < laterFrom + n * (mostInLine + 1) → getD exit q 0 ≡ getD s q 0 =
+    λ q i. ap (λ (v : List ℕ). getD v q 0) e ∙ put-before s p (laterFrom + n * (mostInLine + 1)) room q i
     in
     record {
-      size = ap length e ∙ put-length s p (3571 + n * 256) room ∙ f .size;
+      size = ap length e ∙ put-length s p (laterFrom + n * (mostInLine + 1)) room ∙ f .size;
       before = λ q i. kept q (omega arith) ∙ f .before q i;
       later = λ i d b m. ⊎-elim
           (λ j. kept (laterAt i d) (omega arith) ∙ f .later i d b j)
@@ -186,17 +188,17 @@ later-next l k n entry s p exit few h z w r chunks e f =
           let same : d ≡ n = omega arith in
           rw same
           (ap (λ (v : List ℕ). getD v (laterAt i n) 0) e
-          ∙ put-there s p (3571 + n * 256) room i (omega arith)
+          ∙ put-there s p (laterFrom + n * (mostInLine + 1)) room i (omega arith)
           ∙ r i b
           ∙ wide-same l s entry i n (k - n) b h chunks (f .before)))
           (lt-or-ge d n);
     }
 
 -- ---- the whole desk: the chunks of a row are copied to it, and the other parts are written after them
-module _ (l : Layout) (y vs old chunks s₀ s₁ s₂ s₃ : List ℕ) (few : l .l1 * l .l2 ≤ 255) (short : length y ≤ rowBits l)
-    (most : rowBits l ≤ length y + mostLosses) (long : deskSize ≤ length s₀) (e : chunks ≡ vs ++ old)
+module _ (l : Layout) (y vs old chunks s₀ s₁ s₂ s₃ : List ℕ) (few : l .l1 * l .l2 ≤ mostChunks)
+    (short : length y ≤ rowBits l) (most : rowBits l ≤ length y + mostLosses) (long : deskSize ≤ length s₀) (e : chunks ≡ vs ++ old)
     (n : length vs ≡ l .l1 * l .l2)
-    (w : length chunks ≡ 255) (put₁ : s₁ ≡ take 1 s₀ ++ chunks ++ drop (1 + length chunks) s₀)
+    (w : length chunks ≡ mostChunks) (put₁ : s₁ ≡ take 1 s₀ ++ chunks ++ drop (1 + length chunks) s₀)
     (near₂ : NearFor (l .nc) y (l .l1 * l .l2) s₁ s₂)
     (later₃ : LaterFor l (rowBits l - length y) (rowBits l - length y + 1) s₂ s₃) where
   room₁ : 1 + length chunks ≤ length s₀

@@ -8,14 +8,16 @@ use mathlib.Core.Bool.{Bool, true, cond, _&&_}
 use mathlib.Core.List.{List}
 use lib.Dec.{eqb, leb, ltb}
 use lib.ListN.{length, getD, take, drop}
-use Rattle.bits.specs.Bits.{number}
+use Rattle.bits.specs.Bits.{mostChunks, mostInLine, number}
 use Rattle.rows.specs.Held.{Held, Known}
+use Rattle.rows.specs.declared.Kept.{Kept}
 use Rattle.message.specs.Layout.{rowBits, blockBits}
 use Rattle.message.specs.declared.Layout.{Layout}
 use Rattle.consistent.specs.Consistent.{mostLosses}
 use Rattle.consistent.specs.Greedy.{losses, inAll}
 use Rattle.lines.specs.Lines.{values, unlike}
-use Rattle.found.specs.Found.{Sent}
+use Rattle.consistent.specs.Query.{Query, query}
+use Rattle.found.specs.Given.{Sent, heldSent}
 
 -- the sum of f over n places from place c on
 unfoldable pub over : (f : ℕ → ℕ) (c n : ℕ) → ℕ
@@ -33,14 +35,20 @@ Reads nc y c v t = t ≤ c * nc → c * nc + nc ≤ length y + t → number nc (
 -- ---- the desk, a slice of bytes: whether an anchor is set; its chunks; for each chunk and each number of losses
 -- before it, how many more losses leave it the anchor's, at least; and for each number of losses and each block, how
 -- many chunks from there on can be another than the anchor's although they lost no bit
-abbrev pub deskSize : ℕ
-deskSize = 6899
+abbrev pub nearFrom : ℕ
+nearFrom = 1 + mostChunks
 
 abbrev pub nearAt : (c d : ℕ) → ℕ
-nearAt c d = 256 + c * 13 + d
+nearAt c d = nearFrom + c * 13 + d
+
+abbrev pub laterFrom : ℕ
+laterFrom = nearFrom + mostChunks * 13
 
 abbrev pub laterAt : (i d : ℕ) → ℕ
-laterAt i d = 3571 + d * 256 + i
+laterAt i d = laterFrom + d * (mostInLine + 1) + i
+
+abbrev pub deskSize : ℕ
+deskSize = laterFrom + 13 * (mostInLine + 1)
 
 -- 1 where chunk c can be another than the anchor's although it lost no bit, where d to d + a bits are lost before it
 abbrev pub wide : (desk : List ℕ) (d a : ℕ) → ℕ → ℕ
@@ -50,14 +58,14 @@ wide desk d a c = cond (ltb a (getD desk (nearAt c d) 0)) 0 1
 -- losses says that the chunk stays the anchor's after d to d + r - 1 losses
 pub record NearFor (nc : ℕ) (y : List ℕ) (n : ℕ) (entry exit : List ℕ) : Type 0 where
   pub size : length exit ≡ length entry
-  pub before : (q : ℕ) → q < 256 → getD exit q 0 ≡ getD entry q 0
+  pub before : (q : ℕ) → q < nearFrom → getD exit q 0 ≡ getD entry q 0
   pub near : (c d t : ℕ) → c < n → d ≤ mostLosses → d ≤ t → t < d + getD exit (nearAt c d) 0
       → Reads nc y c (getD entry (1 + c) 0) t
 
 -- the desk with the third part written for fewer than n losses, where k are lost in all
 pub record LaterFor (l : Layout) (k n : ℕ) (entry exit : List ℕ) : Type 0 where
   pub size : length exit ≡ length entry
-  pub before : (q : ℕ) → q < 3571 → getD exit q 0 ≡ getD entry q 0
+  pub before : (q : ℕ) → q < laterFrom → getD exit q 0 ≡ getD entry q 0
   pub later : (i d : ℕ) → i ≤ l .l1 → d < n
       → getD exit (laterAt i d) 0 ≡ over (wide entry d (k - d)) (i * l .l2) ((l .l1 - i) * l .l2)
 
@@ -73,16 +81,22 @@ pub record Prepared (l : Layout) (y vs desk : List ℕ) : Type 0 where
 abbrev pub isSet : List ℕ → Bool
 isSet desk = leb deskSize (length desk) && eqb (getD desk 0 0) 1
 
--- the anchor is a consistent row that is known, and the desk is prepared for it
-pub record Anchor (l : Layout) (numbers y : List ℕ) (held : Held) (desk : List ℕ) : Type 0 where
+-- the anchor is a consistent row that is known, and the desk is prepared for it. There is one only where the message has
+-- checks: without them two consistent rows may differ in any one chunk
+pub record Anchor (q : Query) (held : Held) (desk : List ℕ) : Type 0 where
+  pub some-checks : 0 < q .layout .r
   pub row : List ℕ
-  pub sent : Sent l numbers y row
+  pub sent : Sent q row
   pub known : Known held row
-  pub prepared : Prepared l y (values l row) desk
+  pub prepared : Prepared (q .layout) (q .received) (values (q .layout) row) desk
 
--- what holds of the desk at any time
+-- what holds of the desk at any time: if it has an anchor, that is known by the rows in the list slice
+abbrev pub Anchors : Query → (list : List ℕ) → Kept → (desk : List ℕ) → Type 0
+Anchors q list kept desk = isSet desk ≡ true → Anchor q (heldSent q list kept) desk
+
+-- the same over the layout, the numbers and the received bits one by one
 abbrev pub Anchored : (l : Layout) (numbers y : List ℕ) (held : Held) (desk : List ℕ) → Type 0
-Anchored l numbers y held desk = isSet desk ≡ true → Anchor l numbers y held desk
+Anchored l numbers y held desk = isSet desk ≡ true → Anchor (query l numbers y) held desk
 
 -- ---- a row x under the first i counts of a loss pattern
 -- they are its own losses, block by block
@@ -96,9 +110,11 @@ LightInHand l counts i row x =
 
 -- a consistent row that loses d bits before block b and a in it, and has the block in hand if a is at most 1, differs
 -- from the anchor in at most m chunks of the block
-abbrev pub BlockMost : Layout → (numbers y desk row : List ℕ) (b d a m : ℕ) → Type 0
-BlockMost l numbers y desk row b d a m =
-    (vs x : List ℕ) → Prepared l y vs desk → Sent l numbers y x → lostBefore l y x (b * l .l2) ≡ d
+abbrev pub BlockMost : Query → (desk row : List ℕ) (b d a m : ℕ) → Type 0
+BlockMost q desk row b d a m =
+    let l = q .layout in
+    let y = q .received in
+    (vs x : List ℕ) → Prepared l y vs desk → Sent q x → lostBefore l y x (b * l .l2) ≡ d
     → lostBefore l y x (b * l .l2 + l .l2) ≡ d + a
     → (a ≤ 1 → (j : ℕ) → j < l .l2 → getD (values l x) (b * l .l2 + j) 0 ≡ getD row (b * l .l2 + j) 0)
     → over (unlike (values l x) vs) (b * l .l2) (l .l2) ≤ m

@@ -7,7 +7,7 @@ ghost use mathlib.Core.Bool.{true, false};
 ghost use mathlib.Core.List.{List};
 ghost use Prim.Native.Nat.{ℕ, _+_, _*_, _<_, _≤_};
 ghost use lib.ListN.{length, getD};
-ghost use Rattle.bits.specs.Bits.{AllBits, longest};
+ghost use Rattle.bits.specs.Bits.{AllBits, longest, mostChunks};
 ghost use Rattle.message.specs.Layout.{legal};
 ghost use Rattle.windows.specs.Windows.{Tables};
 ghost use Rattle.cells.specs.Cells.{Placed};
@@ -77,7 +77,7 @@ fn with_chunk(cut: Cut, j: u8, place: usize, lost: u8) -> Cut
 // Cell z, which is open and stands in block i, cut out of a row, in which a zero is left for it.
 fn cut_cell(l: Layout, y: &[u8], cells: Cells, i: usize, z: usize, cut: Cut, row: &mut [u8]) -> Cut
     requires { ⌜ ((legal l ≡ true) × (i < l .l1))
-        × (Placed l (length (now y)) cells × ((z < 12) × ((isIn cells i z ≡ true) × (length (now row) ≡ 255)))) ⌝ }
+        × (Placed l (length (now y)) cells × ((z < 12) × ((isIn cells i z ≡ true) × (length (now row) ≡ mostChunks)))) ⌝ }
     ensures { λ r. ⌜ (length (now (row .exit)) ≡ length (now (row .entry)))
         × (r .ok ≡ true → CutOut l (now (y .entry)) cells i z cut
         → CutOut l (now (y .entry)) cells i (z + 1) r
@@ -91,7 +91,7 @@ fn cut_cell(l: Layout, y: &[u8], cells: Cells, i: usize, z: usize, cut: Cut, row
 
 // The open cells of block i cut out of a row, in which a zero is left for each.
 fn cut_out(l: Layout, y: &[u8], cells: Cells, i: usize, row: &mut [u8]) -> Cut
-    requires { ⌜ (legal l ≡ true) × ((i < l .l1) × (Placed l (length (now y)) cells × (length (now row) ≡ 255))) ⌝ }
+    requires { ⌜ (legal l ≡ true) × ((i < l .l1) × (Placed l (length (now y)) cells × (length (now row) ≡ mostChunks))) ⌝ }
     ensures { λ r. ⌜ (r .ok ≡ true
         → CutOut l (now (y .entry)) cells i 12 r × (now (row .exit) ≡ bare l cells i 12 (now (row .entry)))) ⌝ }
 {
@@ -125,7 +125,7 @@ fn cut_out(l: Layout, y: &[u8], cells: Cells, i: usize, row: &mut [u8]) -> Cut
 // there.
 fn read_on(l: Layout, y: &[u8], i: usize, end: u8, j: usize, row: &mut [u8]) -> bool
     requires { ⌜ (legal l ≡ true)
-        × (AllBits (now y) × ((length (now y) ≤ longest) × ((i < l .l1) × (length (now row) ≡ 255)))) ⌝ }
+        × (AllBits (now y) × ((length (now y) ≤ longest) × ((i < l .l1) × (length (now row) ≡ mostChunks)))) ⌝ }
     ensures { λ r. ⌜ ReadOn l (now (y .entry)) i end j (now (row .entry)) (now (row .exit)) r ⌝ }
 {
     let columns = l.l2;
@@ -157,19 +157,22 @@ pub fn can_end(
     counts: &[u16],
     numbers: &[u16],
     cells: Cells,
-    row: [u8; 255],
+    row: &[u8],
     i: usize,
     end: u8,
     j: usize,
 ) -> bool
     requires { ⌜ ((legal l ≡ true) × (AllBits (now y) × (length (now y) ≤ longest)))
         × (Tables (now y) 0 (now totals) (now counts)
-        × (Placed l (length (now y)) cells × ((i < l .l1)
+        × (Placed l (length (now y)) cells × (((i < l .l1) × (l .l1 * l .l2 ≤ length (now row)))
         × ((i < length (now numbers)) × (getD (now numbers) i 0 ≤ l .l2 * l .nc))))) ⌝ }
     ensures { λ r. ⌜ ((vs : List ℕ)
-        → Ended l (now (y .entry)) (now (numbers .entry)) cells row i end j vs → r ≡ true) ⌝ }
+        → Ended l (now (y .entry)) (now (numbers .entry)) cells (now (row .entry)) i end j vs → r ≡ true) ⌝ }
 {
-    let mut out = row;
+    let mut out: [u8; bits::MOST_CHUNKS] = [0; bits::MOST_CHUNKS];
+    let first = i * l.l2;
+    let behind = first + l.l2;
+    bits::copy_to(&row[first..behind], &mut out, first);
     if !read_on(l, y, i, end, j, &mut out) {
         return false;
     }
@@ -178,7 +181,7 @@ pub fn can_end(
         return true;
     }
     let modulus = l.l2 * l.nc + 1;
-    let part = lines::line_sum(l.nc, i * l.l2, 1, l.l2, &out);
+    let part = lines::line_sum(l.nc, first, 1, l.l2, &out);
     let need = column::missing(numbers[i] as usize, part, modulus);
     weigh::can_bring(l.nc, modulus, y, totals, counts, cut.chunks, need)
 }

@@ -4,14 +4,13 @@ use mathlib.Core.Bool.{Bool, true, _&&_}
 use mathlib.Core.List.{List, [], _∷_}
 use lib.Dec.{eqb}
 use lib.ListN.{length, take}
-use Rattle.refusal.specs.Refusal.{Answer}
 use Rattle.bits.specs.Bits.{unpack, same}
 use Rattle.vt.specs.Mend.{mended}
 use Rattle.message.specs.Layout.{layout, rowBits}
 use Rattle.message.specs.Message.{blockSums, stringSums, checks, message, encode}
 use Rattle.message.specs.Read.{messageRefusal}
 use Rattle.message.specs.declared.Layout.{Layout}
-use Rattle.consistent.specs.List.{listAnswer, listSlice}
+use Rattle.consistent.specs.List.{ListAnswer, listAnswer, listSlice}
 
 -- a marked case: what is given, and what the paper says comes of it
 pub data Case : Type 0 where
@@ -32,9 +31,9 @@ unfoldable pub rowOf : Layout → List ℕ → List ℕ
 unfolding unpack
 rowOf l packed = take (rowBits l) (unpack packed)
 
--- the answer has this refusal and this value
-unfoldable pub answers : Answer → (refusal value : ℕ) → Bool
-answers a q v = eqb (a .refusal) q && eqb (a .value) v
+-- the answer has this refusal and this count
+unfoldable pub answers : ListAnswer → (refusal count : ℕ) → Bool
+answers a q n = eqb (a .refusal) q && eqb (a .count) n
 
 -- what the case says holds of the definitions
 unfoldable pub holds : Case → Bool

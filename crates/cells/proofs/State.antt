@@ -16,7 +16,7 @@ use Rattle.bits.proofs.Laws.{set-zero}
 use Rattle.message.specs.Layout.{legal}
 use Rattle.message.specs.declared.Layout.{Layout}
 use Rattle.message.proofs.Fields.{field-room}
-use Rattle.message.proofs.Legal.{legal-bounds, sizes}
+use Rattle.message.proofs.Legal.{chunk-lies}
 use Rattle.consistent.specs.Greedy.{losses}
 use Rattle.lines.specs.Lines.{values, line}
 use Rattle.lines.proofs.Lines.{line-same}
@@ -33,7 +33,7 @@ same-or-not a b = go (eqb a b) refl
 
 -- chunk j of block i, counted in row order, is one of a row's
 pub chunk-low : (l : Layout) → legal l ≡ true → (i j : ℕ) → i < l .l1 → j < l .l2 → i * l .l2 + j < mostChunks
-chunk-low l e i j h g = omega (arith, sizes l (legal-bounds l e) .chunks, field-room (l .l1) (l .l2) i h)
+chunk-low l e i j h g = chunk-lies l e i j h g .low
 
 -- and one of the layout's
 pub chunk-inside : (l : Layout) (i j : ℕ) → i < l .l1 → j < l .l2 → i * l .l2 + j < l .l1 * l .l2

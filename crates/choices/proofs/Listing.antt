@@ -10,10 +10,11 @@ use native.Mathlib.Omega.{arith}
 use lib.Dec.{eqb}
 use lib.ListN.{length, getD, set, drop, length-set}
 use lib.Seq.{getD-set-same, getD-set-other}
-use Rattle.bits.specs.Bits.{longest, digits, number}
+use Rattle.bits.specs.Bits.{digits, number}
 use Rattle.bits.proofs.Laws.{lt-or-ge}
 use Rattle.vt.specs.Ones.{ones}
 use Rattle.message.specs.declared.Layout.{Layout}
+use Rattle.message.proofs.Legal.{Lies, chunk-lies}
 use Rattle.consistent.specs.Greedy.{losses}
 use Rattle.states.specs.States.{stride, each}
 use Rattle.states.specs.declared.Shape.{Shape}
@@ -23,34 +24,17 @@ use Rattle.weigh.specs.declared.Span.{Span}
 use Rattle.weigh.proofs.Spans.{ones-between, one-wider}
 use Rattle.column.specs.Column.{chunkAt, valueAt, Crosses}
 use Rattle.column.specs.declared.Heavy.{Heavy}
-use Rattle.column.proofs.Rows.{chunk-stands, string-high, no-loss}
+use Rattle.column.proofs.Rows.{no-loss}
 use Rattle.choices.specs.Choices.{Fitted, Seeable, Viewed, mostChoices, Keeps, Put, Small, bringsAt, Suits}
 use Rattle.choices.specs.Choices.{ChoicesOf, Blocks}
 use Rattle.choices.specs.declared.View.{View}
 
--- ---- where a chunk stands
--- chunk i * l2 + j is that of heavy block s in column j: it is one of the layout's, and few positions are before it
--- in the row, and in its chunk-string
-pub record ChunkIs (l : Layout) (heavy : Heavy) (j s i : ℕ) : Type 0 where
-  pub is : i * l .l2 + j ≡ chunkAt l heavy j s
-  pub inside : i * l .l2 + j < l .l1 * l .l2
-  pub low : i * l .l2 + j < 255
-  pub in-row : (i * l .l2 + j) * l .nc ≤ longest
-  pub in-string : i * l .nc ≤ longest
-
+-- ---- where a chunk lies
+-- the chunk of heavy block s in column j, the block being number i
 pub chunk-is : {l : Layout} {y totals counts : List ℕ} {heavy : Heavy} {j : ℕ} → Seeable l y totals counts heavy j
-    → (s i : ℕ) → s < heavy .n → i ≡ getD (heavy .block) s 0 → ChunkIs l heavy j s i
+    → (s i : ℕ) → s < heavy .n → i ≡ getD (heavy .block) s 0 → Lies l i j
 chunk-is {l} {heavy = heavy} {j} g s i h e =
-    let b = g .blocks s h in
-    let k = chunk-stands l (g .allowed) (getD (heavy .block) s 0) j b (g .column) in
-    let before : getD (heavy .block) s 0 * l .nc ≤ l .l1 * l .nc = mul-le-mul-right (l .nc) (omega arith) in
-    rw e (record {
-      is = refl;
-      inside = k .0;
-      low = k .1 .0;
-      in-row = k .1 .1;
-      in-string = omega (arith, before, string-high l (g .allowed));
-    })
+    rw e (chunk-lies l (g .allowed) (getD (heavy .block) s 0) j (g .blocks s h) (g .column))
 
 -- ---- choices are listed
 module _ {t : ℕ} {entry exit : List ℕ} (k : Keeps t entry exit) where

@@ -55,11 +55,7 @@ fn look_at(
 {
     let nc = l.nc;
     let lost = bits::wide(a);
-    if nc < lost {
-        return unseen();
-    }
-    let from = (bits::wide(heavy.block[s]) * l.l2 + j) * nc + bits::wide(left);
-    let p = column::place_of(nc, y.len(), from, heavy.end[s], left, left - a);
+    let p = column::place_of(l, y.len(), heavy.block[s], j, heavy.end[s], left, left - a);
     if !p.ok {
         return unseen();
     }

@@ -4,15 +4,14 @@ use Prim.Native.Nat.{ℕ, _+_, _-_, _*_, _/_, _%_, _^_, _<_, _≤_}
 use mathlib.Core.Path.{_≡_, sym, ap, _∙_}
 use mathlib.Core.Bool.{Bool, true, false, cond}
 use mathlib.Core.List.{List, _++_}
-use native.Mathlib.Nat.{mod-eq-of-lt, div-add-mod', add-mul-mod-self-right, mul-le-mul, mul-comm}
+use native.Mathlib.Nat.{mod-eq-of-lt, div-add-mod', add-mul-mod-self-right}
 use native.Mathlib.Omega.{arith}
 use lib.ListN.{length, getD, take, drop, take-append-drop}
-use Rattle.bits.specs.Bits.{longest, digits, number}
+use Rattle.bits.specs.Bits.{longest, mostChunks, mostInLine, longestLine, digits, number}
 use Rattle.bits.proofs.Laws.{length-digits, number-digits}
 use Rattle.message.specs.Layout.{legal}
 use Rattle.message.specs.declared.Layout.{Layout}
-use Rattle.message.proofs.Fields.{field-room}
-use Rattle.message.proofs.Legal.{legal-bounds, sizes}
+use Rattle.message.proofs.Legal.{legal-bounds, sizes, chunk-lies, string-high}
 use Rattle.consistent.specs.Greedy.{losses}
 use Rattle.consistent.proofs.Greedy.{whole}
 use Rattle.weigh.specs.declared.Chunks.{Chunks}
@@ -29,22 +28,14 @@ one-most false = omega arith
 
 -- where a chunk of a layout stands
 pub chunk-stands : (l : Layout) → legal l ≡ true → (i j : ℕ) → i < l .l1 → j < l .l2
-    → (i * l .l2 + j < l .l1 * l .l2) × ((i * l .l2 + j < 255) × ((i * l .l2 + j) * l .nc ≤ 2040))
-chunk-stands l e i j h g =
-    let b = legal-bounds l e in
-    let r : i * l .l2 + j < l .l1 * l .l2 = omega (arith, field-room (l .l1) (l .l2) i h) in
-    let c : i * l .l2 + j < 255 = omega (arith, sizes l b .chunks) in
-    (r, (c, mul-le-mul {n₁ = i * l .l2 + j} {m₁ = l .nc} {n₂ = 255} {m₂ = 8} (omega arith) (b .nc-high)))
-
--- a chunk-string of a layout is no longer than a row
-pub string-high : (l : Layout) → legal l ≡ true → l .l1 * l .nc ≤ longest
-string-high l e = omega (arith, sizes l (legal-bounds l e) .string, mul-comm (l .l1) (l .nc))
+    → (i * l .l2 + j < l .l1 * l .l2) × ((i * l .l2 + j < mostChunks) × ((i * l .l2 + j) * l .nc ≤ longest))
+chunk-stands l e i j h g = let c = chunk-lies l e i j h g in (c .inside, (c .low, c .in-row))
 
 -- the sum of a chunk-string and its place among the numbers are small, and so is its modulus
 pub record StringLow (l : Layout) (numbers : List ℕ) (j : ℕ) : Type 0 where
-  pub modulus : l .l1 * l .nc ≤ longest
+  pub modulus : l .l1 * l .nc ≤ longestLine
   pub sum : getD numbers (l .l1 + j) 0 ≤ l .l1 * l .nc
-  pub index : l .l1 + j ≤ 510
+  pub index : l .l1 + j ≤ mostInLine + mostInLine
 
 pub string-low : {l : Layout} {y numbers : List ℕ} {heavy : Heavy} → Fit l y numbers heavy → (j : ℕ) → j < l .l2
     → StringLow l numbers j

@@ -14,6 +14,7 @@ use Rattle.consistent.specs.Greedy.{losses}
 use Rattle.lines.specs.Lines.{line, unlike}
 use Rattle.weigh.specs.declared.Chunks.{Chunks}
 use Rattle.column.specs.declared.Heavy.{Heavy}
+use Rattle.column.specs.declared.Place.{Place}
 
 -- heavy blocks of a layout, in ascending order, with a received row and the sums
 pub record Fit (l : Layout) (y numbers : List ℕ) (heavy : Heavy) : Type 0 where
@@ -95,6 +96,14 @@ pub record Readable (nc size from end left next : ℕ) : Type 0 where
   pub few : left ≤ next + nc
   pub starts : end ≤ from
   pub there : from + nc + next ≤ size + end + left
+
+-- where chunk j of a block is read: wherever it can be matched it is found to be, and then at its place
+pub record PlaceOf (l : Layout) (size block j end left next : ℕ) (p : Place) : Type 0 where
+  pub found : Readable (l .nc) size (startAt l block j left) end left next → p .ok ≡ true
+  pub at-just : p .ok ≡ true → p .at ≡ startAt l block j left - end
+  pub lost-just : p .ok ≡ true → p .lost ≡ left - next
+  pub few : p .ok ≡ true → p .lost ≤ l .nc
+  pub within : p .ok ≡ true → p .at + l .nc ≤ size + p .lost
 
 -- so it is with the chunk of heavy block s in column j
 abbrev pub readable : Layout → (size : ℕ) → Heavy → (j : ℕ) (left next : ℕ → ℕ) (s : ℕ) → Type 0

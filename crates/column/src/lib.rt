@@ -7,12 +7,12 @@ ghost use mathlib.Core.List.{List};
 ghost use Prim.Native.Nat.{ℕ, _+_, _-_, _*_, _%_, _<_, _≤_};
 ghost use lib.Dec.{eqb};
 ghost use lib.ListN.{length, getD, drop};
-ghost use Rattle.bits.specs.Bits.{AllBits, longest, number};
+ghost use Rattle.bits.specs.Bits.{AllBits, longest, longestLine, number};
 ghost use Rattle.message.specs.Layout.{legal};
 ghost use Rattle.states.specs.States.{each};
 ghost use Rattle.windows.specs.Windows.{Tables};
 ghost use Rattle.column.specs.Column.{Fit, Zeroed, Cleared, Light, Crosses, apartIn};
-ghost use Rattle.column.specs.Column.{Readable, readable, Placed, Within, AsRead};
+ghost use Rattle.column.specs.Column.{PlaceOf, readable, Placed, Within, AsRead};
 
 // The blocks with two losses or more: each block, and the losses up to its end.
 pub struct Heavy {
@@ -33,41 +33,42 @@ fn clear(n: usize, at: usize, out: &mut [u8])
     }
 }
 
-// The row in hand with the chunks of the heavy blocks as zero.
-fn cleared(l: Layout, heavy: Heavy, row: [u8; 255]) -> [u8; 255]
-    requires { ⌜ ((legal l ≡ true) × (heavy .n ≤ 6))
+// Makes the chunks of the heavy blocks zero in the row in hand.
+fn clear_heavy(l: Layout, heavy: Heavy, row: &mut [u8])
+    requires { ⌜ ((legal l ≡ true) × ((heavy .n ≤ 6) × (l .l1 * l .l2 ≤ length (now row))))
         × ((s : ℕ) → s < heavy .n → getD (heavy .block) s 0 < l .l1) ⌝ }
-    ensures { λ r. ⌜ Cleared l heavy (heavy .n) row r ⌝ }
+    ensures { λ _. ⌜ Cleared l heavy (heavy .n) (now (row .entry)) (now (row .exit)) ⌝ }
 {
     let n = heavy.n;
-    let mut out = row;
     let mut s: usize = 0;
     while s < n {
-        clear(l.l2, bits::wide(heavy.block[s]) * l.l2, &mut out);
+        clear(l.l2, bits::wide(heavy.block[s]) * l.l2, row);
         s += 1;
     }
-    out
 }
 
-// The sums of the chunk-strings where the chunks of the heavy blocks count as zero.
+// The sums of the chunk-strings where the chunks of the heavy blocks count as zero; in the row in hand they are made so, since nothing is
+// decided of them yet.
 pub fn light_sums(
     l: Layout,
     y: &[u8],
     numbers: &[u16],
     heavy: Heavy,
-    row: [u8; 255],
+    row: &mut [u8],
     known: &mut [u16],
 )
-    requires { ⌜ Fit l (now y) (now numbers) heavy × (l .l2 ≤ length (now known)) ⌝ }
-    ensures { λ _. ⌜ Light l heavy row (now (known .exit)) ⌝ }
+    requires { ⌜ Fit l (now y) (now numbers) heavy
+        × ((l .l1 * l .l2 ≤ length (now row)) × (l .l2 ≤ length (now known))) ⌝ }
+    ensures { λ _. ⌜ Light l heavy (now (row .entry)) (now (known .exit))
+        × Cleared l heavy (heavy .n) (now (row .entry)) (now (row .exit)) ⌝ }
 {
     let l2 = l.l2;
     let modulus = l.l1 * l.nc + 1;
     let table = vt::weights();
-    let out = cleared(l, heavy, row);
+    clear_heavy(l, heavy, row);
     let mut j: usize = 0;
     while j < l2 {
-        let total = lines::line_total(&table, l.nc, j, l2, l.l1, &out);
+        let total = lines::line_total(&table, l.nc, j, l2, l.l1, row);
         known[j] = (total % modulus) as u16;
         j += 1;
     }
@@ -80,12 +81,13 @@ pub struct Place {
     pub lost: u8,
 }
 
-// The place of a chunk of nc bits in a received row of so many bits, from what is left at its start and after it.
-pub fn place_of(nc: usize, size: usize, from: usize, end: u8, left: u8, next: u8) -> Place
-    requires { ⌜ (nc ≤ 8) × ((size ≤ longest) × (from ≤ 4096)) ⌝ }
-    ensures { λ r. ⌜ (Readable nc size from end left next → r .ok ≡ true)
-        × (r .ok ≡ true → (r .at ≡ from - end) × ((r .lost ≡ left - next) × (r .at + nc ≤ size + r .lost))) ⌝ }
+// Where chunk j of a block is read in a received row of so many bits: where it starts in its own row, less the bits lost before it. Those
+// are the losses up to the end of the block less the ones that are left at the chunk's start; so many are left after it.
+pub fn place_of(l: Layout, size: usize, block: u8, j: usize, end: u8, left: u8, next: u8) -> Place
+    requires { ⌜ ((legal l ≡ true) × (size ≤ longest)) × ((block < l .l1) × (j < l .l2)) ⌝ }
+    ensures { λ r. ⌜ PlaceOf l size block j end left next r ⌝ }
 {
+    let nc = l.nc;
     let none = Place {
         ok: false,
         at: 0,
@@ -98,6 +100,7 @@ pub fn place_of(nc: usize, size: usize, from: usize, end: u8, left: u8, next: u8
     if nc < bits::wide(lost) {
         return none;
     }
+    let from = (bits::wide(block) * l.l2 + j) * nc + bits::wide(left);
     let before = bits::wide(end);
     if from < before {
         return none;
@@ -129,14 +132,12 @@ pub fn find_chunks(
         × (r .ok ≡ true → Placed l (length (now (y .entry))) heavy j (each left) (each next) (r .chunks)) ⌝ }
 {
     let n = heavy.n;
-    let nc = l.nc;
     let block = heavy.block;
     let mut place: [usize; weigh::MOST] = [0; weigh::MOST];
     let mut lost: [u8; weigh::MOST] = [0; weigh::MOST];
     let mut s: usize = 0;
     while s < n {
-        let from = (bits::wide(block[s]) * l.l2 + j) * nc + bits::wide(left[s]);
-        let p = place_of(nc, y.len(), from, heavy.end[s], left[s], next[s]);
+        let p = place_of(l, y.len(), block[s], j, heavy.end[s], left[s], next[s]);
         place[s] = p.at;
         lost[s] = p.lost;
         if !p.ok {
@@ -161,7 +162,7 @@ pub fn find_chunks(
 
 // What is still to be brought to a sum, modulo the modulus, where a part of it is there.
 pub fn missing(whole: usize, part: usize, modulus: usize) -> usize
-    requires { ⌜ (whole < modulus) × (modulus ≤ longest + 1) ⌝ }
+    requires { ⌜ (whole < modulus) × (modulus ≤ longestLine + 1) ⌝ }
     ensures { λ r. ⌜ (r < modulus) × ((b : ℕ) → part < modulus → (part + b) % modulus ≡ whole → b % modulus ≡ r) ⌝ }
 {
     if part <= whole {

@@ -61,11 +61,11 @@ unfolding theList
 list-single s m y g h = at-most-one (consistent s m y) (bitsOf s) (λ x z r t p q. consistent-same s m y x z g h r t p q)
 
 -- whatever the message, the row and the slice: with none or one deleted, at most one row is counted
-pub one-at-most : (s row : List ℕ) (m slice : ℕ) → bitsOf s - m ≤ 1 → listAnswer s row m slice .value ≤ 1
+pub one-at-most : (s row : List ℕ) (m slice : ℕ) → bitsOf s - m ≤ 1 → listAnswer s row m slice .count ≤ 1
 unfolding wanted
 one-at-most s row m slice h = go (listRefusal s row m slice) refl
   where
-    go : (q : ℕ) → listRefusal s row m slice ≡ q → listAnswer s row m slice .value ≤ 1
+    go : (q : ℕ) → listRefusal s row m slice ≡ q → listAnswer s row m slice .count ≤ 1
     go zero e =
         rw (answer-is s row m slice 0 e)
         (list-single s m (take m (unpack row)) (fit s (message-passed s row m (input-passed s row m slice e)) .is-legal)
@@ -91,7 +91,7 @@ own-consistent l x k y r c =
 -- them, and the slice holds them all from its start
 pub record Listed (s y x slice : List ℕ) : Type 0 where
   pub counted : listAnswer s (pack y) (length y) (length slice)
-      ≡ record { refusal = 0; value = length (theList s (length y) y) }
+      ≡ record { refusal = 0; count = length (theList s (length y) y) }
   pub among : Mem x (theList s (length y) y)
   pub written : listSlice s (pack y) (length y) slice
       ≡ flat (map pack (theList s (length y) y)) ++ drop (length (flat (map pack (theList s (length y) y)))) slice

@@ -80,9 +80,9 @@ module _ (s row : List ℕ) (m : ℕ) where
 
   -- what is answered for a refusal, or for none
   pub answer-is : (slice q : ℕ) → listRefusal s row m slice ≡ q
-      → listAnswer s row m slice ≡ record { refusal = q; value = cond (eqb q 0) (length (wanted s row m)) 0 }
+      → listAnswer s row m slice ≡ record { refusal = q; count = cond (eqb q 0) (length (wanted s row m)) 0 }
   unfolding listAnswer
-  answer-is slice q e = ap (λ (v : ℕ). record { refusal = v; value = cond (eqb v 0) (length (wanted s row m)) 0 }) e
+  answer-is slice q e = ap (λ (v : ℕ). record { refusal = v; count = cond (eqb v 0) (length (wanted s row m)) 0 }) e
 
   -- where all rows fit
   module _ (slice : List ℕ) (e : firstRefusal (inputChecks s row m) ≡ 0)
@@ -94,7 +94,7 @@ module _ (s row : List ℕ) (m : ℕ) where
         ∙ room-passes (length slice) h
 
     -- listing answers their number
-    pub list-counts : listAnswer s row m (length slice) ≡ record { refusal = 0; value = length (wanted s row m) }
+    pub list-counts : listAnswer s row m (length slice) ≡ record { refusal = 0; count = length (wanted s row m) }
     list-counts = answer-is (length slice) 0 list-passes
 
     -- and writes them all

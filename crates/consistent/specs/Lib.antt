@@ -1,3 +1,4 @@
 pub mod Consistent
 pub mod List
 pub mod Greedy
+pub mod Query

@@ -5,7 +5,7 @@ use mathlib.Core.Bool.{not, cond, _||_}
 use mathlib.Core.List.{List, [], _∷_, _++_, map}
 use lib.Dec.{eqb, ltb}
 use lib.ListN.{length, take, drop}
-use Rattle.refusal.specs.Refusal.{Check, Answer, firstRefusal}
+use Rattle.refusal.specs.Refusal.{Check, firstRefusal}
 use Rattle.bits.specs.Bits.{bytesFor, pack, unpack, fits}
 use Rattle.rows.specs.Slice.{flat}
 use Rattle.message.specs.Read.{layoutOf, messageChecks}
@@ -46,15 +46,21 @@ unfoldable pub listRefusal : (s row : List ℕ) (m slice : ℕ) → ℕ
 unfolding inputChecks roomCheck firstRefusal
 listRefusal s row m slice = firstRefusal (inputChecks s row m ++ roomCheck s row m slice)
 
+-- an answer of listing as the papers number it: the refusal, 0 where there is none, and the number of consistent rows, 0
+-- where it refuses
+pub record ListAnswer : Type 0 where
+  pub refusal : ℕ
+  pub count : ℕ
+
 -- what listing answers: "the number of consistent rows, which is the length of this list". With `listSlice` below it is
 -- a function of message, row, bit count and slice and of nothing else, so the archive gives in December the list that
 -- it gave in March.
-unfoldable pub listAnswer : (s row : List ℕ) (m slice : ℕ) → Answer
+unfoldable pub listAnswer : (s row : List ℕ) (m slice : ℕ) → ListAnswer
 unfolding listRefusal wanted
 listAnswer s row m slice =
     record {
       refusal = listRefusal s row m slice;
-      value = cond (eqb (listRefusal s row m slice) 0) (length (wanted s row m)) 0;
+      count = cond (eqb (listRefusal s row m slice) 0) (length (wanted s row m)) 0;
     }
 
 -- the bytes that listing puts at the start of a slice of so many bytes: the first rows, as many as fit, packed one

@@ -162,7 +162,7 @@ fn agrees(l1: usize, l2: usize, nc: usize, r: usize, x: &[u8], numbers: &[u16]) 
         ≡ same (blockSums (layout l1 l2 nc r) (now (x .entry)) ++ stringSums (layout l1 l2 nc r) (now (x .entry))
         ++ checks (layout l1 l2 nc r) (now (x .entry))) (now (numbers .entry)) ⌝ }
 {
-    let mut values: [u8; 255] = [0; 255];
+    let mut values: [u8; bits::MOST_CHUNKS] = [0; bits::MOST_CHUNKS];
     message::chunks::fill_chunks(l1, l2, nc, r, x, &mut values);
     let n = l1 * l2;
     chunks_agree(l1, l2, nc, r, &values[0..n], numbers)

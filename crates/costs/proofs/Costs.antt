@@ -10,11 +10,12 @@ use native.Mathlib.Nat.{mod-add-mod}
 use native.Mathlib.Omega.{arith}
 use borrow.Author.Tests.{eq-eqb, ne-eqb}
 use lib.ListN.{length, getD}
+use Rattle.bits.specs.Bits.{longestLine}
 use Rattle.message.specs.declared.Layout.{Layout}
+use Rattle.message.proofs.Legal.{string-high}
 use Rattle.states.specs.States.{each, firsts}
 use Rattle.column.specs.Column.{Fit, Light, Crosses}
 use Rattle.column.specs.declared.Heavy.{Heavy}
-use Rattle.column.proofs.Rows.{string-high}
 use Rattle.whole.specs.Whole.{modulus, Source, bringsIn, OneLess}
 use Rattle.states.proofs.Sums.{firsts-same, firsts-but}
 use Rattle.whole.proofs.Whole.{weightOf, weights-sum, kept-legible, kept-read}
@@ -149,7 +150,7 @@ module _ {l : Layout} {y numbers : List ℕ} {heavy : Heavy} {row : List ℕ} {j
 -- ---- what is asked of a column
 -- its sum is low
 pub asked-low : {l : Layout} {y totals counts numbers : List ℕ} {heavy : Heavy} {known : List ℕ} {j : ℕ}
-    → Asked l y totals counts numbers heavy known j → getD numbers (l .l1 + j) 0 ≤ 2040
+    → Asked l y totals counts numbers heavy known j → getD numbers (l .l1 + j) 0 ≤ longestLine
 asked-low {l} {j = j} q = omega (arith, q .fit .low j (q .column), string-high l (q .fit .allowed))
 
 -- its chunks in the heavy blocks can be read

@@ -6,8 +6,9 @@ use message::Layout;
 ghost use mathlib.Core.Path.{_≡_};
 ghost use mathlib.Core.Bool.{true};
 ghost use mathlib.Core.List.{List};
-ghost use Prim.Native.Nat.{ℕ, _+_, _%_, _<_, _≤_};
+ghost use Prim.Native.Nat.{ℕ, _+_, _*_, _%_, _<_, _≤_};
 ghost use lib.ListN.{length, getD};
+ghost use Rattle.bits.specs.Bits.{mostInLine};
 ghost use Rattle.message.specs.Layout.{legal as isLegal};
 ghost use Rattle.windows.specs.Windows.{Tables};
 ghost use Rattle.states.specs.States.{each, firsts};
@@ -218,8 +219,7 @@ fn repairs(
 {
     let nc = l.nc;
     let i = bits::wide(block);
-    let from = (i * l.l2 + j) * nc + bits::wide(left);
-    let p = column::place_of(nc, y.len(), from, end, left, left - 1);
+    let p = column::place_of(l, y.len(), block, j, end, left, left - 1);
     if !p.ok {
         return false;
     }
@@ -437,7 +437,7 @@ fn columns_cost(
 ) -> usize
     requires { ⌜ Fit l (now y) (now numbers) heavy × (Tables (now y) 0 (now totals) (now counts)
         × ((l .l2 ≤ length (now known)) × Room (modulus l) (now set) (now other))) ⌝ }
-    ensures { λ r. ⌜ (r ≤ 510) × ((row vs : List ℕ) (own : ℕ → ℕ → ℕ) → Light l heavy row (now (known .entry))
+    ensures { λ r. ⌜ (r ≤ 2 * mostInLine) × ((row vs : List ℕ) (own : ℕ → ℕ → ℕ) → Light l heavy row (now (known .entry))
         → Path l (now (y .entry)) (now (numbers .entry)) heavy row (each size) vs own → r ≤ firsts (each size) (heavy .n)) ⌝ }
 {
     let l2 = l.l2;

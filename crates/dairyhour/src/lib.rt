@@ -11,13 +11,20 @@ ghost use Rattle.message.specs.Layout.{layout};
 ghost use Rattle.message.specs.Write.{writeAnswer, writeTarget};
 ghost use Rattle.message.specs.Read.{readRefusal, layoutAnswer, readTarget};
 ghost use Rattle.consistent.specs.List.{listAnswer, listSlice};
-ghost use Rattle.dairyhour.specs.Boundary.{answerIn, layoutIn};
+ghost use Rattle.dairyhour.specs.Boundary.{answerIn, listIn, layoutIn};
 
 // dh_answer: the refusal's number, or 0 and the value.
 #[repr(C)]
 pub struct Answer {
     pub refusal: u32,
     pub value: usize,
+}
+
+// What dh_list answers, a dh_answer too: the refusal's number, or 0 and the number of consistent rows.
+#[repr(C)]
+pub struct ListAnswer {
+    pub refusal: u32,
+    pub count: usize,
 }
 
 // dh_layout: the refusal's number, or 0 and the layout.
@@ -102,19 +109,16 @@ pub extern "C" fn dh_mend(w: usize, sum: usize, bits: &[u8], out: &mut [u8]) -> 
 // The answer and every byte of the slice are a function of the message, the row, the bit count and the slice, and of nothing
 // else: what came out in March comes out of the archive in December.
 #[no_mangle]
-pub extern "C" fn dh_list(msg: &[u8], row: &[u8], m: usize, out: &mut [u8]) -> Answer
-    ensures { λ a. ⌜ (answerIn a ≡ listAnswer (now (msg .entry)) (now (row .entry)) m (length (now (out .entry))))
+pub extern "C" fn dh_list(msg: &[u8], row: &[u8], m: usize, out: &mut [u8]) -> ListAnswer
+    ensures { λ a. ⌜ (listIn a ≡ listAnswer (now (msg .entry)) (now (row .entry)) m (length (now (out .entry))))
         × (now (out .exit) ≡ listSlice (now (msg .entry)) (now (row .entry)) m (now (out .entry))) ⌝ }
 {
     let answer = lister::list(msg, row, m, out);
     match answer {
-        Listed::Count(count) => Answer {
-            refusal: 0,
-            value: count,
-        },
-        Listed::Refused(q) => Answer {
+        Listed::Count(count) => ListAnswer { refusal: 0, count },
+        Listed::Refused(q) => ListAnswer {
             refusal: refusal::number(q),
-            value: 0,
+            count: 0,
         },
     }
 }

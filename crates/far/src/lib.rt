@@ -25,17 +25,13 @@ pub fn read_apart(
     ensures { λ r. ⌜ (r ≤ 1) × (Reads l (now (y .entry)) heavy s j e
         → readApart l (now (y .entry)) heavy (now (z .entry)) s j e ≤ r) ⌝ }
 {
+    let left = e as u8;
+    let p = column::place_of(l, y.len(), heavy.block[s], j, heavy.end[s], left, left);
+    if !p.ok {
+        return 0;
+    }
     let c = bits::wide(heavy.block[s]) * l.l2 + j;
-    let from = c * l.nc + e;
-    let end = bits::wide(heavy.end[s]);
-    if from < end {
-        return 0;
-    }
-    let at = from - end;
-    if y.len() < at + l.nc {
-        return 0;
-    }
-    if message::chunks::number_at(y, at, l.nc) == z[c] {
+    if message::chunks::number_at(y, p.at, l.nc) == z[c] {
         return 0;
     }
     1

@@ -8,7 +8,7 @@ ghost use mathlib.Core.Bool.{true};
 ghost use mathlib.Core.List.{List};
 ghost use Prim.Native.Nat.{ℕ, _+_, _-_, _*_, _%_, _<_, _≤_};
 ghost use lib.ListN.{length, getD};
-ghost use Rattle.bits.specs.Bits.{longest};
+ghost use Rattle.bits.specs.Bits.{mostInLine, longestLine};
 ghost use Rattle.windows.specs.Windows.{Tables};
 ghost use Rattle.states.specs.States.{lefts, each, stateOf, entryAt, addedUp};
 ghost use Rattle.column.specs.Column.{Fit, Light, Crosses};
@@ -87,7 +87,7 @@ fn level_of(
 // Whether a state is marked after column j and the column has its sum where no chunk of a heavy block loses a bit there; part is what all
 // chunks of the column bring then.
 fn stays(l: Layout, numbers: &[u16], j: usize, part: usize, mark: u8) -> bool
-    requires { ⌜ (l .l1 * l .nc ≤ longest) × ((j < l .l2) × ((l .l1 ≤ 255) × (l .l1 + l .l2 ≤ length (now numbers)))) ⌝ }
+    requires { ⌜ (l .l1 * l .nc ≤ longestLine) × ((j < l .l2) × ((l .l1 ≤ mostInLine) × (l .l1 + l .l2 ≤ length (now numbers)))) ⌝ }
     ensures { λ r. ⌜ (part % modulus l ≡ getD (now (numbers .entry)) (l .l1 + j) 0 → 0 < mark → r ≡ true) ⌝ }
 {
     if mark == 0 {

@@ -12,7 +12,7 @@ use lib.Seq.{take-nil}
 use Rattle.bits.specs.Bits.{AllBits, cut, bytesFor, number, unpack}
 use Rattle.rows.specs.Held.{Known}
 use Rattle.rows.specs.Order.{Less, Row}
-use Rattle.rows.specs.Slice.{rowsIn}
+use Rattle.rows.specs.declared.Kept.{Kept}
 use Rattle.rows.proofs.Slice.{length-cut, row-at, row-fits}
 use Rattle.message.specs.Layout.{rowBits, blockBits}
 use Rattle.message.specs.declared.Layout.{Layout}
@@ -20,7 +20,7 @@ use Rattle.message.proofs.Fields.{field-room}
 use Rattle.consistent.specs.Greedy.{losses, inAll}
 use Rattle.lines.specs.Lines.{values}
 use Rattle.lines.proofs.Lines.{value-at}
-use Rattle.found.specs.Found.{Holding}
+use Rattle.found.specs.Sought.{Sought, heldOf, Holding}
 use Rattle.anchor.specs.Anchor.{OwnCounts}
 use Rattle.anchor.proofs.Totals.{total-next}
 use Rattle.floor.specs.Floor.{nextBit, leastLost, bitOf, AtLeast, Compared, BlockLoses}
@@ -134,41 +134,44 @@ module _ {g e : ℕ} {z x : List ℕ} where
   compared-after f = record { after = λ i. f; same = λ i. absurd (omega (arith, i)) }
 
 -- ---- what comes after the last row held is known, where more were found than fit
-module _ (l : Layout) (list : List ℕ) (c : ℕ) (m : Bool) where
+module _ (s : Sought) (list : List ℕ) (kept : Kept) where
+  abbrev c : ℕ
+  c = kept .count
+
+  -- the bytes of a row
+  abbrev w : ℕ
+  w = bytesFor (s .bits)
+
   -- the last row, packed
   abbrev pub lastRow : List ℕ
-  lastRow = take (bytesFor (rowBits l)) (drop ((c - 1) * bytesFor (rowBits l)) list)
+  lastRow = take w (drop ((c - 1) * w) list)
 
-  rows-many : length (rowsIn (rowBits l) list c m .rows) ≡ c
-  rows-many =
-      let w = bytesFor (rowBits l) in
-      length-map (cut c w list) (λ (b : List ℕ). take (rowBits l) (unpack b)) ∙ length-cut w c list
+  rows-many : length (heldOf s list kept .rows) ≡ c
+  rows-many = length-map (cut c w list) (λ (b : List ℕ). take (s .bits) (unpack b)) ∙ length-cut w c list
 
-  last-is : 0 < c → getD (rowsIn (rowBits l) list c m .rows) (c - 1) [] ≡ take (rowBits l) (unpack lastRow)
+  last-is : 0 < c → getD (heldOf s list kept .rows) (c - 1) [] ≡ take (s .bits) (unpack lastRow)
   unfolding unpack
   last-is some =
-      let w = bytesFor (rowBits l) in
-      let row : List ℕ → List ℕ = λ b. take (rowBits l) (unpack b) in
-      let none : row [] ≡ [] = take-nil (rowBits l) in
+      let row : List ℕ → List ℕ = λ b. take (s .bits) (unpack b) in
+      let none : row [] ≡ [] = take-nil (s .bits) in
       rw none at (List·getD-map row (cut c w list) (c - 1) []) ∙ ap row (row-at w (c - 1) c list (omega arith))
 
   -- where none fits, all are known
-  pub none-known : c ≡ 0 → m ≡ true → (x : List ℕ) → Known (rowsIn (rowBits l) list c m) x
+  pub none-known : c ≡ 0 → kept .more ≡ true → (x : List ℕ) → Known (heldOf s list kept) x
   unfolding cut
   none-known e more x = rw e (inr (more, tt))
 
-  module _ {numbers y : List ℕ} {cap : ℕ} (held : Holding l numbers y cap list c m) (some : 0 < c) where
-    pub last-known : m ≡ true → (x : List ℕ) → Row (rowBits l) x → Less (unpack lastRow) x
-        → Known (rowsIn (rowBits l) list c m) x
+  module _ {cap : ℕ} (held : Holding s cap list kept) (some : 0 < c) where
+    pub last-known : kept .more ≡ true → (x : List ℕ) → Row (s .bits) x → Less (unpack lastRow) x
+        → Known (heldOf s list kept) x
     last-known more x row less =
         let many = rows-many in
-        let rows : List (List ℕ) = rowsIn (rowBits l) list c m .rows in
-        let less = less-take (rowBits l) (unpack lastRow) x (omega (arith, row .0)) less in
+        let rows : List (List ℕ) = heldOf s list kept .rows in
+        let less = less-take (s .bits) (unpack lastRow) x (omega (arith, row .0)) less in
         inr (more, after-all rows x (held .well .ascending) (omega arith) (rw (many, last-is some) less))
 
     -- it stands in the slice
-    pub last-room : (c - 1) * bytesFor (rowBits l) + bytesFor (rowBits l) ≤ length list
+    pub last-room : (c - 1) * w + w ≤ length list
     last-room =
-        let w = bytesFor (rowBits l) in
         let few : c ≤ cap = omega (arith, held .well .atMost, rows-many) in
         omega (arith, row-fits (c - 1) c w (omega arith), mul-le-mul-right w few, held .room)

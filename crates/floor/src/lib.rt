@@ -9,18 +9,18 @@ ghost use mathlib.Core.Bool.{true};
 ghost use mathlib.Core.List.{List};
 ghost use Prim.Native.Nat.{ℕ, _+_, _*_, _<_, _≤_};
 ghost use lib.ListN.{length, drop};
-ghost use Rattle.bits.specs.Bits.{AllBits, bytesFor, number, unpack as unpacked};
+ghost use Rattle.bits.specs.Bits.{longest, AllBits, bytesFor, number, unpack as unpacked};
 ghost use Rattle.rows.specs.Held.{Known};
 ghost use Rattle.rows.specs.Order.{Less, Row};
-ghost use Rattle.rows.specs.Slice.{rowsIn};
 ghost use Rattle.message.specs.Layout.{legal, rowBits};
-ghost use Rattle.found.specs.Found.{Given, Sent, Holding};
+ghost use Rattle.consistent.specs.Query.{query};
+ghost use Rattle.found.specs.Given.{Given, Sent, HoldsSent, heldSent};
 ghost use Rattle.anchor.specs.Anchor.{OwnCounts, LightInHand};
 ghost use Rattle.floor.specs.Floor.{nextBit, leastLost, bitOf, BlockInHand, BlockLoses, BlockCompared};
 
 // The number that the k bits from a place of a packed row on spell.
 fn number_in(packed: &[u8], at: usize, k: usize) -> usize
-    requires { ⌜ (k ≤ 8) × ((length (now packed) ≤ 255) × (at + k ≤ length (now packed) * 8)) ⌝ }
+    requires { ⌜ (k ≤ 8) × ((length (now packed) ≤ bytesFor longest) × (at + k ≤ length (now packed) * 8)) ⌝ }
     ensures { λ r. ⌜ r ≡ number k (drop at (unpacked (now (packed .entry)))) ⌝ }
 {
     let c = BitCursor { at };
@@ -170,13 +170,13 @@ pub fn above(
     list: &[u8],
     kept: Kept,
 ) -> bool
-    requires { ⌜ Given l (now numbers) (now y)
-        × (Holding l (now numbers) (now y) cap (now list) (kept .count) (kept .more)
+    requires { ⌜ Given (query l (now numbers) (now y))
+        × (HoldsSent (query l (now numbers) (now y)) cap (now list) kept
         × (((l .l1 * l .l2 ≤ length (now row)) × (l .l1 ≤ length (now counts))) × (i ≤ l .l1))) ⌝ }
-    ensures { λ r. ⌜ (r ≡ true → (x : List ℕ) → Sent l (now (numbers .entry)) (now (y .entry)) x
+    ensures { λ r. ⌜ (r ≡ true → (x : List ℕ) → Sent (query l (now (numbers .entry)) (now (y .entry))) x
         → OwnCounts l (now (y .entry)) (now (counts .entry)) i x
         → LightInHand l (now (counts .entry)) i (now (row .entry)) x
-        → Known (rowsIn (rowBits l) (now (list .entry)) (kept .count) (kept .more)) x) ⌝ }
+        → Known (heldSent (query l (now (numbers .entry)) (now (y .entry))) (now (list .entry)) kept) x) ⌝ }
 {
     if !kept.more {
         return false;

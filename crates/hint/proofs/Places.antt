@@ -1,7 +1,6 @@
 -- Blocks within a row of a legal layout. Assumes nothing.
 use Prim.Native.Nat.{ℕ, _+_, _*_, _<_, _≤_}
 use mathlib.Core.Path.{_≡_}
-use mathlib.Core.List.{List}
 use native.Mathlib.Nat.{mul-le-mul, mul-le-mul-right}
 use native.Mathlib.Omega.{arith}
 use lib.ListN.{length}
@@ -9,10 +8,14 @@ use Rattle.bits.specs.Bits.{longest}
 use Rattle.message.specs.Layout.{rowBits, blockBits}
 use Rattle.message.specs.declared.Layout.{Layout}
 use Rattle.message.proofs.Legal.{Bounds, Sizes, legal-bounds, sizes}
-use Rattle.found.specs.Found.{Given}
+use Rattle.consistent.specs.Query.{Query}
+use Rattle.found.specs.Given.{Given}
 use Rattle.hint.specs.Tries.{Stands}
 
-module _ {l : Layout} {numbers y : List ℕ} (g : Given l numbers y) where
+module _ {q : Query} (g : Given q) where
+  abbrev l : Layout
+  l = q .layout
+
   bounds : Bounds l
   bounds = legal-bounds l (g .is-legal)
 
@@ -24,7 +27,7 @@ module _ {l : Layout} {numbers y : List ℕ} (g : Given l numbers y) where
   block-low = let p : 1 * 3 ≤ l .l2 * l .nc = mul-le-mul (bounds .l2-low) (bounds .nc-low) in omega arith
 
   -- the received row is short
-  pub received-short : length y ≤ longest
+  pub received-short : length (q .received) ≤ longest
   received-short = omega (arith, g .short, high .row)
 
   -- block i ends where the next begins, within the row

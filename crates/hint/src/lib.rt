@@ -1,7 +1,7 @@
 // A guess of a likely row, before a search: where it is right, the search has its anchor from the start. Films are long
 // runs, so a lost bit mostly belongs to a run that is still there: the guess prolongs runs until the blocks have their
 // sums. Where a row repeats itself after as many bits as were lost, the guess repeats it once more. It promises only that
-// what it adds is consistent. Contracts cite specs/Tries.antt and found's specs/Found.antt; strings of bits are unpacked,
+// what it adds is consistent. Contracts cite specs/Tries.antt and found's specs/Given.antt; strings of bits are unpacked,
 // one byte a bit.
 use message::Layout;
 use rows::Kept;
@@ -10,7 +10,8 @@ ghost use Prim.Native.Nat.{_+_, _*_, _<_, _≤_};
 ghost use lib.ListN.{length};
 ghost use Rattle.bits.specs.Bits.{AllBits, longest};
 ghost use Rattle.consistent.specs.Consistent.{mostLosses};
-ghost use Rattle.found.specs.Found.{Given, Holding, Grown};
+ghost use Rattle.consistent.specs.Query.{query};
+ghost use Rattle.found.specs.Given.{Given, HoldsSent, AddsSent};
 ghost use Rattle.hint.specs.Tries.{Fit, Hand, Stands};
 
 // The bits that a guess writes for each loss, about, before it gives up.
@@ -85,7 +86,7 @@ fn try_block(y: &[u8], p: usize, t: Try, nb: usize, i: usize, s: usize, x: &mut 
 // Blocks from one on as they are read, without loss, in the row x; the first that has not its sum, or the end of the
 // row.
 fn as_read(l: Layout, y: &[u8], numbers: &[u16], at: Stand, x: &mut [u8]) -> Stand
-    requires { ⌜ Given l (now numbers) (now y) × (Stands l at × Hand l (now x)) ⌝ }
+    requires { ⌜ Given (query l (now numbers) (now y)) × (Stands l at × Hand l (now x)) ⌝ }
     ensures { λ r. ⌜ Hand l (now (x .exit)) × (Stands l r × (at .p ≤ r .p)) ⌝ }
 {
     let nb = l.l2 * l.nc;
@@ -207,7 +208,7 @@ fn prolong(
     fuel: usize,
     x: &mut [u8],
 ) -> Outcome
-    requires { ⌜ (Given l (now numbers) (now y) × (left ≤ mostLosses)) × (Stands l at × Hand l (now x)) ⌝ }
+    requires { ⌜ (Given (query l (now numbers) (now y)) × (left ≤ mostLosses)) × (Stands l at × Hand l (now x)) ⌝ }
     ensures { λ o. ⌜ Hand l (now (x .exit)) × (o .fuel ≤ fuel) ⌝ }
 {
     let here = as_read(l, y, numbers, at, x);
@@ -278,10 +279,10 @@ fn add_prolonged(
     list: &mut [u8],
     kept: Kept,
 ) -> Kept
-    requires { ⌜ Given l (now numbers) (now y) × (Hand l (now x)
-        × Holding l (now numbers) (now y) cap (now list) (kept .count) (kept .more)) ⌝ }
-    ensures { λ r. ⌜ Grown l (now (numbers .entry)) (now (y .entry)) cap (λ z. ⊥)
-        (now (list .entry)) (kept .count) (kept .more) (now (list .exit)) (r .count) (r .more) ⌝ }
+    requires { ⌜ Given (query l (now numbers) (now y)) × (Hand l (now x)
+        × HoldsSent (query l (now numbers) (now y)) cap (now list) kept) ⌝ }
+    ensures { λ r. ⌜ AddsSent (query l (now (numbers .entry)) (now (y .entry))) cap (λ z. ⊥)
+        (now (list .entry)) kept (now (list .exit)) r ⌝ }
 {
     let start = Stand { i: 0, p: 0 };
     let left = x.len() - y.len();
@@ -341,10 +342,10 @@ fn add_repeated(
     list: &mut [u8],
     kept: Kept,
 ) -> Kept
-    requires { ⌜ Given l (now numbers) (now y) × (Hand l (now row)
-        × Holding l (now numbers) (now y) cap (now list) (kept .count) (kept .more)) ⌝ }
-    ensures { λ r. ⌜ Grown l (now (numbers .entry)) (now (y .entry)) cap (λ z. ⊥)
-        (now (list .entry)) (kept .count) (kept .more) (now (list .exit)) (r .count) (r .more) ⌝ }
+    requires { ⌜ Given (query l (now numbers) (now y)) × (Hand l (now row)
+        × HoldsSent (query l (now numbers) (now y)) cap (now list) kept) ⌝ }
+    ensures { λ r. ⌜ AddsSent (query l (now (numbers .entry)) (now (y .entry))) cap (λ z. ⊥)
+        (now (list .entry)) kept (now (list .exit)) r ⌝ }
 {
     let start = Stand { i: 0, p: 0 };
     let here = as_read(l, y, numbers, start, row);
@@ -355,10 +356,10 @@ fn add_repeated(
 // Adds a likely row, if it is consistent. Without checks there is no use for an anchor, and where runs are short and
 // nothing repeats itself no row is likely.
 pub fn guess(l: Layout, y: &[u8], numbers: &[u16], cap: usize, list: &mut [u8], kept: Kept) -> Kept
-    requires { ⌜ Given l (now numbers) (now y)
-        × Holding l (now numbers) (now y) cap (now list) (kept .count) (kept .more) ⌝ }
-    ensures { λ r. ⌜ Grown l (now (numbers .entry)) (now (y .entry)) cap (λ z. ⊥)
-        (now (list .entry)) (kept .count) (kept .more) (now (list .exit)) (r .count) (r .more) ⌝ }
+    requires { ⌜ Given (query l (now numbers) (now y))
+        × HoldsSent (query l (now numbers) (now y)) cap (now list) kept ⌝ }
+    ensures { λ r. ⌜ AddsSent (query l (now (numbers .entry)) (now (y .entry))) cap (λ z. ⊥)
+        (now (list .entry)) kept (now (list .exit)) r ⌝ }
 {
     if l.r == 0 {
         return kept;

@@ -68,8 +68,8 @@ line-same nc start stride (suc n) us vs h =
     let e : start + suc t * stride ≡ start + stride + t * stride = omega (arith, suc-mul t stride) in
     rw e at (h (suc t) (omega arith))))
 
--- ---- the lines of a layout: they stand among 255 numbers
-module _ (l : Layout) (e : legal l ≡ true) (size : ℕ) (h : 255 ≤ size) where
+-- ---- the lines of a layout: they stand among as many numbers as a row has chunks
+module _ (l : Layout) (e : legal l ≡ true) (size : ℕ) (h : l .l1 * l .l2 ≤ size) where
   pub block-inside : (i : ℕ) → i < l .l1 → Inside (l .nc) (i * l .l2) 1 (l .l2) size
   block-inside i k =
       let z : Sizes l = sizes l (legal-bounds l e) in

@@ -7,7 +7,7 @@ use native.Mathlib.Nat.{zero-mul, mul-le-mul, mul-le-mul-right, suc-mul, le-tran
 use native.Mathlib.Omega.{arith}
 use lib.ListN.{length, getD, take, drop, length-append, take-append-drop}
 use lib.Seq.{length-take-le}
-use Rattle.bits.specs.Bits.{longest, digits}
+use Rattle.bits.specs.Bits.{longestLine, digits}
 use Rattle.bits.proofs.Copy.{part-next}
 use Rattle.bits.proofs.Laws.{length-digits}
 use Rattle.message.proofs.Fields.{field-room, field-step}
@@ -88,10 +88,10 @@ pub total-done : (nc start stride count t : ℕ) (vs : List ℕ) → count ≤ t
 unfolding total line
 total-done nc start stride count t vs h = let m : count - t ≡ 0 = omega arith in rw m refl
 
-pub total-most : (nc start stride count : ℕ) (vs : List ℕ) → count * nc ≤ longest
-    → total 1 (line nc start stride count vs) ≤ longest * (1 + longest)
+pub total-most : (nc start stride count : ℕ) (vs : List ℕ) → count * nc ≤ longestLine
+    → total 1 (line nc start stride count vs) ≤ longestLine * (1 + longestLine)
 total-most nc start stride count vs h =
-    let more : 1 + count * nc ≤ 1 + longest = omega arith in
+    let more : 1 + count * nc ≤ 1 + longestLine = omega arith in
     let l : List ℕ = line nc start stride count vs in
     le-trans (total-high 1 l (bits-line nc start stride count vs))
     (rw (length-line nc start stride count vs) (mul-le-mul h more))

@@ -6,7 +6,7 @@ use mathlib.Core.Bool.{true, cond}
 use mathlib.Core.List.{List, [], _++_, map}
 use lib.Dec.{eqb}
 use lib.ListN.{getD}
-use Rattle.bits.specs.Bits.{longest, number, digits}
+use Rattle.bits.specs.Bits.{mostInLine, longestLine, number, digits}
 use Rattle.rows.specs.Deletion.{comesFrom}
 use Rattle.vt.specs.Sum.{sum}
 use Rattle.message.specs.Layout.{chunks}
@@ -27,11 +27,11 @@ unfolding digits
 line nc start stride zero vs = []
 line nc start stride (suc n) vs = digits nc (getD vs start 0) ++ line nc (start + stride) stride n vs
 
--- a line of chunks of at most 8 bits, at most longest bits in all, whose chunks all stand among so many numbers
+-- a line of chunks of at most 8 bits, at most longestLine bits in all, whose chunks all stand among so many numbers
 pub record Inside (nc start stride count size : ℕ) : Type 0 where
   pub nc-high : nc ≤ 8
-  pub short : count * nc ≤ longest
-  pub stride-high : stride ≤ 255
+  pub short : count * nc ≤ longestLine
+  pub stride-high : stride ≤ mostInLine
   pub last : start + count * stride < size + stride
 
 -- the numbers us are those of a row whose line lost one bit: beside chunk hole of the line they are the numbers vs in

@@ -6,7 +6,7 @@ ghost use mathlib.Core.Bool.{true};
 ghost use mathlib.Core.List.{List, _++_};
 ghost use Prim.Native.Nat.{ℕ, _+_, _-_, _*_, _<_, _≤_};
 ghost use lib.ListN.{length, getD, take, drop};
-ghost use Rattle.bits.specs.Bits.{AllBits, longest, number, digits};
+ghost use Rattle.bits.specs.Bits.{AllBits, mostChunks, longestLine, number, digits};
 ghost use Rattle.rows.specs.Deletion.{comesFrom};
 ghost use Rattle.vt.specs.Ones.{ones};
 ghost use Rattle.vt.specs.Sum.{total, sum as sumOf};
@@ -55,7 +55,7 @@ pub fn spread(
 // The total of the positions of a chunk's ones, where its first bit stands at a position. The chunk is the last nc bits of v; the
 // table is that of what each byte weighs.
 pub fn chunk_total(t: &[u16; 256], nc: usize, v: u8, first: usize) -> usize
-    requires { ⌜ ((now t ≡ weights) × (nc ≤ 8)) × ((1 ≤ first) × (first ≤ longest + 1)) ⌝ }
+    requires { ⌜ ((now t ≡ weights) × (nc ≤ 8)) × ((1 ≤ first) × (first ≤ longestLine + 1)) ⌝ }
     ensures { λ r. ⌜ (r ≡ total first (digits nc v)) × (r ≤ 20000) ⌝ }
 {
     let ones = (bits::power(nc) - 1) as u8;
@@ -116,7 +116,7 @@ fn put_back(nc: usize, whole: usize, bits: &[u8]) -> Mended
 // first of which is given. A 0 adds at most the number of their ones; a 1 adds at least that and the first position.
 fn mend_chunk(nc: usize, first: usize, w: Weight, g: usize, bits: &[u8]) -> Mended
     requires { ⌜ (((length (now bits) + 1 ≡ nc) × (nc ≤ 8)) × AllBits (now bits)) × (((1 ≤ first)
-        × (first ≤ longest) × (g ≤ longest))
+        × (first ≤ longestLine) × (g ≤ longestLine))
         × ((w .total ≡ total 1 (now bits)) × (w .ones ≡ ones (now bits)))) ⌝ }
     ensures { λ r. ⌜ ((x : List ℕ) → AllBits x → comesFrom x 1 (now (bits .entry)) ≡ true
         → total first x ≡ total first (now (bits .entry)) + g → (r .ok ≡ true) × (r .value ≡ number nc x)) ⌝ }
@@ -149,7 +149,7 @@ pub fn mend_line(
     bits: &[u8],
     vs: &[u8],
 ) -> Mended
-    requires { ⌜ (Inside nc start stride count (length (now vs)) × (length (now vs) ≤ 255))
+    requires { ⌜ (Inside nc start stride count (length (now vs)) × (length (now vs) ≤ mostChunks))
         × ((hole < count) × (((length (now bits) + 1 ≡ nc) × AllBits (now bits)) × (sum ≤ count * nc))) ⌝ }
     ensures { λ r. ⌜ ((us : List ℕ) → Mendable nc start stride count hole sum (now (bits .entry)) (now (vs .entry)) us
         → (r .ok ≡ true) × (r .value ≡ getD us (start + hole * stride) 0)) ⌝ }

@@ -9,7 +9,7 @@ use borrow.Author.Tests.{ltb-false, ne-eqb}
 use lib.Dec.{eqb, ltb}
 use lib.ListN.{length, take, drop, length-map}
 use lib.Seq.{take-all}
-use Rattle.refusal.specs.Refusal.{Answer, firstRefusal}
+use Rattle.refusal.specs.Refusal.{firstRefusal}
 use Rattle.refusal.proofs.Laws.{Numbered, refused-before, passed-before}
 use Rattle.bits.specs.Bits.{AllBytes, bytesFor, pack, unpack}
 use Rattle.rows.specs.Order.{Mem, Row}
@@ -22,7 +22,7 @@ use Rattle.message.specs.Read.{layoutOf, messageChecks, messageRefusal, numbers
 use Rattle.message.specs.declared.Layout.{Layout}
 use Rattle.message.proofs.Answers.{all-numbered}
 use Rattle.consistent.specs.Consistent.{bitsOf, candidate}
-use Rattle.consistent.specs.List.{room, wanted, rowChecks, roomCheck, inputChecks, listRefusal, listAnswer, rowsWritten, listSlice}
+use Rattle.consistent.specs.List.{ListAnswer, room, wanted, rowChecks, roomCheck, inputChecks, listRefusal, listAnswer, rowsWritten, listSlice}
 use Rattle.consistent.proofs.List.{answer-is, slice-is}
 use Rattle.found.specs.Found.{allSent, Listed}
 use Rattle.lister.specs.Rows.{rowRefusal, roomFor, rowsAnswer, firstRows, rowsSlice}
@@ -36,11 +36,11 @@ module _ {l : Layout} {numbers y : List ℕ} {cap : ℕ} {entry exit : List ℕ}
   found = allSent l numbers y
 
   -- there are more than fit
-  pub more-found : o ≡ true → record { refusal = 9; value = 0 } ≡ rowsAnswer cap found
+  pub more-found : o ≡ true → record { refusal = 9; count = 0 } ≡ rowsAnswer cap found
   more-found e = rw (sym (f .more) ∙ e) refl
 
   -- all fit
-  pub all-found : o ≡ false → record { refusal = 0; value = d } ≡ rowsAnswer cap found
+  pub all-found : o ≡ false → record { refusal = 0; count = d } ≡ rowsAnswer cap found
   all-found e =
       let none : ltb cap (length found) ≡ false = sym (f .more) ∙ e in
       let n : d ≡ length found = f .count ∙ ap length (take-all cap found (ltb-false cap (length found) none)) in
@@ -85,7 +85,7 @@ module _ (s row : List ℕ) (m : ℕ) where
 
   -- a refusal by 1 to 8 answers its number alone, and leaves the slice as it was
   pub refused-listing : (slice : List ℕ) (q : ℕ) → 1 ≤ q → firstRefusal (inputChecks s row m) ≡ q
-      → (record { refusal = q; value = 0 } ≡ listAnswer s row m (length slice)) × (slice ≡ listSlice s row m slice)
+      → (record { refusal = q; count = 0 } ≡ listAnswer s row m (length slice)) × (slice ≡ listSlice s row m slice)
   unfolding listRefusal
   refused-listing slice q h e =
       let before = refused-before (inputChecks s row m) (roomCheck s row m (length slice)) (λ z. omega arith) in
@@ -127,7 +127,7 @@ module _ (s row : List ℕ) (m : ℕ) (l : Layout) (numbers : List ℕ) (b : All
   unfolding room
   room-is slice = ap (λ (q : Layout). roomFor (rowBits q) slice) (sym k)
 
-  pub rows-listed : (slice : List ℕ) → firstRefusal (inputChecks s row m) ≡ 0 → (a : Answer) (exit : List ℕ)
+  pub rows-listed : (slice : List ℕ) → firstRefusal (inputChecks s row m) ≡ 0 → (a : ListAnswer) (exit : List ℕ)
       → a ≡ rowsAnswer (roomFor (rowBits l) (length slice)) sent
       → exit ≡ rowsSlice (roomFor (rowBits l) (length slice)) sent slice
       → (a ≡ listAnswer s row m (length slice)) × (exit ≡ listSlice s row m slice)

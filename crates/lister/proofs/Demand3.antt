@@ -16,7 +16,7 @@ use native.Mathlib.Omega.{arith}
 use borrow.Author.Tests.{ltb-false}
 use lib.Dec.{eqb}
 use lib.ListN.{length, take, drop}
-use Rattle.refusal.specs.Refusal.{Answer, numberOf, firstRefusal}
+use Rattle.refusal.specs.Refusal.{numberOf, firstRefusal}
 use Rattle.refusal.specs.declared.Refusal.the-variants.{NoMessage, Version, Layout as LayoutRefusal, MessageLength, Sum, SpareBit, Losses, Packing, ListFull, ShortTarget}
 use Rattle.refusal.specs.declared.Refusal.{Refusal}
 use Rattle.refusal.proofs.Laws.{numbered}
@@ -30,7 +30,7 @@ use Rattle.message.specs.Layout.{legal, rowBits}
 use Rattle.message.specs.Message.{message}
 use Rattle.message.specs.declared.Layout.{Layout}
 use Rattle.consistent.specs.Consistent.{mostLosses, bitsOf, theList}
-use Rattle.consistent.specs.List.{room, wanted, inputChecks, listRefusal, listAnswer, listSlice}
+use Rattle.consistent.specs.List.{ListAnswer, room, wanted, inputChecks, listRefusal, listAnswer, listSlice}
 use Rattle.consistent.proofs.Consistent.{Consistent, of-consistent, is-consistent, list-exact, list-ascending}
 use Rattle.consistent.proofs.Demand3.{one-at-most, own-consistent, own-listed}
 use Rattle.consistent.proofs.List.{input-passed, answer-is, list-writes}
@@ -45,16 +45,16 @@ Promised s row m slice r exit = (listedOf r ≡ listAnswer s row m (length slice
 
 -- ---- what an answer says
 -- no refusal is a count, so what is answered says which of the two the result is
-counted : (r : Listed) (n : ℕ) → listedOf r ≡ record { refusal = 0; value = n } → r ≡ Count n
-counted (Count k) n e = ap (λ (a : Answer). Count (a .value)) e
-counted (Refused q) n e = absurd (omega (arith, numbered q, ap (λ (a : Answer). a .refusal) e))
+counted : (r : Listed) (n : ℕ) → listedOf r ≡ record { refusal = 0; count = n } → r ≡ Count n
+counted (Count k) n e = ap (λ (a : ListAnswer). Count (a .count)) e
+counted (Refused q) n e = absurd (omega (arith, numbered q, ap (λ (a : ListAnswer). a .refusal) e))
 
 -- the number answered is that of the first check that applies
 pub number-is : (s row : List ℕ) (m : ℕ) (slice : List ℕ) (r : Listed) (exit : List ℕ) → Promised s row m slice r exit
     → listedOf r .refusal ≡ listRefusal s row m (length slice)
 number-is s row m slice r exit p =
     let q = listRefusal s row m (length slice) in
-    ap (λ (a : Answer). a .refusal) (p .0 ∙ answer-is s row m (length slice) q refl)
+    ap (λ (a : ListAnswer). a .refusal) (p .0 ∙ answer-is s row m (length slice) q refl)
 
 module _ (s row : List ℕ) (m : ℕ) (slice : List ℕ) (r : Listed) (exit : List ℕ) (p : Promised s row m slice r exit)
     (n : ℕ) (e : r ≡ Count n) where
@@ -76,8 +76,8 @@ module _ (s row : List ℕ) (m : ℕ) (slice : List ℕ) (r : Listed) (exit : Li
 
   pub count-is : n ≡ length (wanted s row m)
   count-is =
-      sym (ap (λ (v : Listed). listedOf v .value) e)
-      ∙ ap (λ (a : Answer). a .value) (p .0 ∙ answer-is s row m (length slice) 0 not-refused)
+      sym (ap (λ (v : Listed). listedOf v .count) e)
+      ∙ ap (λ (a : ListAnswer). a .count) (p .0 ∙ answer-is s row m (length slice) 0 not-refused)
 
   pub rows-written : exit ≡ flat (map pack (wanted s row m)) ++ drop (length (flat (map pack (wanted s row m)))) slice
   rows-written = p .1 ∙ list-writes s row m slice input-fit all-fit
@@ -114,8 +114,8 @@ exact s row m slice r exit p n e = record {
 pub at-most-one : (s row : List ℕ) (m : ℕ) (slice : List ℕ) (r : Listed) (exit : List ℕ) → Promised s row m slice r exit
     → (n : ℕ) → r ≡ Count n → bitsOf s - m ≤ 1 → n ≤ 1
 at-most-one s row m slice r exit p n e h =
-    let v : listAnswer s row m (length slice) .value ≡ n =
-    ap (λ (t : Answer). t .value) (sym (p .0)) ∙ ap (λ (t : Listed). listedOf t .value) e in
+    let v : listAnswer s row m (length slice) .count ≡ n =
+    ap (λ (t : ListAnswer). t .count) (sym (p .0)) ∙ ap (λ (t : Listed). listedOf t .count) e in
     omega (arith, one-at-most s row m (length slice) h)
 
 -- ---- "the row is listed whenever the list fits its slice"
@@ -173,12 +173,12 @@ number-names Packing = refl
 number-names ListFull = refl
 number-names ShortTarget = refl
 
--- results with the same number and value are the same
+-- results with the same number and count are the same
 same-result : (r t : Listed) → listedOf r ≡ listedOf t → r ≡ t
 same-result r (Count n) e = counted r n e
-same-result (Count n) (Refused q) e = absurd (omega (arith, numbered q, ap (λ (a : Answer). a .refusal) e))
+same-result (Count n) (Refused q) e = absurd (omega (arith, numbered q, ap (λ (a : ListAnswer). a .refusal) e))
 same-result (Refused p) (Refused q) e =
-    ap Refused (sym (number-names p) ∙ ap (λ (a : Answer). numbered-by (a .refusal)) e ∙ number-names q)
+    ap Refused (sym (number-names p) ∙ ap (λ (a : ListAnswer). numbered-by (a .refusal)) e ∙ number-names q)
 
 -- two calls with the same message, row, bit count and slice answer the same and leave the same bytes
 pub same-again : (s row : List ℕ) (m : ℕ) (slice : List ℕ) (r t : Listed) (exit last : List ℕ)

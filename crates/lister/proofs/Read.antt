@@ -18,6 +18,7 @@ use Rattle.rows.proofs.Held.{keep-same}
 use Rattle.rows.proofs.Order.{rows-sound}
 use Rattle.message.specs.Encoding.{AtMost}
 use Rattle.message.specs.Layout.{legal, rowBits, blockBits, stringBits}
+use Rattle.message.specs.Message.{mostNumbers}
 use Rattle.message.specs.Read.{LayoutAnswer, readOf, layoutAnswer, layoutOf, readBlockSums, readStringSums, readChecks, messageRefusal, numbersRead, readRefusal, readTarget}
 use Rattle.message.specs.declared.Layout.{Layout}
 use Rattle.message.specs.declared.Read.the-variants.{Refused}
@@ -39,14 +40,14 @@ sum-product (suc a) zero h k = absurd (omega arith)
 sum-product (suc a) (suc b) h k =
     omega (arith, suc-mul a (suc b), mul-comm a (suc b), suc-mul b a)
 
--- the numbers of a legal layout are at most 272
-pub numbers-few : (l : Layout) → legal l ≡ true → l .l1 + l .l2 + l .r ≤ 272
+-- the numbers of a legal layout are few
+pub numbers-few : (l : Layout) → legal l ≡ true → l .l1 + l .l2 + l .r ≤ mostNumbers
 numbers-few l g =
     let b = legal-bounds l g in
     omega (arith, sum-product (l .l1) (l .l2) (b .l1-low) (b .l2-low), sizes l b .chunks, b .r-high)
 
--- so reading to 272 entries refuses what the message is refused for, and nothing else
-reads-all : (s o : List ℕ) → length o ≡ 272 → readRefusal s (length o) ≡ messageRefusal s
+-- so reading to as many entries refuses what the message is refused for, and nothing else
+reads-all : (s o : List ℕ) → length o ≡ mostNumbers → readRefusal s (length o) ≡ messageRefusal s
 reads-all s o n = go (messageRefusal s) refl
   where
     go : (q : ℕ) → messageRefusal s ≡ q → readRefusal s (length o) ≡ messageRefusal s
@@ -55,14 +56,14 @@ reads-all s o n = go (messageRefusal s) refl
         refuses-nothing s o e (omega (arith, numbers-count s l refl, numbers-few l (fit-named s l e refl .0))) ∙ sym e
     go (suc q) e = refuses-message s o (λ z. omega arith)
 
--- what reading a message to an array of 272 entries gives: the answer is that of the message's own checks, and the
+-- what reading a message to an array of as many entries gives: the answer is that of the message's own checks, and the
 -- first of the entries afterwards are the numbers of a fit message
 pub record Numbers (s : List ℕ) (a : Read) (entries : List ℕ) : Type 0 where
   pub answer : readOf a ≡ layoutAnswer (messageRefusal s) s
   pub front : messageRefusal s ≡ 0 → (l : Layout) → layoutOf s ≡ l
       → take (l .l1 + l .l2 + l .r - 0) entries ≡ numbersRead s
 
-pub numbers-read : (s o entries : List ℕ) (a : Read) → length o ≡ 272
+pub numbers-read : (s o entries : List ℕ) (a : Read) → length o ≡ mostNumbers
     → (readOf a ≡ layoutAnswer (readRefusal s (length o)) s) × (entries ≡ readTarget s o) → Numbers s a entries
 unfolding readTarget
 numbers-read s o entries a n h = record {

@@ -8,14 +8,14 @@ use borrow.Author.Tests.{lt-ltb, le-ltb, ltb-false, not-false}
 use lib.Dec.{ltb}
 use lib.ListN.{length, take}
 use lib.Seq.{length-take-le}
-use Rattle.refusal.specs.Refusal.{Check, Answer, numberOf, firstRefusal}
+use Rattle.refusal.specs.Refusal.{Check, numberOf, firstRefusal}
 use Rattle.refusal.specs.declared.Refusal.{Refusal}
 use Rattle.refusal.proofs.Laws.{passed}
 use Rattle.bits.specs.Bits.{unpack, fits}
 use Rattle.bits.proofs.Laws.{neither-left, neither-right, length-unpack}
 use Rattle.bits.proofs.Packing.{fits-length}
 use Rattle.consistent.specs.Consistent.{mostLosses, bitsOf}
-use Rattle.consistent.specs.List.{rowChecks}
+use Rattle.consistent.specs.List.{ListAnswer, rowChecks}
 use Rattle.lister.specs.Answer.{listedOf}
 use Rattle.lister.specs.Rows.{rowRefusal}
 use Rattle.lister.specs.declared.Listed.the-variants.{Count, Refused}
@@ -23,25 +23,25 @@ use Rattle.lister.specs.declared.Listed.{Listed}
 
 module _ (n : ℕ) (row : List ℕ) (m : ℕ) where
   -- what is answered for a received row of m bits
-  abbrev answered : Answer
-  answered = record { refusal = rowRefusal n row m; value = 0 }
+  abbrev answered : ListAnswer
+  answered = record { refusal = rowRefusal n row m; count = 0 }
 
   -- more bits than were sent
-  pub above : n < m → record { refusal = 7; value = 0 } ≡ answered
+  pub above : n < m → record { refusal = 7; count = 0 } ≡ answered
   unfolding rowRefusal firstRefusal
   above h = rw (lt-ltb n m h) refl
 
   -- more than 12 lost
-  pub many : m ≤ n → mostLosses < n - m → record { refusal = 7; value = 0 } ≡ answered
+  pub many : m ≤ n → mostLosses < n - m → record { refusal = 7; count = 0 } ≡ answered
   unfolding rowRefusal firstRefusal
   many h k = rw (le-ltb n m h, lt-ltb mostLosses (n - m) k) refl
 
   -- where neither is so, the packing decides
-  pub unfit : m ≤ n → n - m ≤ mostLosses → fits m row ≡ false → record { refusal = 8; value = 0 } ≡ answered
+  pub unfit : m ≤ n → n - m ≤ mostLosses → fits m row ≡ false → record { refusal = 8; count = 0 } ≡ answered
   unfolding rowRefusal firstRefusal
   unfit h k f = rw (le-ltb n m h, le-ltb mostLosses (n - m) k, f) refl
 
-  pub fit-row : m ≤ n → n - m ≤ mostLosses → fits m row ≡ true → record { refusal = 0; value = 0 } ≡ answered
+  pub fit-row : m ≤ n → n - m ≤ mostLosses → fits m row ≡ true → record { refusal = 0; count = 0 } ≡ answered
   unfolding rowRefusal firstRefusal
   fit-row h k f = rw (le-ltb n m h, le-ltb mostLosses (n - m) k, f) refl
 
@@ -78,8 +78,8 @@ row-checks s row m n e =
 
 -- what the answer of a check of the row says: the number of a refusal, or that there is none
 pub row-refused : (a : Listed) (q : Refusal) (n : ℕ) → a ≡ Refused q
-    → listedOf a ≡ record { refusal = n; value = 0 } → n ≡ numberOf q
-row-refused a q n e h = sym (ap (λ (p : Answer). p .refusal) h) ∙ ap (λ (v : Listed). listedOf v .refusal) e
+    → listedOf a ≡ record { refusal = n; count = 0 } → n ≡ numberOf q
+row-refused a q n e h = sym (ap (λ (p : ListAnswer). p .refusal) h) ∙ ap (λ (v : Listed). listedOf v .refusal) e
 
-pub row-not-refused : (a : Listed) (v n : ℕ) → a ≡ Count v → listedOf a ≡ record { refusal = n; value = 0 } → n ≡ 0
-row-not-refused a v n e h = sym (ap (λ (p : Answer). p .refusal) h) ∙ ap (λ (t : Listed). listedOf t .refusal) e
+pub row-not-refused : (a : Listed) (v n : ℕ) → a ≡ Count v → listedOf a ≡ record { refusal = n; count = 0 } → n ≡ 0
+row-not-refused a v n e h = sym (ap (λ (p : ListAnswer). p .refusal) h) ∙ ap (λ (t : Listed). listedOf t .refusal) e

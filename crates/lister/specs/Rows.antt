@@ -5,11 +5,11 @@ use mathlib.Core.Bool.{not, cond, _||_}
 use mathlib.Core.List.{List, [], _∷_, _++_, map}
 use lib.Dec.{ltb}
 use lib.ListN.{length, take, drop}
-use Rattle.refusal.specs.Refusal.{Answer, firstRefusal}
+use Rattle.refusal.specs.Refusal.{firstRefusal}
 use Rattle.bits.specs.Bits.{bytesFor, pack, fits}
 use Rattle.rows.specs.Slice.{flat}
 use Rattle.consistent.specs.Consistent.{mostLosses}
-use Rattle.consistent.specs.List.{usedBytes}
+use Rattle.consistent.specs.List.{ListAnswer, usedBytes}
 
 -- what a received row of m bits is refused for where n were sent, by rows 7 and 8 of the table; 0 where it is fit
 unfoldable pub rowRefusal : (n : ℕ) (row : List ℕ) (m : ℕ) → ℕ
@@ -21,9 +21,9 @@ abbrev pub roomFor : (n slice : ℕ) → ℕ
 roomFor n slice = min slice usedBytes / bytesFor n
 
 -- what is answered for a list of rows of which cap fit: their number, or refusal 9
-abbrev pub rowsAnswer : (cap : ℕ) (rows : List (List ℕ)) → Answer
+abbrev pub rowsAnswer : (cap : ℕ) (rows : List (List ℕ)) → ListAnswer
 rowsAnswer cap rows =
-    cond (ltb cap (length rows)) (record { refusal = 9; value = 0 }) (record { refusal = 0; value = length rows })
+    cond (ltb cap (length rows)) (record { refusal = 9; count = 0 }) (record { refusal = 0; count = length rows })
 
 -- the first cap rows, packed one after another
 unfoldable pub firstRows : (cap : ℕ) (rows : List (List ℕ)) → List ℕ

@@ -25,13 +25,10 @@ const MOST_LOSSES: usize = 12;
 // Only so many bytes of a list slice are used.
 const USED_BYTES: usize = 65536;
 
-// The most numbers that a message has: l1 + l2 is at most 256 in a legal layout, and r at most 16.
-const MOST_NUMBERS: usize = 272;
-
 // The first check that applies to a received row of m bits where n were sent; the count 0 where none does.
 fn check_row(n: usize, m: usize, row: &[u8]) -> Listed
     requires { ⌜ n ≤ longest ⌝ }
-    ensures { λ r. ⌜ listedOf r ≡ record { refusal = rowRefusal n (now (row .entry)) m; value = 0 } ⌝ }
+    ensures { λ r. ⌜ listedOf r ≡ record { refusal = rowRefusal n (now (row .entry)) m; count = 0 } ⌝ }
 {
     if n < m {
         return Listed::Refused(Refusal::Losses);
@@ -84,7 +81,7 @@ pub fn list(msg: &[u8], row: &[u8], m: usize, out: &mut [u8]) -> Listed
     ensures { λ r. ⌜ (listedOf r ≡ listAnswer (now (msg .entry)) (now (row .entry)) m (length (now (out .entry))))
         × (now (out .exit) ≡ listSlice (now (msg .entry)) (now (row .entry)) m (now (out .entry))) ⌝ }
 {
-    let mut numbers: [u16; MOST_NUMBERS] = [0; MOST_NUMBERS];
+    let mut numbers: [u16; message::MOST_NUMBERS] = [0; message::MOST_NUMBERS];
     let answer = message::reading::read(msg, &mut numbers);
     match answer {
         Read::Refused(q) => Listed::Refused(q),

@@ -708,7 +708,7 @@ fn make_marks(
 }
 
 // The bytes of a table of counts: enough for every layout.
-const COUNTS: usize = 3393;
+const COUNTS: usize = (bits::MOST_CHUNKS + states::MOST_HEAVY) * states::LEFTS;
 
 // The marks of the loss states, in three passes. Where the heavy blocks lost more bits than are told apart none are kept.
 fn fill_marks(

@@ -6,6 +6,7 @@ ghost use mathlib.Core.Path.{_≡_};
 ghost use mathlib.Core.Logic.{_⊎_};
 ghost use Prim.Native.Nat.{ℕ, _+_, _*_, _<_, _≤_};
 ghost use lib.ListN.{length, getD};
+ghost use Rattle.bits.specs.Bits.{mostInLine};
 ghost use Rattle.states.specs.States.{Shaped};
 ghost use Rattle.marks.specs.Marks.{Remade};
 ghost use Rattle.marks.specs.Digits.{Digits, PutAt};
@@ -82,7 +83,7 @@ pub fn only(states: usize, at: usize, q: usize, mark: u8, marks: &mut [u8])
 
 // The mark of a loss state in column j; where none is kept, it is 255.
 pub fn mark_at(shape: Shape, marks: &[u8], j: usize, q: usize) -> u8
-    requires { ⌜ j ≤ 255 ⌝ }
+    requires { ⌜ j ≤ mostInLine ⌝ }
     ensures { λ r. ⌜ (r ≡ 255) ⊎ ((j * shape .states + q < length (now (marks .entry)))
         × (r ≡ getD (now (marks .entry)) (j * shape .states + q) 0)) ⌝ }
 {

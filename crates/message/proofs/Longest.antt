@@ -10,7 +10,7 @@ use native.Mathlib.Omega.{arith}
 use borrow.Author.Tests.{leb-true}
 use lib.Dec.{leb}
 use lib.ListN.{length, drop, length-drop}
-use Rattle.bits.specs.Bits.{bytesFor}
+use Rattle.bits.specs.Bits.{mostChunks, mostInLine, bytesFor}
 use Rattle.bits.proofs.Laws.{lt-or-ge, both-left, both-right}
 use Rattle.message.specs.Layout.{legal, blockBits, stringBits}
 use Rattle.message.specs.Message.{width, fieldsLength, messageBytes}
@@ -36,21 +36,21 @@ upTo-at f (suc n) k e lo hi =
     (λ h. let same : k ≡ suc n = omega arith in rw same (both-left (f (suc n)) (upTo f n) e))
     (lt-or-ge k (suc n))
 
--- every count of blocks and of chunks whose product is at most 255
+-- every count of blocks and of chunks whose product is at most that of a row
 all-short : ℕ → Bool
 unfolding upTo short
-all-short nc = upTo (λ (a : ℕ). upTo (short nc a) (255 / a)) 255
+all-short nc = upTo (λ (a : ℕ). upTo (short nc a) (mostChunks / a)) mostInLine
 
 -- the one computation
 tested : upTo all-short 8 ≡ true
 unfolding upTo all-short
 tested = refl
 
-short-at : (nc a b : ℕ) → 1 ≤ nc → nc ≤ 8 → 1 ≤ a → 1 ≤ b → a * b ≤ 255 → a ≤ 255 → short nc a b ≡ true
+short-at : (nc a b : ℕ) → 1 ≤ nc → nc ≤ 8 → 1 ≤ a → 1 ≤ b → a * b ≤ mostChunks → a ≤ mostInLine → short nc a b ≡ true
 unfolding all-short
 short-at nc a b lo hi la lb h ha =
-    upTo-at (short nc a) (255 / a) b
-    (upTo-at (λ (a : ℕ). upTo (short nc a) (255 / a)) 255 a (upTo-at all-short 8 nc tested lo hi) la ha) lb
+    upTo-at (short nc a) (mostChunks / a) b
+    (upTo-at (λ (a : ℕ). upTo (short nc a) (mostChunks / a)) mostInLine a (upTo-at all-short 8 nc tested lo hi) la ha) lb
     (le-div-iff-mul-le la .1 (rw (mul-comm b a) h))
 
 -- the fields of a legal layout take at most 1,160 bits
@@ -105,7 +105,7 @@ after-head l s e n =
       all-fields = omega arith;
     }
 
--- 255 blocks of one chunk of 8 bits with 16 checks have a message of just that length
-message-longest : messageBytes (record { l1 = 255; l2 = 1; nc = 8; r = 16 }) ≡ 154
+-- as many blocks as there can be, of one chunk of 8 bits, with 16 checks have a message of just that length
+message-longest : messageBytes (record { l1 = mostInLine; l2 = 1; nc = 8; r = 16 }) ≡ 154
 unfolding messageBytes
 message-longest = refl

@@ -6,7 +6,7 @@ ghost use mathlib.Core.Bool.{true};
 ghost use mathlib.Core.List.{_++_, map};
 ghost use Prim.Native.Nat.{_+_, _*_, _^_, _<_, _≤_};
 ghost use lib.ListN.{length, getD, take, drop};
-ghost use Rattle.bits.specs.Bits.{AllBits, longest, number, digits, unpack};
+ghost use Rattle.bits.specs.Bits.{AllBits, mostInLine, longestLine, number, digits, unpack};
 ghost use Rattle.vt.specs.Sum.{total, sum};
 ghost use Rattle.vt.specs.Weights.{weights};
 ghost use Rattle.field.specs.Field.{Elements};
@@ -64,7 +64,7 @@ pub fn fill_chunks(l1: usize, l2: usize, nc: usize, r: usize, row: &[u8], out: &
 // The total of the positions of a chunk's ones, where its first bit stands at a position. The table has the chunk as a byte, in
 // which its first bit stands at position 9 - nc.
 pub fn chunk_total(t: &[u16; 256], nc: usize, v: u8, first: usize) -> usize
-    requires { ⌜ ((now t ≡ weights) × (nc ≤ 8)) × ((v < 2 ^ nc) × ((1 ≤ first) × (first ≤ longest + 1))) ⌝ }
+    requires { ⌜ ((now t ≡ weights) × (nc ≤ 8)) × ((v < 2 ^ nc) × ((1 ≤ first) × (first ≤ longestLine + 1))) ⌝ }
     ensures { λ r. ⌜ (r ≡ total first (digits nc v)) × (r ≤ 20000) ⌝ }
 {
     let w = vt::weigh_byte(t, v);
@@ -80,8 +80,8 @@ fn line_sum(
     stride: usize,
     count: usize,
 ) -> usize
-    requires { ⌜ ((now t ≡ weights) × ((nc ≤ 8) × Elements nc (now chunks))) × (((count ≤ 255) × (stride ≤ 255))
-        × ((count * nc ≤ longest) × (start + count * stride < length (now chunks) + stride))) ⌝ }
+    requires { ⌜ ((now t ≡ weights) × ((nc ≤ 8) × Elements nc (now chunks))) × (((count ≤ mostInLine) × (stride ≤ mostInLine))
+        × ((count * nc ≤ longestLine) × (start + count * stride < length (now chunks) + stride))) ⌝ }
     ensures { λ s. ⌜ s ≡ sum (rowOf nc (picked start stride count (now (chunks .entry)))) ⌝ }
 {
     let mut total: usize = 0;

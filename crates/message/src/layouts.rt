@@ -3,7 +3,7 @@ ghost use mathlib.Core.Path.{_≡_};
 ghost use mathlib.Core.Bool.{true};
 ghost use Prim.Native.Nat.{_-_, _*_, _^_, _≤_};
 ghost use lib.Dec.{leb};
-ghost use Rattle.bits.specs.Bits.{longest};
+ghost use Rattle.bits.specs.Bits.{longestLine};
 ghost use Rattle.message.specs.Layout.{layout, legal as isLegal};
 ghost use Rattle.message.specs.Message.{width as widthOf, fieldsLength, messageBytes};
 
@@ -12,10 +12,10 @@ fn few_chunks(l1: usize, l2: usize, nc: usize) -> bool
     requires { ⌜ (1 ≤ l1) × ((1 ≤ l2) × (nc ≤ 8)) ⌝ }
     ensures { λ r. ⌜ r ≡ leb (l1 * l2) (2 ^ nc - 1) ⌝ }
 {
-    if 255 < l1 {
+    if bits::MOST_IN_LINE < l1 {
         return false;
     }
-    if 255 < l2 {
+    if bits::MOST_IN_LINE < l2 {
         return false;
     }
     if bits::power(nc) <= l1 * l2 {
@@ -48,7 +48,7 @@ pub fn legal(l1: usize, l2: usize, nc: usize, r: usize) -> bool
 
 // As many bits as w needs in binary.
 pub fn width(w: usize) -> usize
-    requires { ⌜ w ≤ longest ⌝ }
+    requires { ⌜ w ≤ longestLine ⌝ }
     ensures { λ r. ⌜ r ≡ widthOf w ⌝ }
 {
     let mut k: usize = 0;

@@ -141,7 +141,7 @@ fn put_message(l1: usize, l2: usize, nc: usize, r: usize, row: &[u8], out: &mut 
         ++ drop (messageBytes (layout l1 l2 nc r)) (now (out .entry)) ⌝ }
 {
     let n = l1 * l2;
-    let mut values: [u8; 255] = [0; 255];
+    let mut values: [u8; bits::MOST_CHUNKS] = [0; bits::MOST_CHUNKS];
     chunks::fill(row, n, nc, &mut values);
     put_head(l1, l2, nc, r, out);
     put_fields(l1, l2, nc, r, &values[0..n], &mut out[9..]);

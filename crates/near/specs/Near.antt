@@ -5,6 +5,7 @@ use mathlib.Core.Path.{_≡_}
 use mathlib.Core.Bool.{Bool, true, false}
 use mathlib.Core.List.{List}
 use lib.ListN.{length, getD}
+use Rattle.bits.specs.Bits.{mostInLine}
 use Rattle.message.specs.declared.Layout.{Layout}
 use Rattle.states.specs.States.{lefts, each, firsts, entryAt}
 use Rattle.states.specs.declared.Shape.{Shape}
@@ -24,7 +25,7 @@ pub record Counted (l : Layout) (y : List ℕ) (heavy : Heavy) (z size before af
 
 -- a table that has room for the blocks of a shape, each of which has few losses
 pub record Sized (columns : ℕ) (shape : Shape) (table : List ℕ) : Type 0 where
-  pub narrow : columns ≤ 255
+  pub narrow : columns ≤ mostInLine
   pub few : shape .n ≤ 6
   pub small : (s : ℕ) → s < shape .n → getD (shape .size) s 0 < lefts
   pub long : blockAt columns (shape .n) ≤ length table

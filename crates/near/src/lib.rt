@@ -7,6 +7,7 @@ ghost use mathlib.Core.Path.{_≡_};
 ghost use mathlib.Core.Bool.{true};
 ghost use Prim.Native.Nat.{ℕ, _+_, _*_, _<_, _≤_};
 ghost use lib.ListN.{length, getD};
+ghost use Rattle.bits.specs.Bits.{mostInLine};
 ghost use Rattle.states.specs.States.{lefts, each, entryAt, Shaped, stateOf};
 ghost use Rattle.column.specs.Column.{Fit};
 ghost use Rattle.far.specs.Far.{blockAt};
@@ -66,7 +67,7 @@ fn most_in(
     left: u8,
     j: usize,
 ) -> usize
-    requires { ⌜ ((columns ≤ 255) × ((s < 6) × ((j ≤ columns) × (size < lefts))))
+    requires { ⌜ ((columns ≤ mostInLine) × ((s < 6) × ((j ≤ columns) × (size < lefts))))
         × ((blockAt columns (s + 1) ≤ length (now before)) × (blockAt columns (s + 1) ≤ length (now after))) ⌝ }
     ensures { λ r. ⌜ (left ≤ size → r ≡ mostIn columns (now (before .entry)) (now (after .entry)) s size left j)
         × (r ≤ 510) ⌝ }
@@ -90,7 +91,7 @@ fn fill_block(
     j: usize,
     values: &mut [u16],
 )
-    requires { ⌜ ((columns ≤ 255) × ((s < 6) × ((j ≤ columns) × (size < lefts))))
+    requires { ⌜ ((columns ≤ mostInLine) × ((s < 6) × ((j ≤ columns) × (size < lefts))))
         × (((blockAt columns (s + 1) ≤ length (now before)) × (blockAt columns (s + 1) ≤ length (now after)))
         × (entryAt s lefts ≤ length (now values))) ⌝ }
     ensures { λ _. ⌜ (length (now (values .exit)) ≡ length (now (values .entry)))

@@ -107,7 +107,7 @@ fn mended_block(
     if has_sum(nb, s, rest, totals, counts, p) {
         return false;
     }
-    let mut bits: [u8; bits::LONGEST] = [0; bits::LONGEST];
+    let mut bits: [u8; bits::LONGEST_LINE] = [0; bits::LONGEST_LINE];
     vt::mend_bits(s, &rest[0..short], &mut bits);
     put_block(l.nc, l.l2, &bits[0..nb], row, i);
     true

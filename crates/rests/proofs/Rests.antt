@@ -16,7 +16,7 @@ use Rattle.message.proofs.Fields.{field-room}
 use Rattle.message.proofs.Legal.{legal-bounds}
 use Rattle.column.specs.Column.{Crosses, valueAt}
 use Rattle.column.specs.declared.Heavy.{Heavy}
-use Rattle.column.proofs.Rows.{chunk-stands, crosses-readable}
+use Rattle.column.proofs.Rows.{crosses-readable}
 use Rattle.marks.specs.Marks.{Path}
 use Rattle.marks.proofs.Paths.{path-most}
 use Rattle.residues.specs.Residues.{Has}
@@ -29,23 +29,18 @@ use Rattle.rests.specs.Rests.{ShortChunk, CanBe, Brings, Filled, FilledC
 pub short-columns : (l : Layout) → legal l ≡ true → Short l → l .l2 ≤ 20
 short-columns l e short = omega (arith, short .blocks, mul-le-mul-left (l .l2) (legal-bounds l e .nc-low))
 
--- where a chunk stands, and where its first position does in its block
-pub record Low (l : Layout) (block c : ℕ) : Type 0 where
+-- where the first position of a chunk stands in its block
+pub record Low (l : Layout) (c : ℕ) : Type 0 where
   pub nc-high : l .nc ≤ 8
   pub column : c < 20
-  pub chunk : block * l .l2 + c < 255
-  pub start : (block * l .l2 + c) * l .nc ≤ 2040
   pub modulus : l .l2 * l .nc ≤ 62
   pub first : c * l .nc ≤ 62
 
-pub short-low : {l : Layout} {y : List ℕ} {block c : ℕ} → ShortChunk l y block c → Low l block c
-short-low {l} {y} {block} {c} s =
-    let k = chunk-stands l (s .allowed) block c (s .inside) (s .column) .1 in
+pub short-low : {l : Layout} {y : List ℕ} {block c : ℕ} → ShortChunk l y block c → Low l c
+short-low {l} {c = c} s =
     record {
       nc-high = legal-bounds l (s .allowed) .nc-high;
       column = omega (arith, short-columns l (s .allowed) (s .is-short), s .column);
-      chunk = k .0;
-      start = k .1;
       modulus = s .is-short .blocks;
       first = omega (arith, field-room (l .l2) (l .nc) c (s .column), s .is-short .blocks);
     }

@@ -30,8 +30,7 @@ fn with_chunk(
     ensures { λ r. ⌜ Brings l (now (y .entry)) block end c left next behind r ⌝ }
 {
     let nc = l.nc;
-    let from = (bits::wide(block) * l.l2 + c) * nc + bits::wide(left);
-    let p = column::place_of(nc, y.len(), from, end, left, next);
+    let p = column::place_of(l, y.len(), block, c, end, left, next);
     if !p.ok {
         return 0;
     }

@@ -10,7 +10,7 @@ use native.Mathlib.Nat.{zero-mul, add-mul, one-mul, mul-le-mul-right}
 use native.Mathlib.Omega.{arith}
 use lib.ListN.{length, getD, take, drop, set, length-set, length-drop}
 use lib.Seq.{getD-take, getD-set-same, getD-set-other, take-set-le, take-take, drop-drop}
-use Rattle.bits.specs.Bits.{longest}
+use Rattle.bits.specs.Bits.{longest, mostChunks}
 use Rattle.bits.proofs.Laws.{lt-or-ge}
 use Rattle.message.specs.Layout.{rowBits, blockBits}
 use Rattle.message.specs.declared.Layout.{Layout}
@@ -56,7 +56,7 @@ unfolding losses inAll
 under-start l y counts row x i e =
     record { own = λ b h. let z : b ≡ 0 = omega arith in rw (z, zero-mul) refl; light = λ b j h. absurd (omega arith) }
 
-pub begun-start : {l : Layout} {numbers y : List ℕ} → Given l numbers y → (counts row : List ℕ) → length row ≡ 255
+pub begun-start : {l : Layout} {numbers y : List ℕ} → Given l numbers y → (counts row : List ℕ) → length row ≡ mostChunks
     → (i : ℕ) → i ≡ 0
     → Begun l y y counts row i 0
 unfolding inAll

@@ -89,9 +89,9 @@ module _ (l : Layout) (counts : List ℕ) (heavy : Heavy) (t : Table) (q : Heavy
       }
 
   -- every row under the pattern is under it
-  pub starts-under : (y : List ℕ) → l .l1 ≤ length counts → (x : List ℕ) → Under l y counts (l .l1) (t .row) x
-      → UnderTable l y heavy 0 0 t x
-  starts-under y room x u =
+  pub starts-under : (y : List ℕ) → l .l1 ≤ length counts → (row x : List ℕ) → Under l y counts (l .l1) row x
+      → UnderTable l y heavy 0 0 t row x
+  starts-under y room row x u =
       record {
         ends = λ s k. u .own (getD (heavy .block) s 0 + 1) (omega (arith, q .inside s k)) ∙ sym (q .end s k);
         shifts = λ s k.
@@ -101,11 +101,13 @@ module _ (l : Layout) (counts : List ℕ) (heavy : Heavy) (t : Table) (q : Heavy
             rw (none-reached s, add-zero) (mul-assoc b (l .l2) (l .nc)) in
             let o = ap (λ (p : ℕ). losses (take p x) y) n ∙ u .own b (omega arith) in
             omega (arith, o, q .lost s k, q .end s k, total-next counts b (omega arith));
-        decided = λ i c h k. ⊎-elim
-            (λ (p : getD counts i 0 < 2). inr (inr (u .light i c h k (omega arith))))
-            (λ (p : 2 ≤ getD counts i 0).
-            let w = q .every i h p in inl (w .0, (w .1 .0, (w .1 .1, omega (arith, none-reached (w .0))))))
-            (lt-or-ge (getD counts i 0) 2);
+        decided = record {
+          at = λ i c h k. ⊎-elim
+              (λ (p : getD counts i 0 < 2). inr (u .light i c h k (omega arith)))
+              (λ (p : 2 ≤ getD counts i 0).
+              let w = q .every i h p in inl (inl (w .0, (w .1 .0, (w .1 .1, omega (arith, none-reached (w .0)))))))
+              (lt-or-ge (getD counts i 0) 2);
+        };
         loses = λ z o. absurd (omega (arith, closed z, o .1));
       }
 

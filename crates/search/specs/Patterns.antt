@@ -4,6 +4,7 @@ use Prim.Native.Nat.{ℕ, _+_, _-_, _*_, _<_, _≤_}
 use mathlib.Core.Path.{_≡_}
 use mathlib.Core.List.{List}
 use lib.ListN.{length, getD, take, drop, set}
+use Rattle.bits.specs.Bits.{mostChunks}
 use Rattle.message.specs.Layout.{rowBits, blockBits}
 use Rattle.message.specs.declared.Layout.{Layout}
 use Rattle.consistent.specs.Greedy.{losses, inAll}
@@ -49,4 +50,4 @@ pub record Begun (l : Layout) (y rest counts row : List ℕ) (i total : ℕ) : T
   pub most : total + length y ≤ rowBits l
   pub before : total ≤ i * blockBits l
   pub reads : rest ≡ drop (i * blockBits l - total) y
-  pub hand : length row ≡ 255
+  pub hand : length row ≡ mostChunks

@@ -9,7 +9,7 @@ ghost use mathlib.Core.Path.{_≡_};
 ghost use mathlib.Core.Bool.{false};
 ghost use Prim.Native.Nat.{_*_, _-_, _<_, _≤_};
 ghost use lib.ListN.{length, getD, take};
-ghost use Rattle.bits.specs.Bits.{bytesFor};
+ghost use Rattle.bits.specs.Bits.{bytesFor, mostChunks, mostInLine};
 ghost use Rattle.message.specs.Layout.{rowBits, blockBits};
 ghost use Rattle.consistent.specs.Consistent.{mostLosses};
 ghost use Rattle.consistent.specs.Greedy.{inAll};
@@ -22,7 +22,7 @@ ghost use Rattle.search.specs.Patterns.{Under, HeavyIn, Joined, Begun};
 
 // One count for each block, and their sum.
 pub struct Pattern {
-    pub counts: [u8; 255],
+    pub counts: [u8; bits::MOST_IN_LINE],
     pub total: usize,
 }
 
@@ -58,7 +58,7 @@ fn with_block(hs: Heavies, i: usize, a: u8, end: usize) -> Heavies
 
 // The blocks of a pattern with two losses or more. As all losses are at most twelve, these blocks are at most six.
 fn heavy_of(l1: usize, pattern: Pattern) -> Heavies
-    requires { ⌜ (l1 ≤ 255) × (inAll (take l1 (pattern .counts)) ≤ mostLosses) ⌝ }
+    requires { ⌜ (l1 ≤ mostInLine) × (inAll (take l1 (pattern .counts)) ≤ mostLosses) ⌝ }
     ensures { λ r. ⌜ HeavyIn (pattern .counts) l1 (r .heavy) (r .left) ⌝ }
 {
     let none = Heavy {
@@ -92,22 +92,24 @@ fn finish(
     counts: &[u16],
     numbers: &[u16],
     pattern: Pattern,
-    hand: [u8; 255],
+    row: &mut [u8],
     desk: &[u8],
     cap: usize,
     list: &mut [u8],
     kept: Kept,
 ) -> Kept
     requires { ⌜ Given l (now numbers) (now y) × (Holding l (now numbers) (now y) cap (now list) (kept .count) (kept .more)
-        × ((inAll (take (l .l1) (pattern .counts)) ≤ mostLosses) × (Tables (now y) 0 (now totals) (now counts)
+        × (((inAll (take (l .l1) (pattern .counts)) ≤ mostLosses) × (l .l1 * l .l2 ≤ length (now row)))
+        × (Tables (now y) 0 (now totals) (now counts)
         × Anchored l (now numbers) (now y) (rowsIn (rowBits l) (now list) (kept .count) (kept .more)) (now desk)))) ⌝ }
-    ensures { λ r. ⌜ Grown l (now (numbers .entry)) (now (y .entry)) cap (Under l (now (y .entry)) (pattern .counts) (l .l1) hand)
+    ensures { λ r. ⌜ Grown l (now (numbers .entry)) (now (y .entry)) cap
+        (Under l (now (y .entry)) (pattern .counts) (l .l1) (now (row .entry)))
         (now (list .entry)) (kept .count) (kept .more) (now (list .exit)) (r .count) (r .more) ⌝ }
 {
     let hs = heavy_of(l.l1, pattern);
     let heavy = hs.heavy;
     if heavy.n == 0 {
-        return found::add_row(l, y, numbers, &hand, cap, list, kept);
+        return found::add_row(l, y, numbers, row, cap, list, kept);
     }
     let left = hs.left;
     let cells = Cells {
@@ -120,10 +122,10 @@ fn finish(
     let t = Table {
         left: left,
         cells: cells,
-        row: hand,
     };
     if anchor::is_set(desk) {
         let near = l.r + 1;
+        let behind = 1 + bits::MOST_CHUNKS;
         return tables::tables(
             l,
             y,
@@ -132,13 +134,15 @@ fn finish(
             numbers,
             heavy,
             t,
-            &desk[1..256],
+            row,
+            &desk[1..behind],
             near,
             cap,
             list,
             kept,
         );
     }
+    let blank: [u8; bits::MOST_CHUNKS] = [0; bits::MOST_CHUNKS];
     tables::tables(
         l,
         y,
@@ -147,7 +151,8 @@ fn finish(
         numbers,
         heavy,
         t,
-        &hand,
+        row,
+        &blank,
         0,
         cap,
         list,
@@ -170,7 +175,7 @@ fn one_pattern(
     kept: Kept,
 ) -> Kept
     requires { ⌜ Given l (now numbers) (now y) × (Holding l (now numbers) (now y) cap (now list) (kept .count) (kept .more)
-        × (((length (now row) ≡ 255) × (pattern .total ≡ inAll (take (l .l1) (pattern .counts))))
+        × (((length (now row) ≡ mostChunks) × (pattern .total ≡ inAll (take (l .l1) (pattern .counts))))
         × (Tables (now y) 0 (now totals) (now counts)
         × Anchored l (now numbers) (now y) (rowsIn (rowBits l) (now list) (kept .count) (kept .more)) (now desk)))) ⌝ }
     ensures { λ r. ⌜ Grown l (now (numbers .entry)) (now (y .entry)) cap
@@ -181,7 +186,7 @@ fn one_pattern(
     if pattern.total != k {
         return kept;
     }
-    let mut hand: [u8; 255] = [0; 255];
+    let mut hand: [u8; bits::MOST_CHUNKS] = [0; bits::MOST_CHUNKS];
     bits::copy_to(row, &mut hand, 0);
     finish(
         l,
@@ -190,7 +195,7 @@ fn one_pattern(
         counts,
         numbers,
         pattern,
-        hand,
+        &mut hand,
         desk,
         cap,
         list,
@@ -321,6 +326,9 @@ fn early_anchor(
     kept
 }
 
+// The prefixes of a received row: none of its bits, and each number of them up to all.
+const PREFIXES: usize = bits::LONGEST + 1;
+
 // All consistent rows, by their loss patterns. The tables of the received row are made once for all patterns; the desk has no
 // anchor yet.
 fn all_patterns(
@@ -338,13 +346,13 @@ fn all_patterns(
 {
     let kept = early_anchor(l, y, numbers, desk, cap, list);
     let start = Pattern {
-        counts: [0; 255],
+        counts: [0; bits::MOST_IN_LINE],
         total: 0,
     };
-    let mut totals: [u32; 2041] = [0; 2041];
-    let mut counts: [u16; 2041] = [0; 2041];
+    let mut totals: [u32; PREFIXES] = [0; PREFIXES];
+    let mut counts: [u16; PREFIXES] = [0; PREFIXES];
     windows::fill(y, &mut totals, &mut counts);
-    let mut row: [u8; 255] = [0; 255];
+    let mut row: [u8; bits::MOST_CHUNKS] = [0; bits::MOST_CHUNKS];
     patterns(
         l,
         y,

@@ -4,7 +4,7 @@ use Prim.Native.Nat.{ℕ, _+_, _*_, _/_, _%_, _^_, _<_, _≤_}
 use mathlib.Core.Path.{_≡_}
 use mathlib.Core.List.{List}
 use lib.ListN.{length, getD}
-use Rattle.bits.specs.Bits.{longest}
+use Rattle.bits.specs.Bits.{longestLine}
 
 -- bit b of a word is one
 abbrev pub One : (w b : ℕ) → Type 0
@@ -32,7 +32,7 @@ MovedTwice m by from to = (r : ℕ) → r < m → Twice m from r → Twice m to 
 
 -- m is the modulus of the sum of at most 2,040 bits, and a set of residues modulo m is long enough to stand twice
 abbrev pub Long : (m : ℕ) (set : List ℕ) → Type 0
-Long m set = (m ≤ longest + 1) × (2 * (m / 64) + 1 < length set)
+Long m set = (m ≤ longestLine + 1) × (2 * (m / 64) + 1 < length set)
 
 -- and there is room for another one
 abbrev pub Room : (m : ℕ) (set other : List ℕ) → Type 0

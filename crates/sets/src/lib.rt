@@ -7,8 +7,8 @@ ghost use Prim.Native.Nat.{ℕ, _+_, _*_, _/_, _<_, _≤_};
 ghost use lib.ListN.{length};
 ghost use Rattle.sets.specs.Sets.{One, In, Grows, Twice, Moved, Long, Room};
 
-// The words of a set.
-pub const WORDS: usize = 32;
+// The words of a set of the residues of a sum, of which there are at most one more than a line has bits.
+pub const WORDS: usize = bits::LONGEST_LINE / 64 + 1;
 
 // The words of a set that stands twice.
 pub const TWICE: usize = 2 * WORDS;

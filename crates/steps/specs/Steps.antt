@@ -8,7 +8,7 @@ use mathlib.Core.Logic.{_⊎_}
 use mathlib.Core.List.{List}
 use lib.Dec.{eqb}
 use lib.ListN.{length, getD}
-use Rattle.bits.specs.Bits.{longest}
+use Rattle.bits.specs.Bits.{longestLine}
 use Rattle.message.specs.declared.Layout.{Layout}
 use Rattle.states.specs.States.{stride, each, firsts, mostStates, Shaped}
 use Rattle.states.specs.declared.Shape.{Shape}
@@ -69,7 +69,7 @@ pub record Ground (choices from : List ℕ) (shape : Shape) (modulus need : ℕ)
   pub counted : Counted shape marks at some
   pub long-fresh : shape .states ≤ length fresh
   pub below : need < modulus
-  pub high : modulus ≤ longest + 1
+  pub high : modulus ≤ longestLine + 1
   pub listed : (b t : ℕ) → b < shape .n → getD from b 0 ≤ t → t < getD from (b + 1) 0
       → (4 * t + 4 ≤ length choices) × Small choices (each (shape .size) b * stride (each (shape .size)) b) t
 

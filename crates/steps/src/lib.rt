@@ -9,7 +9,7 @@ ghost use mathlib.Core.Bool.{true};
 ghost use mathlib.Core.List.{List};
 ghost use Prim.Native.Nat.{ℕ, _+_, _*_, _<_, _≤_};
 ghost use lib.ListN.{length, getD};
-ghost use Rattle.bits.specs.Bits.{longest};
+ghost use Rattle.bits.specs.Bits.{longestLine};
 ghost use Rattle.states.specs.States.{each, mostStates, stateOf};
 ghost use Rattle.windows.specs.Windows.{Tables};
 ghost use Rattle.weigh.specs.Weigh.{chunkTop};
@@ -69,7 +69,7 @@ fn raise_one(
     stand: Stand,
     fresh: &mut [u8],
 )
-    requires { ⌜ ((need < modulus) × (modulus ≤ longest + 1)) × ((stand .span .low ≤ 6 * chunkTop)
+    requires { ⌜ ((need < modulus) × (modulus ≤ longestLine + 1)) × ((stand .span .low ≤ 6 * chunkTop)
         × ((at + stand .q < length (now marks)) × (stand .q < length (now fresh)))) ⌝ }
     ensures { λ _. ⌜ Raises (now (fresh .entry)) (now (fresh .exit))
         × Ends modulus need there (now (marks .entry)) at stand (now (fresh .exit)) ⌝ }

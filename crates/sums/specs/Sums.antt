@@ -6,7 +6,7 @@ use mathlib.Core.Bool.{cond}
 use mathlib.Core.List.{List}
 use lib.Dec.{eqb}
 use lib.ListN.{length, getD, drop}
-use Rattle.bits.specs.Bits.{longest, digits}
+use Rattle.bits.specs.Bits.{longestLine, digits}
 use Rattle.vt.specs.Sum.{total}
 use Rattle.message.specs.declared.Layout.{Layout}
 use Rattle.consistent.specs.Greedy.{losses}
@@ -51,7 +51,7 @@ HoldsFrom l heavy rests vs own low =
 -- ---- contents
 -- a position of a line, and a modulus whose residues are the bits of a word
 abbrev pub Weighs : (nc m first : ℕ) → Type 0
-Weighs nc m first = (nc ≤ 8) × (((1 ≤ m) × (m ≤ 63)) × ((1 ≤ first) × (first ≤ longest + 1)))
+Weighs nc m first = (nc ≤ 8) × (((1 ≤ m) × (m ≤ 63)) × ((1 ≤ first) × (first ≤ longestLine + 1)))
 
 -- the number v completes a chunk's column: its others can bring so much that the column has its sum with it
 abbrev pub Completes : (nc : ℕ) (beside : Beside) (v : ℕ) → Type 0

@@ -62,8 +62,8 @@ pub few-left : {l : Layout} {m : ℕ} {heavy : Heavy} {t : Table} → Sound l m 
 few-left {t = t} sound s = omega (arith, sound .room, one-of (t .left) s)
 
 -- a table at the start of a column has as much left as the rows under it
-pub left-own : {l : Layout} {y : List ℕ} {heavy : Heavy} {j : ℕ} {t : Table} {x : List ℕ} → Under l y heavy j 0 t x
-    → (s : ℕ) → s < heavy .n → ownLeft l y heavy x j s ≡ getD (t .left) s 0
+pub left-own : {l : Layout} {y : List ℕ} {heavy : Heavy} {j : ℕ} {t : Table} {hand x : List ℕ}
+    → Under l y heavy j 0 t hand x → (s : ℕ) → s < heavy .n → ownLeft l y heavy x j s ≡ getD (t .left) s 0
 left-own {j = j} u s h = omega (arith, rw (reached-not j 0 s (omega arith)) at (u .shifts s h))
 
 -- rows that are known stay so while the rows held grow
@@ -139,8 +139,8 @@ module _ {l : Layout} {y numbers : List ℕ} {heavy : Heavy} {shape : Shape} {kn
       (omega (arith, of .blocks)))
 
 module _ {l : Layout} {y numbers : List ℕ} {heavy : Heavy} {shape : Shape} {known marks rests z sets : List ℕ} {differ j : ℕ}
-    {t : Table} {x : List ℕ} (column : j < l .l2)
-    (u : UnderMarks l y numbers heavy shape known marks rests z sets differ j t x) where
+    {t : Table} {hand x : List ℕ} (column : j < l .l2)
+    (u : UnderMarks l y numbers heavy shape known marks rests z sets differ j t hand x) where
   -- the row loses a bit in the column, or has as much left after it
   pub loses-or-not : {left : List ℕ} → ShapeOf heavy shape left
       → (stateOf shape (ownLeft l y heavy x (j + 1)) < stateOf shape (each (t .left)))
@@ -233,13 +233,15 @@ module _ {l : Layout} {y numbers : List ℕ} {heavy : Heavy} {shape : Shape} {kn
                 within = within-next;
               }
 
-          pub under-next : {ok : Bool} {new : Table} → Row (rowBits l) x → Stepped l y heavy j next t ok new
-              → (ok ≡ true) × UnderMarks l y numbers heavy shape known marks rests z fresh (differ + more) (j + 1) new x
+          pub under-next : {ok : Bool} {new : Table} {after : List ℕ} → Row (rowBits l) x
+              → Stepped l y heavy j next t hand ok new after
+              → (ok ≡ true)
+              × UnderMarks l y numbers heavy shape known marks rests z fresh (differ + more) (j + 1) new after x
           under-next row stepped = let n = stepped .under x row (u .0) own in (n .0, (n .1, comes-next))
 
 -- ---- the table after a column
-module _ {l : Layout} {y : List ℕ} {heavy : Heavy} {j : ℕ} {next : ℕ → ℕ} {t : Table} {ok : Bool} {new : Table}
-    {shape : Shape} (stepped : Stepped l y heavy j next t ok new) (went : ok ≡ true) {left : List ℕ}
+module _ {l : Layout} {y : List ℕ} {heavy : Heavy} {j : ℕ} {next : ℕ → ℕ} {t : Table} {hand : List ℕ} {ok : Bool}
+    {new : Table} {after : List ℕ} {shape : Shape} (stepped : Stepped l y heavy j next t hand ok new after) (went : ok ≡ true) {left : List ℕ}
     (of : ShapeOf heavy shape left) where
   has-left : (s : ℕ) → s < shape .n → each (new .left) s ≡ next s
   has-left s h = stepped .has-left went s (omega (arith, of .blocks))

@@ -3,7 +3,7 @@
 use Prim.Native.Nat.{ℕ, _+_, _-_, _*_, _<_, _≤_}
 use mathlib.Core.Path.{_≡_, refl, sym, ap, _∙_}
 use mathlib.Core.List.{List}
-use mathlib.Core.Logic.{⊎-elim}
+use mathlib.Core.Logic.{inl, inr, ⊎-elim}
 use native.Mathlib.Omega.{arith}
 use lib.ListN.{length, getD, drop}
 use Rattle.bits.specs.Bits.{number}
@@ -27,8 +27,9 @@ pub block-sum : {l : Layout} {numbers y : List ℕ} → Given l numbers y → (x
     → i < l .l1 → sum (line (l .nc) (i * l .l2) 1 (l .l2) (values l x)) ≡ getD numbers i 0
 block-sum {l} given x sent i h = sym (block-line l x (sent .0) i h) ∙ sent-parts given x sent .blocks i h
 
-module _ {l : Layout} {numbers y : List ℕ} {heavy : Heavy} {t : Table} {x : List ℕ} {j : ℕ} (given : Given l numbers y)
-    (sent : Sent l numbers y x) (sound : Sound l (length y) heavy t) (u : Under l y heavy j 0 t x) (h : ℕ)
+module _ {l : Layout} {numbers y : List ℕ} {heavy : Heavy} {t : Table} {hand x : List ℕ} {j : ℕ}
+    (given : Given l numbers y) (sent : Sent l numbers y x) (sound : Sound l (length y) heavy t)
+    (u : Under l y heavy j 0 t hand x) (h : ℕ)
     (some : h < heavy .n)
     (none : getD (t .left) h 0 ≡ 0) where
   -- the block, and the losses up to its end
@@ -69,14 +70,16 @@ module _ {l : Layout} {numbers y : List ℕ} {heavy : Heavy} {t : Table} {x : Li
       }
 
   -- so its numbers are those of a block that can have its sum
-  pub ended : Ended l y numbers (t .cells) (t .row) i end j (values l x)
+  pub ended : Ended l y numbers (t .cells) hand i end j (values l x)
   ended =
       record {
         decided = λ c a b.
             ⊎-elim
+            (⊎-elim
             (λ w. absurd (omega (arith, a, rw (reached-not j 0 (w .0) (omega arith)) at (w .1 .1 .1))))
-            (λ d. d)
-            (u .decided i c (sound .inside h some) b);
+            inl)
+            inr
+            (u .decided .at i c (sound .inside h some) b);
         lose = λ z o e. (value-low l x (sent .0) (chunkOf l (t .cells) z), u .loses z o);
         later = later;
         has-sum = block-sum given x sent i (sound .inside h some);

@@ -18,13 +18,14 @@ use Rattle.message.specs.Layout.{blockBits}
 use Rattle.message.specs.declared.Layout.{Layout}
 use Rattle.consistent.specs.Greedy.{losses, inAll}
 use Rattle.lines.specs.Lines.{values}
-use Rattle.cells.specs.Cells.{share, NoSingle, Open, OpenAt}
+use Rattle.cells.specs.Cells.{share, NoSingle, Open, OpenAt, SameBut}
 use Rattle.cells.specs.declared.Cells.{Cells}
+use Rattle.cells.proofs.Same.{same-sym, same-trans, same-wider}
 use Rattle.cells.proofs.Shares.{share-found, all-found}
 use Rattle.cells.proofs.State.{same-or-not}
 use Rattle.column.specs.Column.{chunkAt}
-use Rattle.tables.specs.Tables.{reached, Undecided, lostBefore, Loses, Sound, Under}
-use Rattle.tables.specs.Tables.{pushed, withChunk, withCell, NoneLeft, Whole}
+use Rattle.tables.specs.Tables.{reached, Undecided, Free, lostBefore, Loses, Sound, Under}
+use Rattle.tables.specs.Tables.{pushed, withCell, NoneLeft, Whole}
 use Rattle.column.specs.declared.Heavy.{Heavy}
 use Rattle.tables.specs.declared.Table.{Table}
 use Rattle.tables.proofs.Chunk.{chunk-next}
@@ -46,6 +47,39 @@ reached-next j h s n =
   where
     past : h ≤ s → h < s
     past p = ⊎-elim (λ q. q) (λ q. absurd (n (omega arith))) (lt-or-ge h s)
+
+-- a chunk that is not decided was not where its heavy block had come less far
+undecided-less : (heavy : Heavy) (j h k g i c : ℕ)
+    → ((s : ℕ) → s < heavy .n → reached k g s ≤ reached j h s)
+    → Undecided heavy j h i c → Undecided heavy k g i c
+undecided-less heavy j h k g i c less (s, (m, (b, r))) = (s, (m, (b, omega (arith, less s m, r))))
+
+pub undecided-share : (heavy : Heavy) (j h i c : ℕ) → Undecided heavy j (h + 1) i c → Undecided heavy j h i c
+undecided-share heavy j h i c =
+    undecided-less heavy j (h + 1) j h i c (λ s k. ⊎-elim (here s) (other s) (same-or-not s h))
+  where
+    here : (s : ℕ) → s ≡ h → reached j h s ≤ reached j (h + 1) s
+    here s e = omega (arith, reached-past j (h + 1) s (omega arith), reached-not j h s (omega arith))
+
+    other : (s : ℕ) → (s ≡ h → ⊥) → reached j h s ≤ reached j (h + 1) s
+    other s n = omega (arith, reached-next j h s n)
+
+-- the start of a column is the end of the one before
+reached-end : (j n s : ℕ) → s < n → reached (j + 1) 0 s ≡ reached j n s
+reached-end j n s k = reached-not (j + 1) 0 s (omega arith) ∙ sym (reached-past j n s k)
+
+pub undecided-end : (heavy : Heavy) (j i c : ℕ) → Undecided heavy (j + 1) 0 i c → Undecided heavy j (heavy .n) i c
+undecided-end heavy j i c =
+    undecided-less heavy (j + 1) 0 j (heavy .n) i c (λ s k. omega (arith, reached-end j (heavy .n) s k))
+
+pub undecided-start : (heavy : Heavy) (j i c : ℕ) → Undecided heavy j (heavy .n) i c → Undecided heavy (j + 1) 0 i c
+undecided-start heavy j i c =
+    undecided-less heavy j (heavy .n) (j + 1) 0 i c (λ s k. omega (arith, reached-end j (heavy .n) s k))
+
+pub undecided-column : (heavy : Heavy) (j i c : ℕ) → Undecided heavy (j + 1) 0 i c → Undecided heavy j 0 i c
+undecided-column heavy j i c =
+    undecided-less heavy (j + 1) 0 j 0 i c
+    (λ s k. omega (arith, reached-not j 0 s (omega arith), reached-not (j + 1) 0 s (omega arith)))
 
 -- ---- losses that move from what is left to a cell
 -- those of a key and those of all
@@ -128,6 +162,23 @@ module _ (cells : Cells) (twelve : Twelve cells) (room : cells .n < 12) (unused 
       getD-set-other (cells .column) (cells .n) z j 0 (k .0) ∙ q in
       (z, (k .1, (in-block, in-column)))
 
+  -- an open cell is one of those or the new one
+  at-old : (b c : ℕ) → OpenAt (pushed cells i j a place) b c → OpenAt cells b c ⊎ ((i ≡ b) × (j ≡ c))
+  at-old b c (z, (o, (p, q))) = ⊎-elim here other (same-or-not z (cells .n))
+    where
+      here : z ≡ cells .n → OpenAt cells b c ⊎ ((i ≡ b) × (j ≡ c))
+      here e =
+          inr (
+            sym (getD-set-same (cells .block) (cells .n) i 0 (omega arith)) ∙ rw e at p,
+            sym (getD-set-same (cells .column) (cells .n) j 0 (omega arith)) ∙ rw e at q,
+          )
+
+      other : (z ≡ cells .n → ⊥) → OpenAt cells b c ⊎ ((i ≡ b) × (j ≡ c))
+      other n =
+          let in-block = sym (getD-set-other (cells .block) (cells .n) z i 0 n) ∙ p in
+          let in-column = sym (getD-set-other (cells .column) (cells .n) z j 0 n) ∙ q in
+          inl (z, (open-old z n o, (in-block, in-column)))
+
   -- the new cell is open
   at-new : 0 < a → OpenAt (pushed cells i j a place) i j
   at-new p = (
@@ -166,8 +217,8 @@ module _ (cells : Cells) (twelve : Twelve cells) (room : cells .n < 12) (unused 
           ) (old z (open-old z n o))
 
 -- ---- a share: the rows under the table
-module _ {l : Layout} {y : List ℕ} {heavy : Heavy} {j h : ℕ} {t : Table} {x : List ℕ} (u : Under l y heavy j h t x)
-    (some : h < heavy .n) where
+module _ {l : Layout} {y : List ℕ} {heavy : Heavy} {j h : ℕ} {t : Table} {hand x : List ℕ}
+    (u : Under l y heavy j h t hand x) (some : h < heavy .n) where
   -- the losses before the chunk that is shared out to are those of the block's end without those left
   pub shift-at : lostBefore l y x (chunkAt l heavy j h) + getD (t .left) h 0 ≡ getD (heavy .end) h 0
   shift-at =
@@ -208,52 +259,53 @@ module _ {l : Layout} {y : List ℕ} {heavy : Heavy} {j h : ℕ} {t : Table} {x 
 
   -- a chunk without a loss is read
   pub under-read : (v : ℕ) → Loses l y x (chunkAt l heavy j h) 0 → getD (values l x) (chunkAt l heavy j h) 0 ≡ v
-      → chunkAt l heavy j h < length (t .row) → Under l y heavy j (h + 1) (withChunk t (chunkAt l heavy j h) v) x
+      → chunkAt l heavy j h < length hand → Under l y heavy j (h + 1) t (set hand (chunkAt l heavy j h) v) x
   under-read v own is in-row =
       record {
         ends = u .ends;
         shifts = shifts-next (t .left) 0 own (omega arith) (λ s n. refl);
-        decided = λ i c p q.
-            ⊎-elim
-            (λ w. fresh i c (undecided-next i c w))
-            (λ w. inr (⊎-elim inl (λ e. inr (kept (i * l .l2 + c) e)) w))
-            (u .decided i c p q);
+        decided = record {
+          at = λ i c p q.
+              ⊎-elim
+              (⊎-elim (λ w. fresh i c (undecided-next i c w)) (λ o. inl (inr o)))
+              (λ e. inr (kept (i * l .l2 + c) e))
+              (u .decided .at i c p q);
+        };
         loses = u .loses;
       }
     where
       new : List ℕ
-      new = set (t .row) (chunkAt l heavy j h) v
+      new = set hand (chunkAt l heavy j h) v
 
       there : (k : ℕ) → k ≡ chunkAt l heavy j h → getD (values l x) k 0 ≡ getD new k 0
-      there k e = rw e (is ∙ sym (getD-set-same (t .row) (chunkAt l heavy j h) v 0 in-row))
+      there k e = rw e (is ∙ sym (getD-set-same hand (chunkAt l heavy j h) v 0 in-row))
 
-      kept : (k : ℕ) → getD (values l x) k 0 ≡ getD (t .row) k 0 → getD (values l x) k 0 ≡ getD new k 0
+      kept : (k : ℕ) → getD (values l x) k 0 ≡ getD hand k 0 → getD (values l x) k 0 ≡ getD new k 0
       kept k e =
-          ⊎-elim (there k) (λ n. e ∙ sym (getD-set-other (t .row) (chunkAt l heavy j h) k v 0 n))
+          ⊎-elim (there k) (λ n. e ∙ sym (getD-set-other hand (chunkAt l heavy j h) k v 0 n))
           (same-or-not k (chunkAt l heavy j h))
 
       fresh : (i c : ℕ) → Undecided heavy j (h + 1) i c ⊎ ((getD (heavy .block) h 0 ≡ i) × (j ≡ c))
-          → Undecided heavy j (h + 1) i c
-          ⊎ (OpenAt (t .cells) i c ⊎ (getD (values l x) (i * l .l2 + c) 0 ≡ getD new (i * l .l2 + c) 0))
-      fresh i c (inl w) = inl w
-      fresh i c (inr w) = inr (inr (there (i * l .l2 + c) (rw (w .0, w .1) refl)))
+          → Free heavy j (h + 1) (t .cells) i c ⊎ (getD (values l x) (i * l .l2 + c) 0 ≡ getD new (i * l .l2 + c) 0)
+      fresh i c (inl w) = inl (inl w)
+      fresh i c (inr w) = inr (there (i * l .l2 + c) (rw (w .0, w .1) refl))
 
   -- a chunk with losses becomes a cell
   pub under-cell : (a place : ℕ) → Loses l y x (chunkAt l heavy j h) a → 0 < a → a ≤ getD (t .left) h 0
       → h < length (t .left)
       → Twelve (t .cells) → t .cells .n < 12 → getD (t .cells .lost) (t .cells .n) 0 ≡ 0
       → losses (digits (l .nc) (getD (values l x) (chunkAt l heavy j h) 0)) (drop place y) ≡ a
-      → Under l y heavy j (h + 1) (withCell t h (getD (heavy .block) h 0) j a place) x
+      → Under l y heavy j (h + 1) (withCell t h (getD (heavy .block) h 0) j a place) hand x
   under-cell a place own pos less in-left twelve room unused is =
       record {
         ends = u .ends;
         shifts = shifts-next left a own (omega (arith, getD-set-same (t .left) h (getD (t .left) h 0 - a) 0 in-left))
             (λ s n. getD-set-other (t .left) h s (getD (t .left) h 0 - a) 0 n);
-        decided = λ i c p q.
-            ⊎-elim
+        decided = same-wider
+            (λ i c p q. ⊎-elim
             (λ w. fresh i c (undecided-next i c w))
-            (λ w. inr (⊎-elim (λ o. inl (at-kept (t .cells) twelve room unused block j a place i c o)) inr w))
-            (u .decided i c p q);
+            (λ o. inr (at-kept (t .cells) twelve room unused block j a place i c o)))
+            (u .decided);
         loses = each-pushed (t .cells) twelve room unused block j a place
             (λ b c lost p. losses (digits (l .nc) (getD (values l x) (b * l .l2 + c) 0)) (drop p y) ≡ lost) (u .loses) is;
       }
@@ -265,27 +317,26 @@ module _ {l : Layout} {y : List ℕ} {heavy : Heavy} {j h : ℕ} {t : Table} {x 
       block = getD (heavy .block) h 0
 
       fresh : (i c : ℕ) → Undecided heavy j (h + 1) i c ⊎ ((block ≡ i) × (j ≡ c))
-          → Undecided heavy j (h + 1) i c
-          ⊎ (OpenAt (pushed (t .cells) block j a place) i c
-          ⊎ (getD (values l x) (i * l .l2 + c) 0 ≡ getD (t .row) (i * l .l2 + c) 0))
+          → Free heavy j (h + 1) (pushed (t .cells) block j a place) i c
       fresh i c (inl w) = inl w
-      fresh i c (inr w) = inr (inl (rw (← w .0, ← w .1) (at-new (t .cells) twelve room unused block j a place pos)))
+      fresh i c (inr w) = inr (rw (← w .0, ← w .1) (at-new (t .cells) twelve room unused block j a place pos))
+
+-- ---- a share: the chunks that are decided stay so
+module _ (heavy : Heavy) (j h : ℕ) (some : h < heavy .n) where
+  -- the chunk that is shared out to was not decided
+  pub undecided-here : Undecided heavy j h (getD (heavy .block) h 0) j
+  undecided-here = (h, (some, (refl, omega (arith, reached-not j h h (omega arith)))))
+
+  pub fewer-cell : (cells : Cells) → Twelve cells → cells .n < 12 → getD (cells .lost) (cells .n) 0 ≡ 0
+      → (a place i c : ℕ) → Free heavy j (h + 1) (pushed cells (getD (heavy .block) h 0) j a place) i c
+      → Free heavy j h cells i c
+  fewer-cell cells twelve room unused a place i c (inl w) = inl (undecided-share heavy j h i c w)
+  fewer-cell cells twelve room unused a place i c (inr o) =
+      ⊎-elim inr (λ e. inl (rw (← e .0, ← e .1) undecided-here))
+      (at-old cells twelve room unused (getD (heavy .block) h 0) j a place i c o)
 
 -- ---- a share: what holds of the table
 module _ {l : Layout} {m : ℕ} {heavy : Heavy} {t : Table} (s : Sound l m heavy t) where
-  pub sound-read : (c v : ℕ) → Sound l m heavy (withChunk t c v)
-  sound-read c v =
-      record {
-        few = s .few;
-        inside = s .inside;
-        ascending = s .ascending;
-        placed = s .placed;
-        room = s .room;
-        fresh = s .fresh;
-        spare = s .spare;
-        not-one = s .not-one;
-      }
-
   module _ (j h a place : ℕ) (some : h < heavy .n) (less : a ≤ getD (t .left) h 0) (in-left : length (t .left) ≡ 6)
       (in-block : length (heavy .block) ≡ 6) where
     -- there is room for a cell
@@ -334,25 +385,30 @@ module _ {l : Layout} {m : ℕ} {heavy : Heavy} {t : Table} (s : Sound l m heavy
             unused
 
 -- ---- the end of a column, and of the last
-module _ {l : Layout} {y : List ℕ} {heavy : Heavy} {t : Table} {x : List ℕ} where
+module _ {l : Layout} {y : List ℕ} {heavy : Heavy} {t : Table} {hand x : List ℕ} where
   -- once all heavy blocks have their share in column j, the next can be shared out
-  pub next-column : {j : ℕ} → Under l y heavy j (heavy .n) t x → Under l y heavy (j + 1) 0 t x
+  pub next-column : {j : ℕ} → Under l y heavy j (heavy .n) t hand x → Under l y heavy (j + 1) 0 t hand x
   next-column {j} u =
       record {
         ends = u .ends;
-        shifts = λ s k. rw (same s k) (u .shifts s k);
-        decided = λ i c p q. ⊎-elim (λ w. inl (still w)) inr (u .decided i c p q);
+        shifts = λ s k. rw (reached-end j (heavy .n) s k) (u .shifts s k);
+        decided = same-wider (λ i c p q. ⊎-elim (λ w. inl (undecided-start heavy j i c w)) inr) (u .decided);
         loses = u .loses;
       }
-    where
-      same : (s : ℕ) → s < heavy .n → reached (j + 1) 0 s ≡ reached j (heavy .n) s
-      same s k = reached-not (j + 1) 0 s (omega arith) ∙ sym (reached-past j (heavy .n) s k)
 
-      still : {i c : ℕ} → Undecided heavy j (heavy .n) i c → Undecided heavy (j + 1) 0 i c
-      still w = (w .0, (w .1 .0, (w .1 .1 .0, omega (arith, w .1 .1 .1, same (w .0) (w .1 .0)))))
+  -- the rows under a state depend on the row in hand only where its chunks are decided
+  pub under-same : {other : List ℕ} {j h : ℕ} → SameBut l (Free heavy j h (t .cells)) hand other
+      → Under l y heavy j h t hand x → Under l y heavy j h t other x
+  under-same s u =
+      record {
+        ends = u .ends;
+        shifts = u .shifts;
+        decided = same-trans (same-sym s) (u .decided);
+        loses = u .loses;
+      }
 
   -- the losses of a heavy block's end
-  pub end-at : {j h : ℕ} → Under l y heavy j h t x → (s : ℕ) → s < heavy .n
+  pub end-at : {j h : ℕ} → Under l y heavy j h t hand x → (s : ℕ) → s < heavy .n
       → lostBefore l y x (chunkAt l heavy (l .l2) s) ≡ getD (heavy .end) s 0
   end-at u s k =
       let b = getD (heavy .block) s 0 in
@@ -362,11 +418,11 @@ module _ {l : Layout} {y : List ℕ} {heavy : Heavy} {t : Table} {x : List ℕ} 
       ap (λ (n : ℕ). losses (take n x) y) e ∙ u .ends s k
 
   -- after the last column no losses are left, and all chunks but the cells are decided
-  pub whole : {m : ℕ} → Sound l m heavy t → Under l y heavy (l .l2) 0 t x → Whole l y t x
+  pub whole : {m : ℕ} → Sound l m heavy t → Under l y heavy (l .l2) 0 t hand x → Whole l y t hand x
   whole sound u = (
     λ s. ⊎-elim (used-up s) (sound .spare s) (lt-or-ge s (heavy .n)),
     record {
-      decided = record { at = λ i c p q. ⊎-elim (λ w. absurd (past c q w)) (λ w. w) (u .decided i c p q) };
+      decided = same-wider (λ i c p q. ⊎-elim (λ w. absurd (past c q w)) (λ o. o)) (u .decided);
       loses = u .loses;
     },
   )

@@ -4,10 +4,11 @@ use Prim.Native.Nat.{ℕ, _+_, _*_, _-_, _<_, _≤_}
 use mathlib.Core.Path.{_≡_, refl}
 use mathlib.Core.Bool.{true, false, false≢true}
 use mathlib.Core.List.{List}
+use mathlib.Core.Logic.{inl, inr, ⊎-elim}
 use native.Mathlib.Omega.{arith}
-use lib.ListN.{length, getD, drop}
+use lib.ListN.{length, getD, set, drop}
 use lib.Seq.{getD-set-same, getD-set-other}
-use Rattle.bits.specs.Bits.{longest, number, digits}
+use Rattle.bits.specs.Bits.{longest, number, digits, mostChunks, mostInLine}
 use Rattle.rows.specs.Order.{Row}
 use Rattle.message.specs.Layout.{rowBits}
 use Rattle.message.specs.declared.Layout.{Layout}
@@ -15,23 +16,25 @@ use Rattle.message.proofs.Fields.{field-room}
 use Rattle.message.proofs.Legal.{Sizes, legal-bounds, sizes}
 use Rattle.consistent.specs.Greedy.{losses}
 use Rattle.lines.specs.Lines.{values}
+use Rattle.cells.proofs.Same.{same-refl, same-set}
 use Rattle.column.specs.Column.{chunkAt}
-use Rattle.tables.specs.Tables.{lostBefore, Loses, Under, withChunk, withCell, Sharable, Shared}
+use Rattle.tables.specs.Tables.{Free, lostBefore, Loses, Under, withCell, Sharable, Shared}
 use Rattle.column.specs.declared.Heavy.{Heavy}
 use Rattle.tables.specs.declared.Table.{Table}
 use Rattle.tables.proofs.Chunk.{chunk-inside, lost-before, place-within, chunk-within, chunk-read, chunk-loses}
-use Rattle.tables.proofs.Making.{Twelve, shift-at, under-read, under-cell, sound-read, room-cell, sound-cell}
+use Rattle.tables.proofs.Making.{Twelve, undecided-share, undecided-here, fewer-cell}
+use Rattle.tables.proofs.Making.{shift-at, under-read, under-cell, room-cell, sound-cell}
 
 module _ {l : Layout} {y : List ℕ} {heavy : Heavy} {j h a : ℕ} {t : Table} (q : Sharable l y heavy j h a t) where
   -- the chunk is one of the row
-  inside : chunkAt l heavy j h < l .l1 * l .l2
+  pub inside : chunkAt l heavy j h < l .l1 * l .l2
   inside = chunk-inside (l .l1) (l .l2) (getD (heavy .block) h 0) j (q .sound .inside h (q .some)) (q .column)
 
   size : Sizes l
   size = sizes l (legal-bounds l (q .is-legal))
 
   -- what follows for its number, for its place, and for the column
-  pub chunk-low : chunkAt l heavy j h < 255
+  pub chunk-low : chunkAt l heavy j h < mostChunks
   chunk-low = omega (arith, inside, size .chunks)
 
   pub start-low : chunkAt l heavy j h * l .nc ≤ longest
@@ -40,18 +43,23 @@ module _ {l : Layout} {y : List ℕ} {heavy : Heavy} {j h a : ℕ} {t : Table} (
   pub received-low : length y ≤ longest
   received-low = omega (arith, q .short, size .row)
 
-  pub column-low : j < 255
+  pub column-low : j < mostInLine
   column-low = omega (arith, q .column, size .l2-high)
 
   pub chunk-bits : l .nc ≤ 8
   chunk-bits = legal-bounds l (q .is-legal) .nc-high
 
+  -- there is room for a cell
+  pub cell-room : 0 < a → length (t .left) ≡ 6 → length (heavy .block) ≡ 6 → t .cells .n < 12
+  cell-room pos in-left in-block = room-cell (q .sound) j h a 0 (q .some) (q .less) in-left in-block pos
+
 -- where the chunk is read: the place for the losses that a row has before it
-module _ {l : Layout} {y : List ℕ} {heavy : Heavy} {j h a : ℕ} {t : Table} (q : Sharable l y heavy j h a t) (place : ℕ)
+module _ {l : Layout} {y : List ℕ} {heavy : Heavy} {j h a : ℕ} {t : Table} (q : Sharable l y heavy j h a t)
+    {hand : List ℕ} (place : ℕ)
     (read : (d : ℕ) → d + getD (t .left) h 0 ≡ getD (heavy .end) h 0 → d ≤ chunkAt l heavy j h * l .nc
     → chunkAt l heavy j h * l .nc - d ≤ length y → place ≡ chunkAt l heavy j h * l .nc - d) where
   -- a row under the table: its chunk is read there
-  module _ (x : List ℕ) (row : Row (rowBits l) x) (u : Under l y heavy j h t x) where
+  module _ (x : List ℕ) (row : Row (rowBits l) x) (u : Under l y heavy j h t hand x) where
     abbrev chunk : ℕ
     chunk = chunkAt l heavy j h
 
@@ -74,54 +82,54 @@ module _ {l : Layout} {y : List ℕ} {heavy : Heavy} {j h a : ℕ} {t : Table} (
       is-read z = rw place-at (chunk-read l y x row chunk (inside q) a own z)
 
   -- no row has that share
-  failed : ((x : List ℕ) → Row (rowBits l) x → Under l y heavy j h t x → Loses l y x (chunkAt l heavy j h) a → ⊥)
-      → Shared l y heavy j h a t false t
+  failed : ((x : List ℕ) → Row (rowBits l) x → Under l y heavy j h t hand x → Loses l y x (chunkAt l heavy j h) a → ⊥)
+      → Shared l y heavy j h a t hand false t hand
   failed none =
       record {
         sound = q .sound;
         falls = λ e. absurd (false≢true e);
         others = λ s n. refl;
         under = λ x row u own. absurd (none x row u own);
+        fewer = λ i c. ⊎-elim (λ w. inl (undecided-share heavy j h i c w)) inr;
+        same = same-refl;
       }
 
   -- too few bits are left to read the chunk
-  pub shared-short : a ≡ 0 → length y < place + l .nc → Shared l y heavy j h a t false t
+  pub shared-short : a ≡ 0 → length y < place + l .nc → Shared l y heavy j h a t hand false t hand
   shared-short z short = failed (λ x row u own. omega (arith, fits x row u own z))
 
   -- the chunk is read
-  pub shared-read : a ≡ 0 → length (t .row) ≡ 255
-      → Shared l y heavy j h a t true (withChunk t (chunkAt l heavy j h) (number (l .nc) (drop place y)))
+  pub shared-read : a ≡ 0 → l .l1 * l .l2 ≤ length hand
+      → Shared l y heavy j h a t hand true t (set hand (chunkAt l heavy j h) (number (l .nc) (drop place y)))
   shared-read z n =
       let v = number (l .nc) (drop place y) in
       record {
-        sound = sound-read (q .sound) (chunkAt l heavy j h) v;
+        sound = q .sound;
         falls = λ e. omega (arith, z);
         others = λ s n. refl;
         under = λ x row u own.
-            (refl, under-read u (q .some) v (rw z at own) (is-read x row u own z) (omega (arith, chunk-low q)));
+            (refl, under-read u (q .some) v (rw z at own) (is-read x row u own z) (omega (arith, inside q)));
+        fewer = λ i c. ⊎-elim (λ w. inl (undecided-share heavy j h i c w)) inr;
+        same = same-set (getD (heavy .block) h 0) j v (q .column) (inl (undecided-here heavy j h (q .some))) same-refl;
       }
 
   -- the received row does not reach to where the chunk would be read
-  pub shared-beyond : length y < place → Shared l y heavy j h a t false t
+  pub shared-beyond : length y < place → Shared l y heavy j h a t hand false t hand
   shared-beyond beyond = failed (λ x row u own. omega (arith, reaches x row u))
 
   -- the chunk becomes a cell
-  module _ (pos : 0 < a) (in-left : length (t .left) ≡ 6) (in-block : length (heavy .block) ≡ 6)
-      (twelve : Twelve (t .cells)) where
-    pub cell-room : t .cells .n < 12
-    cell-room = room-cell (q .sound) j h a place (q .some) (q .less) in-left in-block pos
-
-    pub shared-cell : place ≤ length y → Shared l y heavy j h a t true (withCell t h (getD (heavy .block) h 0) j a place)
-    shared-cell within =
-        let in-range : h < length (t .left) = omega (arith, q .some, q .sound .few) in
-        let unused = q .sound .fresh (t .cells .n) (omega arith) in
-        record {
-          sound = sound-cell (q .sound) j h a place (q .some) (q .less) in-left in-block pos (q .column) within twelve;
-          falls = λ e. omega (arith, getD-set-same (t .left) h (getD (t .left) h 0 - a) 0 in-range, q .less);
-          others = λ s n. getD-set-other (t .left) h s (getD (t .left) h 0 - a) 0 n;
-          under = λ x row u own. (
-            refl,
-            under-cell u (q .some) a place own pos (q .less) in-range twelve cell-room unused
-                (loses x row u own),
-          );
-        }
+  pub shared-cell : 0 < a → length (t .left) ≡ 6 → length (heavy .block) ≡ 6 → Twelve (t .cells) → place ≤ length y
+      → Shared l y heavy j h a t hand true (withCell t h (getD (heavy .block) h 0) j a place) hand
+  shared-cell pos in-left in-block twelve within =
+      let in-range : h < length (t .left) = omega (arith, q .some, q .sound .few) in
+      let unused = q .sound .fresh (t .cells .n) (omega arith) in
+      let room = cell-room q pos in-left in-block in
+      record {
+        sound = sound-cell (q .sound) j h a place (q .some) (q .less) in-left in-block pos (q .column) within twelve;
+        falls = λ e. omega (arith, getD-set-same (t .left) h (getD (t .left) h 0 - a) 0 in-range, q .less);
+        others = λ s n. getD-set-other (t .left) h s (getD (t .left) h 0 - a) 0 n;
+        under = λ x row u own.
+            (refl, under-cell u (q .some) a place own pos (q .less) in-range twelve room unused (loses x row u own));
+        fewer = fewer-cell heavy j h (q .some) (t .cells) twelve room unused a place;
+        same = same-refl;
+      }

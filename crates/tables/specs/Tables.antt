@@ -7,14 +7,14 @@ use mathlib.Core.Logic.{_⊎_}
 use mathlib.Core.List.{List}
 use lib.Dec.{ltb}
 use lib.ListN.{length, getD, set, take, drop}
-use Rattle.bits.specs.Bits.{AllBits, digits}
+use Rattle.bits.specs.Bits.{AllBits, digits, mostChunks}
 use Rattle.rows.specs.Held.{Held, Known}
 use Rattle.rows.specs.Order.{Row}
 use Rattle.message.specs.Layout.{legal, rowBits, blockBits}
 use Rattle.message.specs.declared.Layout.{Layout}
 use Rattle.consistent.specs.Greedy.{losses, inAll}
 use Rattle.lines.specs.Lines.{values, unlike}
-use Rattle.cells.specs.Cells.{share, Open, OpenAt, Placed, chunkOf, Under as UnderCells}
+use Rattle.cells.specs.Cells.{share, Open, OpenAt, Placed, chunkOf, SameBut, Under as UnderCells}
 use Rattle.cells.specs.declared.Cells.{Cells}
 use Rattle.windows.specs.Windows.{Tables}
 use Rattle.found.specs.Found.{Sent}
@@ -34,6 +34,10 @@ reached j h s = cond (ltb s h) (j + 1) j
 -- chunk c of block i is one whose share is not chosen yet
 abbrev pub Undecided : Heavy → (j h i c : ℕ) → Type 0
 Undecided heavy j h i c = (s : ℕ) × ((s < heavy .n) × ((getD (heavy .block) s 0 ≡ i) × (reached j h s ≤ c)))
+
+-- chunk c of block i can be any yet: its share is not chosen, or it is an open cell
+abbrev pub Free : Heavy → (j h : ℕ) → Cells → (i c : ℕ) → Type 0
+Free heavy j h cells i c = Undecided heavy j h i c ⊎ OpenAt cells i c
 
 -- the losses of the row x before its chunk c
 abbrev pub lostBefore : Layout → (y x : List ℕ) → (c : ℕ) → ℕ
@@ -58,14 +62,12 @@ pub record Sound (l : Layout) (m : ℕ) (heavy : Heavy) (t : Table) : Type 0 whe
 
 -- the row x is under the state: its losses up to the end of each heavy block are those of the pattern, of these as many
 -- are still to come as are left, and its chunks are those in hand but for those not decided yet and the cells
-pub record Under (l : Layout) (y : List ℕ) (heavy : Heavy) (j h : ℕ) (t : Table) (x : List ℕ) : Type 0 where
+pub record Under (l : Layout) (y : List ℕ) (heavy : Heavy) (j h : ℕ) (t : Table) (hand x : List ℕ) : Type 0 where
   pub ends : (s : ℕ) → s < heavy .n
       → losses (take ((getD (heavy .block) s 0 + 1) * blockBits l) x) y ≡ getD (heavy .end) s 0
   pub shifts : (s : ℕ) → s < heavy .n
       → lostBefore l y x (chunkAt l heavy (reached j h s) s) + getD (t .left) s 0 ≡ getD (heavy .end) s 0
-  pub decided : (i c : ℕ) → i < l .l1 → c < l .l2
-      → Undecided heavy j h i c
-      ⊎ (OpenAt (t .cells) i c ⊎ (getD (values l x) (i * l .l2 + c) 0 ≡ getD (t .row) (i * l .l2 + c) 0))
+  pub decided : SameBut l (Free heavy j h (t .cells)) hand (values l x)
   pub loses : (z : ℕ) → Open (t .cells) z
       → losses (digits (l .nc) (getD (values l x) (chunkOf l (t .cells) z) 0)) (drop (getD (t .cells .place) z 0) y)
       ≡ getD (t .cells .lost) z 0
@@ -103,7 +105,7 @@ pub record Looked (l : Layout) (y totals counts known z : List ℕ) (differ j : 
   pub tables : Tables y 0 totals counts
   pub sums : l .l2 ≤ length known
   pub others : l .l1 * l .l2 ≤ length z
-  pub small : differ ≤ 255 + j * 6
+  pub small : differ ≤ mostChunks + j * 6
 
 -- in how many chunks the row x is another than the chunks z
 abbrev pub apart : Layout → (z x : List ℕ) → ℕ
@@ -127,15 +129,15 @@ pub record Comes (l : Layout) (y numbers : List ℕ) (heavy : Heavy) (shape : Sh
 
 -- the row x is under the state, and comes through marked ones
 abbrev pub UnderMarks : (l : Layout) (y numbers : List ℕ) → Heavy → Shape → (known marks rests z sets : List ℕ)
-    → (differ j : ℕ) → Table → (x : List ℕ) → Type 0
-UnderMarks l y numbers heavy shape known marks rests z sets differ j t x =
-    Under l y heavy j 0 t x × Comes l y numbers heavy shape known marks rests z sets differ j x
+    → (differ j : ℕ) → Table → (hand x : List ℕ) → Type 0
+UnderMarks l y numbers heavy shape known marks rests z sets differ j t hand x =
+    Under l y heavy j 0 t hand x × Comes l y numbers heavy shape known marks rests z sets differ j x
 
 -- every consistent row under the state leaves column j with numbers of losses left that are marked
 abbrev pub Leaves : (l : Layout) (y numbers : List ℕ) → Heavy → Shape → (known marks rests z sets : List ℕ)
-    → (differ j : ℕ) → Table → (can : List ℕ) → Type 0
-Leaves l y numbers heavy shape known marks rests z sets differ j t can =
-    (x : List ℕ) → Sent l numbers y x → UnderMarks l y numbers heavy shape known marks rests z sets differ j t x
+    → (differ j : ℕ) → Table → (hand can : List ℕ) → Type 0
+Leaves l y numbers heavy shape known marks rests z sets differ j t hand can =
+    (x : List ℕ) → Sent l numbers y x → UnderMarks l y numbers heavy shape known marks rests z sets differ j t hand x
     → (s : ℕ) → s < heavy .n → 0 < getD can (entryAt s (ownLeft l y heavy x (j + 1) s)) 0
 
 -- the cells with one more
@@ -149,17 +151,12 @@ pushed cells i j a place =
       place = set (cells .place) (cells .n) place;
     }
 
--- the table in which chunk c is read whole
-abbrev pub withChunk : Table → (c v : ℕ) → Table
-withChunk t c v = record { left = t .left; cells = t .cells; row = set (t .row) c v }
-
 -- the table in which heavy block h, which is block i, loses a bits in a new cell of column j
 abbrev pub withCell : Table → (h i j a place : ℕ) → Table
 withCell t h i j a place =
     record {
       left = set (t .left) h (getD (t .left) h 0 - a);
       cells = pushed (t .cells) i j a place;
-      row = t .row;
     }
 
 -- what sharing out asks: received bits of a legal layout, a sound table, and in column j a share for heavy block h of
@@ -174,14 +171,16 @@ pub record Sharable (l : Layout) (y : List ℕ) (heavy : Heavy) (j h a : ℕ) (t
   pub less : a ≤ getD (t .left) h 0
 
 -- what sharing out answers: a sound table in which heavy block h has a losses fewer left, and every row under the state
--- whose chunk has just a losses is under it
-pub record Shared (l : Layout) (y : List ℕ) (heavy : Heavy) (j h a : ℕ) (t : Table) (ok : Bool) (new : Table)
-    : Type 0 where
+-- whose chunk has just a losses is under it; chunks that were decided stay so, and as they are
+pub record Shared (l : Layout) (y : List ℕ) (heavy : Heavy) (j h a : ℕ) (t : Table) (hand : List ℕ) (ok : Bool)
+    (new : Table) (after : List ℕ) : Type 0 where
   pub sound : Sound l (length y) heavy new
   pub falls : ok ≡ true → getD (new .left) h 0 + a ≡ getD (t .left) h 0
   pub others : (s : ℕ) → (s ≡ h → ⊥) → getD (new .left) s 0 ≡ getD (t .left) s 0
-  pub under : (x : List ℕ) → Row (rowBits l) x → Under l y heavy j h t x → Loses l y x (chunkAt l heavy j h) a
-      → (ok ≡ true) × Under l y heavy j (h + 1) new x
+  pub under : (x : List ℕ) → Row (rowBits l) x → Under l y heavy j h t hand x → Loses l y x (chunkAt l heavy j h) a
+      → (ok ≡ true) × Under l y heavy j (h + 1) new after x
+  pub fewer : (i c : ℕ) → Free heavy j (h + 1) (new .cells) i c → Free heavy j h (t .cells) i c
+  pub same : SameBut l (Free heavy j h (t .cells)) hand after
 
 -- no heavy block has losses left to share
 abbrev pub NoneLeft : (left : List ℕ) → Type 0
@@ -189,15 +188,17 @@ NoneLeft left = (s : ℕ) → getD left s 0 ≡ 0
 
 -- the row x is under a table after the last column: no losses are left, and its chunks are those in hand but for the
 -- cells
-abbrev pub Whole : Layout → (y : List ℕ) → Table → List ℕ → Type 0
-Whole l y t x = NoneLeft (t .left) × UnderCells l y (t .cells) (t .row) x
+abbrev pub Whole : Layout → (y : List ℕ) → Table → (hand x : List ℕ) → Type 0
+Whole l y t hand x = NoneLeft (t .left) × UnderCells l y (t .cells) hand x
 
 -- what a step over column j answers: a sound table with so much left, and every row under the state that has just so
--- much left after the column is under it
-pub record Stepped (l : Layout) (y : List ℕ) (heavy : Heavy) (j : ℕ) (next : ℕ → ℕ) (t : Table) (ok : Bool) (new : Table)
-    : Type 0 where
+-- much left after the column is under it; chunks that were decided stay so, and as they are
+pub record Stepped (l : Layout) (y : List ℕ) (heavy : Heavy) (j : ℕ) (next : ℕ → ℕ) (t : Table) (hand : List ℕ)
+    (ok : Bool) (new : Table) (after : List ℕ) : Type 0 where
   pub sound : Sound l (length y) heavy new
   pub has-left : ok ≡ true → (s : ℕ) → s < heavy .n → getD (new .left) s 0 ≡ next s
-  pub under : (x : List ℕ) → Row (rowBits l) x → Under l y heavy j 0 t x
+  pub under : (x : List ℕ) → Row (rowBits l) x → Under l y heavy j 0 t hand x
       → ((s : ℕ) → s < heavy .n → ownLeft l y heavy x (j + 1) s ≡ next s)
-      → (ok ≡ true) × Under l y heavy (j + 1) 0 new x
+      → (ok ≡ true) × Under l y heavy (j + 1) 0 new after x
+  pub fewer : (i c : ℕ) → Free heavy (j + 1) 0 (new .cells) i c → Free heavy j 0 (t .cells) i c
+  pub same : SameBut l (Free heavy j 0 (t .cells)) hand after

@@ -4,17 +4,19 @@ ghost use mathlib.Core.Bool.{true, false};
 ghost use mathlib.Core.List.{List};
 ghost use Prim.Native.Nat.{ℕ, _+_, _-_, _*_, _<_, _≤_};
 ghost use lib.ListN.{length, getD};
-ghost use Rattle.bits.specs.Bits.{AllBits, longest};
+ghost use Rattle.bits.specs.Bits.{AllBits, longest, mostChunks};
 ghost use Rattle.rows.specs.Slice.{rowsIn};
 ghost use Rattle.message.specs.Layout.{legal, rowBits};
 ghost use Rattle.windows.specs.Windows.{Tables};
 ghost use Rattle.lines.specs.Lines.{unlike};
 ghost use Rattle.found.specs.Found.{Given, Sent, Holding, Grown};
 ghost use Rattle.anchor.specs.Anchor.{over};
-ghost use Rattle.cells.specs.Cells.{NoSingle, Placed};
+ghost use Rattle.cells.specs.Cells.{NoSingle, OpenAt, Placed, SameBut};
 ghost use Rattle.states.specs.States.{each, stateOf};
 ghost use Rattle.marks.specs.Marks.{Covers, apartFrom};
 ghost use Rattle.tables.specs.Tables.{
+  Undecided,
+  Free,
   pushed,
   Stepped,
   NoneLeft,
@@ -37,11 +39,11 @@ use message::Layout;
 use rows::Kept;
 use states::Shape;
 
-// A table as it is made: the losses that each heavy block has left to share, the short chunks so far, and the chunks in hand.
+// A table as it is made: the losses that each heavy block has left to share, and the short chunks so far. The chunks in hand are lent beside
+// it: a step writes those that it decides, and leaves the decided ones as they are.
 pub struct Table {
     pub left: [u8; 6],
     pub cells: Cells,
-    pub row: [u8; 255],
 }
 
 // What sharing out answers: whether chunks with that many losses can be read, and the table with them.
@@ -103,19 +105,21 @@ fn mend_table(
     y: &[u8],
     numbers: &[u16],
     t: Table,
+    row: &mut [u8],
     cap: usize,
     list: &mut [u8],
     kept: Kept,
 ) -> Kept
     requires { ⌜ Given l (now numbers) (now y) × (Holding l (now numbers) (now y) cap (now list) (kept .count) (kept .more)
-        × (Placed l (length (now y)) (t .cells) × (NoneLeft (t .left) → NoSingle (t .cells .block) (t .cells .lost)))) ⌝ }
-    ensures { λ r. ⌜ Grown l (now (numbers .entry)) (now (y .entry)) cap (Whole l (now (y .entry)) t)
-        (now (list .entry)) (kept .count) (kept .more) (now (list .exit)) (r .count) (r .more) ⌝ }
+        × ((Placed l (length (now y)) (t .cells) × (NoneLeft (t .left) → NoSingle (t .cells .block) (t .cells .lost)))
+        × (l .l1 * l .l2 ≤ length (now row)))) ⌝ }
+    ensures { λ r. ⌜ Grown l (now (numbers .entry)) (now (y .entry)) cap (Whole l (now (y .entry)) t (now (row .entry)))
+        (now (list .entry)) (kept .count) (kept .more) (now (list .exit)) (r .count) (r .more)
+        × SameBut l (OpenAt (t .cells)) (now (row .entry)) (now (row .exit)) ⌝ }
 {
     let left = t.left;
     if none_left(left) {
-        let mut row = t.row;
-        return turns::mend_strings(l, y, numbers, t.cells, &mut row, cap, list, kept);
+        return turns::mend_strings(l, y, numbers, t.cells, row, cap, list, kept);
     }
     kept
 }
@@ -132,10 +136,18 @@ fn not_shared(t: Table) -> Share
 
 // The table after column j, if each heavy block has so much left then: a chunk that loses no bit is read from the received row, and one that
 // does becomes a cell.
-fn step(l: Layout, y: &[u8], heavy: Heavy, j: usize, next: [u8; 6], t: Table) -> Share
+fn step(
+    l: Layout,
+    y: &[u8],
+    heavy: Heavy,
+    j: usize,
+    next: [u8; 6],
+    t: Table,
+    row: &mut [u8],
+) -> Share
     requires { ⌜ (legal l ≡ true) × (AllBits (now y) × ((length (now y) ≤ rowBits l)
-        × (Sound l (length (now y)) heavy t × (j < l .l2)))) ⌝ }
-    ensures { λ r. ⌜ Stepped l (now (y .entry)) heavy j (each next) t (r .ok) (r .table) ⌝ }
+        × (Sound l (length (now y)) heavy t × ((j < l .l2) × (l .l1 * l .l2 ≤ length (now row)))))) ⌝ }
+    ensures { λ r. ⌜ Stepped l (now (y .entry)) heavy j (each next) t (now (row .entry)) (r .ok) (r .table) (now (row .exit)) ⌝ }
 {
     let n = heavy.n;
     let nc = l.nc;
@@ -154,7 +166,7 @@ fn step(l: Layout, y: &[u8], heavy: Heavy, j: usize, next: [u8; 6], t: Table) ->
             if y.len() < place + nc {
                 return not_shared(t);
             }
-            table.row[c] = message::chunks::number_at(y, place, nc);
+            row[c] = message::chunks::number_at(y, place, nc);
         } else {
             if y.len() < place {
                 return not_shared(t);
@@ -180,11 +192,12 @@ fn ends(
     h: usize,
     before: u8,
     t: Table,
+    row: &[u8],
 ) -> bool
     requires { ⌜ Given l (now numbers) (now y) × (Tables (now y) 0 (now totals) (now counts)
-        × (Sound l (length (now y)) heavy t × ((j < l .l2) × (h < heavy .n)))) ⌝ }
+        × (Sound l (length (now y)) heavy t × ((j < l .l2) × ((h < heavy .n) × (l .l1 * l .l2 ≤ length (now row)))))) ⌝ }
     ensures { λ r. ⌜ ((x : List ℕ) → Sent l (now (numbers .entry)) (now (y .entry)) x
-        → Under l (now (y .entry)) heavy (j + 1) 0 t x
+        → Under l (now (y .entry)) heavy (j + 1) 0 t (now (row .entry)) x
         → r ≡ true) ⌝ }
 {
     if before == 0 {
@@ -194,7 +207,6 @@ fn ends(
         return true;
     }
     let cells = t.cells;
-    let row = t.row;
     blocks::can_end(
         l,
         y,
@@ -220,17 +232,18 @@ fn all_end(
     j: usize,
     before: [u8; 6],
     t: Table,
+    row: &[u8],
 ) -> bool
     requires { ⌜ Given l (now numbers) (now y) × (Tables (now y) 0 (now totals) (now counts)
-        × (Sound l (length (now y)) heavy t × (j < l .l2))) ⌝ }
+        × (Sound l (length (now y)) heavy t × ((j < l .l2) × (l .l1 * l .l2 ≤ length (now row))))) ⌝ }
     ensures { λ r. ⌜ ((x : List ℕ) → Sent l (now (numbers .entry)) (now (y .entry)) x
-        → Under l (now (y .entry)) heavy (j + 1) 0 t x
+        → Under l (now (y .entry)) heavy (j + 1) 0 t (now (row .entry)) x
         → r ≡ true) ⌝ }
 {
     let n = heavy.n;
     let mut h: usize = 0;
     while h < n {
-        if !ends(l, y, totals, counts, numbers, heavy, j, h, before[h], t) {
+        if !ends(l, y, totals, counts, numbers, heavy, j, h, before[h], t, row) {
             return false;
         }
         h += 1;
@@ -271,6 +284,7 @@ fn columns(
     room: usize,
     j: usize,
     t: Table,
+    row: &mut [u8],
     sets: [u64; states::MOST_HEAVY],
     differ: usize,
     cap: usize,
@@ -278,13 +292,14 @@ fn columns(
     kept: Kept,
 ) -> Kept
     requires { ⌜ Given l (now numbers) (now y) × (Holding l (now numbers) (now y) cap (now list) (kept .count) (kept .more)
-        × (Sound l (length (now y)) heavy t × ((j ≤ l .l2) × (ShapeOf heavy shape (t .left)
+        × ((Sound l (length (now y)) heavy t × (l .l1 * l .l2 ≤ length (now row))) × ((j ≤ l .l2) × (ShapeOf heavy shape (t .left)
         × (Looked l (now y) (now totals) (now counts) (now known) (now z) differ j
         × NearKnown l (now numbers) (now y) (rowsIn (rowBits l) (now list) (kept .count) (kept .more)) (now z) room))))) ⌝ }
     ensures { λ r. ⌜ Grown l (now (numbers .entry)) (now (y .entry)) cap
         (UnderMarks l (now (y .entry)) (now (numbers .entry)) heavy shape (now (known .entry)) (now (marks .entry))
-        (now (rests .entry)) (now (z .entry)) sets differ j t)
-        (now (list .entry)) (kept .count) (kept .more) (now (list .exit)) (r .count) (r .more) ⌝ }
+        (now (rests .entry)) (now (z .entry)) sets differ j t (now (row .entry)))
+        (now (list .entry)) (kept .count) (kept .more) (now (list .exit)) (r .count) (r .more)
+        × SameBut l (Free heavy j 0 (t .cells)) (now (row .entry)) (now (row .exit)) ⌝ }
 {
     let mut now = t;
     let mut held = sets;
@@ -313,6 +328,7 @@ fn columns(
             room,
             c,
             now,
+            row,
             held,
             apart,
             cap,
@@ -335,7 +351,7 @@ fn columns(
         if whole == 0 {
             return k;
         }
-        let read = step(l, y, heavy, c, left, now);
+        let read = step(l, y, heavy, c, left, now, row);
         if !read.ok {
             return k;
         }
@@ -345,7 +361,7 @@ fn columns(
         apart += bits::wide(whole) - 1;
         c += 1;
     }
-    mend_table(l, y, numbers, now, cap, list, k)
+    mend_table(l, y, numbers, now, row, cap, list, k)
 }
 
 // All rows under a table at the start of column j that come through marked loss states and lose a bit in the column: each
@@ -365,6 +381,7 @@ fn losses_here(
     room: usize,
     j: usize,
     t: Table,
+    row: &mut [u8],
     sets: [u64; states::MOST_HEAVY],
     differ: usize,
     cap: usize,
@@ -372,14 +389,15 @@ fn losses_here(
     kept: Kept,
 ) -> Kept
     requires { ⌜ Given l (now numbers) (now y) × (Holding l (now numbers) (now y) cap (now list) (kept .count) (kept .more)
-        × (Sound l (length (now y)) heavy t × ((j < l .l2) × (ShapeOf heavy shape (t .left)
+        × ((Sound l (length (now y)) heavy t × (l .l1 * l .l2 ≤ length (now row))) × ((j < l .l2) × (ShapeOf heavy shape (t .left)
         × (Looked l (now y) (now totals) (now counts) (now known) (now z) differ j
         × NearKnown l (now numbers) (now y) (rowsIn (rowBits l) (now list) (kept .count) (kept .more)) (now z) room))))) ⌝ }
     ensures { λ r. ⌜ Grown l (now (numbers .entry)) (now (y .entry)) cap
         (λ x. UnderMarks l (now (y .entry)) (now (numbers .entry)) heavy shape (now (known .entry)) (now (marks .entry))
-        (now (rests .entry)) (now (z .entry)) sets differ j t x
+        (now (rests .entry)) (now (z .entry)) sets differ j t (now (row .entry)) x
         × (stateOf shape (ownLeft l (now (y .entry)) heavy x (j + 1)) < stateOf shape (each (t .left))))
-        (now (list .entry)) (kept .count) (kept .more) (now (list .exit)) (r .count) (r .more) ⌝ }
+        (now (list .entry)) (kept .count) (kept .more) (now (list .exit)) (r .count) (r .more)
+        × SameBut l (Free heavy j 0 (t .cells)) (now (row .entry)) (now (row .exit)) ⌝ }
 {
     let left = t.left;
     let q = states::number_of(shape, left);
@@ -404,6 +422,7 @@ fn losses_here(
                 room,
                 j,
                 t,
+                row,
                 sets,
                 &can,
                 to,
@@ -435,6 +454,7 @@ fn losses_to(
     room: usize,
     j: usize,
     t: Table,
+    row: &mut [u8],
     sets: [u64; states::MOST_HEAVY],
     can: &[u8; states::ENTRIES],
     to: usize,
@@ -445,15 +465,17 @@ fn losses_to(
     kept: Kept,
 ) -> Kept
     requires { ⌜ (Given l (now numbers) (now y) × (Holding l (now numbers) (now y) cap (now list) (kept .count) (kept .more)
-        × (Sound l (length (now y)) heavy t × ((j < l .l2) × (ShapeOf heavy shape (t .left)
+        × ((Sound l (length (now y)) heavy t × (l .l1 * l .l2 ≤ length (now row))) × ((j < l .l2) × (ShapeOf heavy shape (t .left)
         × (Looked l (now y) (now totals) (now counts) (now known) (now z) differ j
         × NearKnown l (now numbers) (now y) (rowsIn (rowBits l) (now list) (kept .count) (kept .more)) (now z) room))))))
         × (((to < stateOf shape (each (t .left))) × IsMark shape (now marks) (j + 1) to mark)
-        × Leaves l (now y) (now numbers) heavy shape (now known) (now marks) (now rests) (now z) sets differ j t (now can)) ⌝ }
+        × Leaves l (now y) (now numbers) heavy shape (now known) (now marks) (now rests) (now z) sets differ j t (now row) (now can)) ⌝ }
     ensures { λ r. ⌜ Grown l (now (numbers .entry)) (now (y .entry)) cap
         (λ x. UnderMarks l (now (y .entry)) (now (numbers .entry)) heavy shape (now (known .entry)) (now (marks .entry))
-        (now (rests .entry)) (now (z .entry)) sets differ j t x × (stateOf shape (ownLeft l (now (y .entry)) heavy x (j + 1)) ≡ to))
-        (now (list .entry)) (kept .count) (kept .more) (now (list .exit)) (r .count) (r .more) ⌝ }
+        (now (rests .entry)) (now (z .entry)) sets differ j t (now (row .entry)) x
+        × (stateOf shape (ownLeft l (now (y .entry)) heavy x (j + 1)) ≡ to))
+        (now (list .entry)) (kept .count) (kept .more) (now (list .exit)) (r .count) (r .more)
+        × SameBut l (Free heavy j 0 (t .cells)) (now (row .entry)) (now (row .exit)) ⌝ }
 {
     let left = t.left;
     let next = states::losses_left(shape, to);
@@ -484,12 +506,12 @@ fn losses_to(
     if !sums::all_meet(l, heavy, j + 1, next, fresh, rests) {
         return kept;
     }
-    let s = step(l, y, heavy, j, next, t);
+    let s = step(l, y, heavy, j, next, t, row);
     if !s.ok {
         return kept;
     }
     let table = s.table;
-    if !all_end(l, y, totals, counts, numbers, heavy, j, left, table) {
+    if !all_end(l, y, totals, counts, numbers, heavy, j, left, table, row) {
         return kept;
     }
     columns(
@@ -507,6 +529,7 @@ fn losses_to(
         room,
         j + 1,
         table,
+        row,
         fresh,
         apart,
         cap,
@@ -528,10 +551,10 @@ fn is_heavy(heavy: Heavy, h: usize, i: usize) -> bool
 }
 
 // In how many chunks the row in hand differs from z, the heavy blocks left out.
-fn apart_light(l: Layout, heavy: Heavy, row: [u8; 255], z: &[u8]) -> usize
-    requires { ⌜ (legal l ≡ true) × (HeavyOf l heavy × (l .l1 * l .l2 ≤ length (now z))) ⌝ }
-    ensures { λ r. ⌜ ((vs : List ℕ) → LightIn l heavy row vs
-        → over (unlike vs (now (z .entry))) 0 (l .l1 * l .l2) ≤ r + apartFrom l heavy (now (z .entry)) vs 0) × (r ≤ 255) ⌝ }
+fn apart_light(l: Layout, heavy: Heavy, row: &[u8], z: &[u8]) -> usize
+    requires { ⌜ (legal l ≡ true) × (HeavyOf l heavy × ((l .l1 * l .l2 ≤ length (now row)) × (l .l1 * l .l2 ≤ length (now z)))) ⌝ }
+    ensures { λ r. ⌜ ((vs : List ℕ) → LightIn l heavy (now (row .entry)) vs
+        → over (unlike vs (now (z .entry))) 0 (l .l1 * l .l2) ≤ r + apartFrom l heavy (now (z .entry)) vs 0) × (r ≤ mostChunks) ⌝ }
 {
     let mut count: usize = 0;
     let mut h: usize = 0;
@@ -540,7 +563,7 @@ fn apart_light(l: Layout, heavy: Heavy, row: [u8; 255], z: &[u8]) -> usize
         if is_heavy(heavy, h, i) {
             h += 1;
         } else {
-            count += anchor::count_unlike(&row, z, i * l.l2, l.l2);
+            count += anchor::count_unlike(row, z, i * l.l2, l.l2);
         }
         i += 1;
     }
@@ -573,6 +596,7 @@ pub fn tables(
     numbers: &[u16],
     heavy: Heavy,
     t: Table,
+    row: &mut [u8],
     z: &[u8],
     room: usize,
     cap: usize,
@@ -581,14 +605,14 @@ pub fn tables(
 ) -> Kept
     requires { ⌜ (Given l (now numbers) (now y) × Holding l (now numbers) (now y) cap (now list) (kept .count) (kept .more))
         × ((Sound l (length (now y)) heavy t × (t .cells .n ≡ 0)) × (Tables (now y) 0 (now totals) (now counts)
-        × ((l .l1 * l .l2 ≤ length (now z))
+        × (((l .l1 * l .l2 ≤ length (now row)) × (l .l1 * l .l2 ≤ length (now z)))
         × NearKnown l (now numbers) (now y) (rowsIn (rowBits l) (now list) (kept .count) (kept .more)) (now z) room))) ⌝ }
-    ensures { λ r. ⌜ Grown l (now (numbers .entry)) (now (y .entry)) cap (Under l (now (y .entry)) heavy 0 0 t)
-        (now (list .entry)) (kept .count) (kept .more) (now (list .exit)) (r .count) (r .more) ⌝ }
+    ensures { λ r. ⌜ Grown l (now (numbers .entry)) (now (y .entry)) cap (Under l (now (y .entry)) heavy 0 0 t (now (row .entry)))
+        (now (list .entry)) (kept .count) (kept .more) (now (list .exit)) (r .count) (r .more)
+        × SameBut l (Undecided heavy 0 0) (now (row .entry)) (now (row .exit)) ⌝ }
 {
-    let row = t.row;
     let left = t.left;
-    let mut known: [u16; 255] = [0; 255];
+    let mut known: [u16; bits::MOST_IN_LINE] = [0; bits::MOST_IN_LINE];
     column::light_sums(l, y, numbers, heavy, row, &mut known);
     if !costs::enough(l, y, totals, counts, numbers, heavy, left, &known) {
         return kept;
@@ -638,6 +662,7 @@ pub fn tables(
             room,
             0,
             t,
+            row,
             sets,
             light,
             cap,
@@ -660,6 +685,7 @@ pub fn tables(
         room,
         0,
         t,
+        row,
         sets,
         light,
         cap,

@@ -303,7 +303,7 @@ pub fn weigh_byte(t: &[u16; 256], b: u8) -> Weight
 
 // The total and the number of the ones of packed bits.
 fn weigh_bytes(t: &[u16; 256], s: &[u8]) -> Weight
-    requires { ⌜ (now t ≡ weightsOf) × (length (now s) ≤ 255) ⌝ }
+    requires { ⌜ (now t ≡ weightsOf) × (length (now s) * 8 ≤ longest) ⌝ }
     ensures { λ r. ⌜ (r .total ≡ total 1 (unpack (now (s .entry)))) × (r .ones ≡ ones (unpack (now (s .entry)))) ⌝ }
 {
     let mut total: usize = 0;

@@ -5,7 +5,7 @@ use Prim.Native.Nat.{ℕ, zero, suc, _+_, _-_, _*_, _^_, _<_, _≤_}
 use mathlib.Core.Path.{_≡_}
 use mathlib.Core.List.{List}
 use lib.ListN.{length, getD, take, drop}
-use Rattle.bits.specs.Bits.{AllBits, longest, digits}
+use Rattle.bits.specs.Bits.{AllBits, longest, longestLine, digits}
 use Rattle.vt.specs.Ones.{ones}
 use Rattle.vt.specs.Sum.{total}
 use Rattle.windows.specs.Windows.{Tables}
@@ -36,7 +36,7 @@ chunkTop = 40000
 -- chunks that can be weighed: the tables are those of the received row, and the rest is as small as a layout has it
 pub record Weighable (nc modulus : ℕ) (y totals counts : List ℕ) (chunks : Chunks) (need : ℕ) : Type 0 where
   pub short : nc ≤ 8
-  pub modulus-high : modulus ≤ longest + 1
+  pub modulus-high : modulus ≤ longestLine + 1
   pub bits : AllBits y
   pub received : length y ≤ longest
   pub tables : Tables y 0 totals counts

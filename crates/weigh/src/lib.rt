@@ -3,7 +3,7 @@ ghost use mathlib.Core.Path.{_≡_};
 ghost use mathlib.Core.Bool.{true};
 ghost use Prim.Native.Nat.{ℕ, _+_, _*_, _-_, _%_, _<_, _≤_};
 ghost use lib.ListN.{length, take, drop};
-ghost use Rattle.bits.specs.Bits.{AllBits, longest};
+ghost use Rattle.bits.specs.Bits.{AllBits, longest, longestLine};
 ghost use Rattle.windows.specs.Windows.{Tables};
 ghost use Rattle.weigh.specs.Weigh.{Can, brought, chunkTop, SeenIn, MoreOnes, There, Wider, Within, Weighable};
 
@@ -105,7 +105,7 @@ pub fn more_ones(
 // A span with one chunk more, which has so many positions before it and g ones more than were received: least, the lost
 // ones stand in front of the received bits and the lost zeros behind; greatest, the other way round.
 pub fn widen(nc: usize, before: usize, lost: usize, seen: Seen, g: usize, span: Span) -> Span
-    requires { ⌜ ((nc ≤ 8) × (before ≤ longest)) × (((seen .ones + lost ≤ nc) × ((seen .total ≤ 64) × (g ≤ lost)))
+    requires { ⌜ ((nc ≤ 8) × (before ≤ longestLine)) × (((seen .ones + lost ≤ nc) × ((seen .total ≤ 64) × (g ≤ lost)))
         × ((span .low ≤ 5 * chunkTop) × (span .high ≤ 5 * chunkTop))) ⌝ }
     ensures { λ r. ⌜ Wider nc before lost seen g span r ⌝ }
 {
@@ -118,7 +118,7 @@ pub fn widen(nc: usize, before: usize, lost: usize, seen: Seen, g: usize, span: 
 
 // Whether some number whose double lies in a span is, modulo the modulus, the one needed.
 pub fn reaches(modulus: usize, need: usize, span: Span) -> bool
-    requires { ⌜ (need < modulus) × ((modulus ≤ longest + 1) × (span .low ≤ 6 * chunkTop)) ⌝ }
+    requires { ⌜ (need < modulus) × ((modulus ≤ longestLine + 1) × (span .low ≤ 6 * chunkTop)) ⌝ }
     ensures { λ r. ⌜ ((n : ℕ) → span .low ≤ 2 * n → 2 * n ≤ span .high → n % modulus ≡ need → r ≡ true) ⌝ }
 {
     let least = span.low / 2;
@@ -186,7 +186,7 @@ pub fn can_bring(
     chunks: Chunks,
     need: usize,
 ) -> bool
-    requires { ⌜ ((nc ≤ 8) × ((1 ≤ modulus) × (modulus ≤ longest + 1))) × (AllBits (now y) × ((length (now y) ≤ longest)
+    requires { ⌜ ((nc ≤ 8) × ((1 ≤ modulus) × (modulus ≤ longestLine + 1))) × (AllBits (now y) × ((length (now y) ≤ longest)
         × (Tables (now y) 0 (now totals) (now counts) × ((chunks .n ≤ 6) × (need < modulus))))) ⌝ }
     ensures { λ r. ⌜ ((vs : ℕ → ℕ) → Can nc (now (y .entry)) chunks vs
         → brought nc (chunks .block) vs (chunks .n) % modulus ≡ need → r ≡ true) ⌝ }

@@ -1,13 +1,12 @@
--- Where a chunk stands, and a row that crosses a column: what its chunks in the heavy blocks bring makes up the sum, and
--- those that lose no bit are read whole and bring what is read. Rests on the laws of the crate column. Assumes nothing.
+-- A row that crosses a column: what its chunks in the heavy blocks bring makes up the sum, and those that lose no bit
+-- are read whole and bring what is read. Rests on the laws of the crate column. Assumes nothing.
 use Prim.Native.Nat.{ℕ, zero, suc, _+_, _-_, _*_, _%_, _<_, _≤_}
 use mathlib.Core.Path.{_≡_, refl, sym, ap, _∙_}
 use mathlib.Core.List.{List}
 use native.Mathlib.Decide.{ℕ-discrete}
-use native.Mathlib.Nat.{mul-le-mul-right}
 use native.Mathlib.Omega.{arith}
 use lib.ListN.{length, getD, take, drop}
-use Rattle.bits.specs.Bits.{longest, digits}
+use Rattle.bits.specs.Bits.{digits}
 use Rattle.bits.proofs.Laws.{length-digits}
 use Rattle.vt.specs.Sum.{total}
 use Rattle.message.specs.declared.Layout.{Layout}
@@ -17,28 +16,8 @@ use Rattle.weigh.specs.Weigh.{brought}
 use Rattle.states.specs.States.{firsts}
 use Rattle.column.specs.Column.{Fit, Light, Crosses, readFrom, valueAt}
 use Rattle.column.specs.declared.Heavy.{Heavy}
-use Rattle.column.proofs.Rows.{chunk-stands, string-high, crosses-readable, crosses-brings}
-use Rattle.whole.specs.Whole.{modulus, Source, legibleIn, brings, bringsIn}
-
--- ---- where a chunk stands
--- where the chunk of a block in column j, the block being number i, starts in the row and in its chunk-string
-pub record Stands (l : Layout) (block j i : ℕ) : Type 0 where
-  pub is : (i * l .l2 + j) * l .nc ≡ (block * l .l2 + j) * l .nc
-  pub low : i * l .l2 + j < 255
-  pub in-row : (i * l .l2 + j) * l .nc ≤ longest
-  pub in-string : i * l .nc ≤ longest
-
-pub stands : {l : Layout} {y totals counts : List ℕ} {block j : ℕ} → Source l y totals counts block j → (i : ℕ)
-    → i ≡ block → Stands l block j i
-stands {l} {block = block} {j} s i e =
-    let k = chunk-stands l (s .allowed) block j (s .inside) (s .column) in
-    let before : block * l .nc ≤ l .l1 * l .nc = mul-le-mul-right (l .nc) (omega (arith, s .inside)) in
-    rw e (record {
-      is = refl;
-      low = k .1 .0;
-      in-row = k .1 .1;
-      in-string = omega (arith, before, string-high l (s .allowed));
-    })
+use Rattle.column.proofs.Rows.{crosses-readable, crosses-brings}
+use Rattle.whole.specs.Whole.{modulus, legibleIn, brings, bringsIn}
 
 -- ---- a row that crosses a column
 module _ {l : Layout} {y numbers : List ℕ} {heavy : Heavy} {row : List ℕ} {j : ℕ} {left next : ℕ → ℕ} {vs : List ℕ}

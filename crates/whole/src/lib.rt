@@ -6,7 +6,7 @@ ghost use mathlib.Core.Path.{_≡_};
 ghost use mathlib.Core.Bool.{true};
 ghost use Prim.Native.Nat.{ℕ, _+_, _-_, _*_, _%_, _^_, _<_, _≤_};
 ghost use lib.ListN.{length, getD, take, drop};
-ghost use Rattle.bits.specs.Bits.{AllBits, longest, digits};
+ghost use Rattle.bits.specs.Bits.{AllBits, longest, longestLine, digits};
 ghost use Rattle.vt.specs.Sum.{total};
 ghost use Rattle.windows.specs.Windows.{Tables};
 ghost use Rattle.consistent.specs.Greedy.{losses};
@@ -20,7 +20,7 @@ pub const UNREAD: usize = 65535;
 // What the next w bits from place p on bring to the total of a string in which so many positions stand before them.
 fn weight(y: &[u8], totals: &[u32], counts: &[u16], p: usize, w: usize, before: usize) -> usize
     requires { ⌜ (AllBits (now y) × (length (now y) ≤ longest)) × (Tables (now y) 0 (now totals) (now counts)
-        × ((p + w ≤ length (now y)) × (before ≤ longest))) ⌝ }
+        × ((p + w ≤ length (now y)) × (before ≤ longestLine))) ⌝ }
     ensures { λ r. ⌜ (r ≡ total (before + 1) (take w (drop p (now (y .entry))))) × (r ≤ before * w + w * w) ⌝ }
 {
     let seen = weigh::look(y, totals, counts, p, w);
@@ -43,18 +43,12 @@ pub fn reading(
     ensures { λ r. ⌜ (Legible l (length (now (y .entry))) block end j e
         → (r ≡ brings l (now (y .entry)) block end j e) × (r < unread)) × (r ≤ unread) ⌝ }
 {
-    let nc = l.nc;
-    let i = bits::wide(block);
-    let from = (i * l.l2 + j) * nc + e;
-    let before = bits::wide(end);
-    if from < before {
+    let left = e as u8;
+    let p = column::place_of(l, y.len(), block, j, end, left, left);
+    if !p.ok {
         return UNREAD;
     }
-    let p = from - before;
-    if y.len() < p + nc {
-        return UNREAD;
-    }
-    weight(y, totals, counts, p, nc, i * nc)
+    weight(y, totals, counts, p.at, l.nc, bits::wide(block) * l.nc)
 }
 
 // Puts what the chunk of heavy block s in column j brings into a table, for each number of losses left up to its size.
@@ -149,8 +143,7 @@ pub fn can_lose_one(
 {
     let nc = l.nc;
     let m = l.l1 * nc + 1;
-    let from = (bits::wide(block) * l.l2 + j) * nc + bits::wide(left);
-    let p = column::place_of(nc, y.len(), from, end, left, left - 1);
+    let p = column::place_of(l, y.len(), block, j, end, left, left - 1);
     if !p.ok {
         return false;
     }

@@ -9,6 +9,13 @@ pub struct Answer {
     pub value: usize,
 }
 
+/// The `dh_answer` of `dh_list`, by what it says: refusal 0 says that so many rows are consistent.
+#[repr(C)]
+struct ListAnswer {
+    refusal: u32,
+    count: usize,
+}
+
 /// What `dh_read` returns: refusal 0 says that the other four numbers are the message's layout.
 #[repr(C)]
 #[derive(Clone, Copy, Debug, PartialEq, Eq)]
@@ -42,7 +49,7 @@ extern "C" {
         m: usize,
         out: *mut u8,
         out_len: usize,
-    ) -> Answer;
+    ) -> ListAnswer;
 }
 
 /// Calls `dh_write`.
@@ -67,5 +74,7 @@ pub fn mend(w: usize, sum: usize, bits: &[u8], out: &mut [u8]) -> Answer {
 /// Calls `dh_list`.
 pub fn list(message: &[u8], row: &[u8], m: usize, out: &mut [u8]) -> Answer {
     // SAFETY: as for `write`, with `message` and `row`, which are only read and may overlap each other.
-    unsafe { dh_list(message.as_ptr(), message.len(), row.as_ptr(), row.len(), m, out.as_mut_ptr(), out.len()) }
+    let answer =
+        unsafe { dh_list(message.as_ptr(), message.len(), row.as_ptr(), row.len(), m, out.as_mut_ptr(), out.len()) };
+    Answer { refusal: answer.refusal, value: answer.count }
 }

@@ -10,11 +10,11 @@ use native.Mathlib.Nat.{mul-comm, mul-le-mul-left}
 use native.Mathlib.Omega.{arith}
 use borrow.Author.Needs.{needs}
 use lib.ListN.{length}
-use Rattle.message.proofs.Legal.{legal-bounds, sizes}
+use Rattle.bits.specs.Bits.{mostInLine}
+use Rattle.message.proofs.Legal.{legal-bounds, sizes, string-high}
 use Rattle.states.specs.States.{each, firsts}
 use Rattle.states.proofs.Sums.{firsts-same}
 use Rattle.column.specs.Column.{Light}
-use Rattle.column.proofs.Rows.{string-high}
 use Rattle.marks.specs.Marks.{Path, apartBefore}
 use Rattle.marks.proofs.Paths.{before-none, before-next}
 use Rattle.alike.proofs.Alike.{counts-next}
@@ -46,7 +46,7 @@ abbrev turn : tie.After-can-differ Inv-loop μ-loop → tie.In-loop Inv-loop μ-
 turn c = c .before .before .before
 
 -- there are few columns
-few : (s : tie.Start Inv-loop μ-loop) → s .args .l .l2 ≤ 255
+few : (s : tie.Start Inv-loop μ-loop) → s .args .l .l2 ≤ mostInLine
 few s = sizes (s .args .l) (legal-bounds (s .args .l) (s .pre .0 .allowed)) .l2-high
 
 -- all blocks for each loss are not many

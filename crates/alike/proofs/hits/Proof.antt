@@ -4,7 +4,8 @@ use mathlib.Core.Path.{_≡_, refl, sym, ap, _∙_}
 use native.Mathlib.Nat.{mod-lt, mod-eq-of-lt, add-comm, mod-add-mod}
 use native.Mathlib.Omega.{arith}
 use borrow.Author.Needs.{needs}
-use Rattle.column.proofs.Rows.{string-high}
+use Rattle.bits.specs.Bits.{longestLine}
+use Rattle.message.proofs.Legal.{string-high}
 use Rattle.whole.specs.Whole.{modulus, brings}
 use Rattle.alike.specs.Alike.{Hits}
 use Rattle.alike.proofs.hits.Statement.{statement}
@@ -14,7 +15,7 @@ use Rattle.alike.proofs.hits.Tie as tie
 abbrev start : tie.After-struct-known → tie.Start
 start c = c .before .before .before .before .before
 
-high : (c : tie.After-struct-known) → let l = start c .args .l in l .l1 * l .nc ≤ 2040
+high : (c : tie.After-struct-known) → let l = start c .args .l in l .l1 * l .nc ≤ longestLine
 high c = string-high (start c .args .l) (start c .pre .0 .allowed)
 
 mul-m : tie.Need-mul-m

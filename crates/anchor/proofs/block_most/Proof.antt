@@ -6,6 +6,7 @@ use mathlib.Core.Path.{_≡_, refl, sym, _∙_}
 use native.Mathlib.Omega.{arith}
 use lib.ListN.{drop, length-drop}
 use lib.Seq.{length-take-le}
+use Rattle.bits.specs.Bits.{mostChunks}
 use Rattle.message.proofs.Fields.{field-room}
 use Rattle.message.proofs.Legal.{Sizes, legal-bounds, sizes}
 use Rattle.lines.specs.Lines.{values, unlike}
@@ -46,7 +47,7 @@ count-unlike-requires c κs =
     let s = start (c .before .before) in
     let d = s .args .desk .now in
     let n = length-drop 1 d in
-    let w = length-take-le 255 (drop 1 d) (omega (arith, s .pre .0 .1)) in
+    let w = length-take-le mostChunks (drop 1 d) (omega (arith, s .pre .0 .1)) in
     (omega (arith, room s, s .pre .1 .0), omega (arith, room s, size s .chunks))
 
 returns : tie.Need-returns

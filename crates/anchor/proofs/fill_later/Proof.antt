@@ -5,6 +5,7 @@ use Prim.Native.Nat.{_+_, _-_, _≤_}
 use mathlib.Core.Path.{_≡_}
 use native.Mathlib.Omega.{arith}
 use lib.ListN.{length}
+use Rattle.bits.specs.Bits.{mostInLine}
 use Rattle.message.proofs.Legal.{Sizes, legal-bounds, sizes}
 use Rattle.anchor.specs.Anchor.{LaterFor}
 use Rattle.anchor.proofs.Desk.{later-none, later-next}
@@ -53,7 +54,7 @@ copy-to-requires : tie.Need-copy-to-requires Inv-loop μ-loop
 copy-to-requires c κs =
     let s = start (c .before .before) in
     let p = c .before .before .before .before .before .loop in
-    let n : length (c .before .before .later .result) ≡ 256 = search needs in
+    let n : length (c .before .before .later .result) ≡ mostInLine + 1 = search needs in
     omega (arith, s .pre .1 .0, s .pre .1 .1, p .inv .1 .size)
 
 add-d : tie.Need-add-d Inv-loop μ-loop
@@ -69,7 +70,7 @@ loop-again c =
     let p = t .before .before .before .loop in
     let s = start t in
     let a = s .args in
-    let n : length (t .later .result) ≡ 256 = search needs in (
+    let n : length (t .later .result) ≡ mostInLine + 1 = search needs in (
       omega arith,
       later-next (a .l) (a .k) (p .d) (a .desk .now) (p .desk) (t .later .result) (k .copy-to .last .1 .0)
           (size s .l1-high) (omega (arith, s .pre .1 .0)) (s .pre .1 .1) n (t .later .ensures) (size s .chunks)

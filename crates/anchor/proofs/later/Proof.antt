@@ -5,6 +5,7 @@ use Prim.Native.Nat.{_+_, _-_, _*_, _<_, _≤_}
 use mathlib.Core.Path.{_≡_, sym}
 use native.Mathlib.Omega.{arith}
 use lib.ListN.{length}
+use Rattle.bits.specs.Bits.{mostChunks, mostInLine}
 use Rattle.message.proofs.Fields.{field-room}
 use Rattle.message.proofs.Legal.{Sizes, legal-bounds, sizes}
 use Rattle.anchor.specs.Anchor.{over, wide}
@@ -14,7 +15,7 @@ use Rattle.anchor.proofs.later.Tie as tie
 
 abbrev Inv-loop : tie.InvT-loop
 Inv-loop l desk d k out₀ count₀ i₀ out count i =
-    ((i ≤ l .l1) × (length out ≡ 256))
+    ((i ≤ l .l1) × (length out ≡ mostInLine + 1))
     × (((count ≤ (l .l1 - i) * l .l2) × (count ≡ over (wide desk d (k - d)) (i * l .l2) ((l .l1 - i) * l .l2)))
     × Sums (wide desk d (k - d)) (l .l1) (l .l2) i out)
 
@@ -28,7 +29,8 @@ size s = sizes (s .args .l) (legal-bounds (s .args .l) (s .pre .0))
 more : (c : tie.After-count-wide Inv-loop μ-loop) →
     let a = c .before .before .before .before .before .args in
     let p = c .before .before .before .loop in
-    (p .count + c .count-wide .result ≤ (a .l .l1 - (p .i - 1)) * a .l .l2) × ((a .l .l1 - (p .i - 1)) * a .l .l2 ≤ 255)
+    (p .count + c .count-wide .result ≤ (a .l .l1 - (p .i - 1)) * a .l .l2)
+    × ((a .l .l1 - (p .i - 1)) * a .l .l2 ≤ mostChunks)
 more c =
     let s = c .before .before .before .before .before in
     let l = s .args .l in

@@ -12,6 +12,7 @@ use Rattle.bits.proofs.Laws.{both-left}
 use Rattle.message.specs.Layout.{rowBits}
 use Rattle.message.proofs.Legal.{Bounds, Sizes, legal-bounds, sizes}
 use Rattle.consistent.specs.Greedy.{inAll}
+use Rattle.consistent.specs.Query.{query}
 use Rattle.anchor.specs.Anchor.{deskSize, laterAt, isSet}
 use Rattle.anchor.proofs.Anchor.{Counted, counted-none, counted-next, counted-known}
 use Rattle.anchor.proofs.Totals.{total-none, total-next, total-grows}
@@ -20,14 +21,14 @@ use Rattle.anchor.proofs.near_anchor.Tie as tie
 
 abbrev Inv-loop : tie.InvT-loop
 Inv-loop l numbers y desk counts row i least most₀ d₀ b₀ most d b =
-    ((b ≤ i) × (d ≡ inAll (take b counts))) × ((most < least) × Counted l numbers y desk counts row i b most)
+    ((b ≤ i) × (d ≡ inAll (take b counts))) × ((most < least) × Counted (query l numbers y) desk counts row i b most)
 
 abbrev μ-loop : tie.MeasureT-loop
 μ-loop l numbers y desk counts row i least most₀ d₀ b₀ most d b = i - b
 
 -- where the function starts, seen from where `is_set` has answered
 abbrev begin : tie.After-is-set Inv-loop μ-loop → tie.Start Inv-loop μ-loop
-begin c = c .before .before .before .before .before .before
+begin c = c .before .before .before .before .before .before .before .before
 
 -- where the function starts, seen from the loop
 abbrev start : tie.At-loop Inv-loop μ-loop → tie.Start Inv-loop μ-loop
@@ -41,7 +42,7 @@ size s = sizes (s .args .l) (bounds s)
 
 -- the desk has an anchor, so it is long enough
 there : (t : tie.At-loop Inv-loop μ-loop) → isSet (start t .args .desk .now) ≡ true
-there t = sym (t .before .before .before .is-set .ensures) ∙ not-false _ (t .before .before .if1 .left)
+there t = sym (t .before .before .before .is-set .ensures) ∙ not-false _ (t .before .before .if2 .left)
 
 long : (t : tie.At-loop Inv-loop μ-loop) → deskSize ≤ length (start t .args .desk .now)
 long t = leb-true _ _ (both-left _ _ (there t))
@@ -136,9 +137,9 @@ loop-again c =
     let most = rw (p .inv .0 .1, k .before .wide .ensures) at (k .block-most .ensures .0) in (
       (omega arith, omega (arith, p .inv .0 .1, k .before .wide .ensures, next)),
       (
-        omega (arith, c .if2 .left),
-        counted-next (s .pre .0) (a .desk .now) (a .counts .now) (a .row .now) (a .i) (p .b) (p .most) (k .block-most .result)
-            (omega arith)
+        omega (arith, c .if3 .left),
+        counted-next (s .pre .0) (a .desk .now) (a .counts .now) (a .row .now) (a .i) (p .b) (p .most)
+            (k .block-most .result) (omega arith)
             (omega (arith, size s .l1-high, s .pre .1 .1 .0)) most (p .inv .1 .1),
       ),
     )
@@ -195,7 +196,8 @@ returns-3 c =
     let s = start t in
     let a = s .args in
     let e : p .b ≡ a .i = omega (arith, c .before .before .before .before .loop-test .left) in
-    let d : p .d ≡ inAll (take (a .i) (a .counts .now)) = p .inv .0 .1 ∙ ap (λ (n : ℕ). inAll (take n (a .counts .now))) e in
+    let d : p .d ≡ inAll (take (a .i) (a .counts .now)) =
+    p .inv .0 .1 ∙ ap (λ (n : ℕ). inAll (take n (a .counts .now))) e in
     λ small held x anchored sent own light.
     counted-known (s .pre .0) (a .desk .now) (a .counts .now) (a .row .now) (a .i) (p .most) (s .pre .1 .1 .0)
     (rw e at (p .inv .1 .1))

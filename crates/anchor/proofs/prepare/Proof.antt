@@ -5,6 +5,7 @@ use Prim.Native.Nat.{_-_}
 use mathlib.Core.Path.{_≡_, ap, _∙_}
 use native.Mathlib.Omega.{arith}
 use lib.ListN.{length}
+use Rattle.bits.specs.Bits.{mostChunks}
 use Rattle.message.proofs.Legal.{Sizes, legal-bounds, sizes}
 use Rattle.lines.proofs.Lines.{length-values}
 use Rattle.anchor.proofs.Desk.{put-length, prepared}
@@ -26,7 +27,7 @@ same-size : (k : tie.After-copy-to) → length (k .copy-to .last .1 .0) ≡ leng
 same-size k =
     let s = start k in
     let chunks = k .before .before .before .before .first-chunks .last .1 .1 .0 in
-    let n : length (k .before .before .before .before .first-chunks .last .1 .1 .0) ≡ 255 = search needs in
+    let n : length (k .before .before .before .before .first-chunks .last .1 .1 .0) ≡ mostChunks = search needs in
     ap length (k .copy-to .ensures) ∙ put-length (s .args .desk .now) chunks 1 (omega (arith, s .pre .1 .1 .1 .1))
 
 slice-aggregate-first-chunks : tie.Need-slice-aggregate-first-chunks
@@ -43,7 +44,7 @@ slice-aggregate-copy-to c = search needs
 copy-to-requires : tie.Need-copy-to-requires
 copy-to-requires c κs =
     let s = entry (c .before .before .before) in
-    let n : length (c .before .before .before .first-chunks .last .1 .1 .0) ≡ 255 = search needs in
+    let n : length (c .before .before .before .first-chunks .last .1 .1 .0) ≡ mostChunks = search needs in
     omega (arith, s .pre .1 .1 .1 .1)
 
 mul-k : tie.Need-mul-k
@@ -92,7 +93,7 @@ returns c =
     let f = k .before .before .before .before in
     let s = start k in
     let a = s .args in
-    let n : length (f .first-chunks .last .1 .1 .0) ≡ 255 = search needs in
+    let n : length (f .first-chunks .last .1 .1 .0) ≡ mostChunks = search needs in
     prepared (a .l) (a .y .now) _ _ (f .first-chunks .last .1 .1 .0) (a .desk .now) (k .copy-to .last .1 .0)
     (q .fill-near .last .1 .1 .1 .0) (r .fill-later .last .1 .1 .0) (size s .chunks) (s .pre .1 .1 .0 .0)
     (s .pre .1 .1 .0 .1)

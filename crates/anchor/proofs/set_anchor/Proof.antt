@@ -3,7 +3,7 @@ use borrow.Author.Needs.{needs}
 use Prim.Native.Nat.{_<_, _≤_}
 use mathlib.Core.Path.{_≡_, _∙_}
 use native.Mathlib.Omega.{arith}
-use borrow.Author.Tests.{eqb-false}
+use borrow.Author.Tests.{eqb-false, ltb-false}
 use lib.ListN.{length, set, length-set}
 use Rattle.anchor.specs.Anchor.{deskSize}
 use Rattle.anchor.proofs.Anchor.{firstRow, first-held, first-room}
@@ -12,25 +12,29 @@ use Rattle.anchor.proofs.set_anchor.Tie as tie
 
 -- where the function starts, seen from where the first test does not hold
 abbrev entry : tie.Else1 → tie.Start
-entry c = c .before .before .before .before .before
+entry c = c .before .before .before .before .before .before
 
--- where the anchor is set: the function's start, that a row is held, and that the desk is long enough
-abbrev start : tie.Else2 → tie.Start
-start k = entry (k .before .before)
+-- where the anchor is set: the function's start, that there are checks, that a row is held, and that the desk is long
+-- enough
+abbrev start : tie.Else3 → tie.Start
+start k = entry (k .before .before .before)
 
-some : (k : tie.Else2) → 0 < start k .args .kept .count
+checked : (k : tie.Else3) → 0 < start k .args .l .r
+checked k = omega (arith, k .before .before .before .if1 .left)
+
+some : (k : tie.Else3) → 0 < start k .args .kept .count
 some k =
-    let n : start k .args .kept .count ≡ 0 → ⊥ = eqb-false _ _ (k .if2 .left) in
+    let n : start k .args .kept .count ≡ 0 → ⊥ = eqb-false _ _ (k .if3 .left) in
     omega arith
 
-long : (k : tie.Else2) → deskSize ≤ length (start k .args .desk .now)
-long k = omega (arith, k .before .before .if1 .left)
+long : (k : tie.Else3) → deskSize ≤ length (start k .args .desk .now)
+long k = ltb-false _ _ (k .before .before .if2 .left)
 
 returns : tie.Need-returns
-returns c = c .before .before .before .before .before .pre .1 .1
+returns c = c .before .before .before .before .before .before .pre .1 .1
 
-slice-read-if3 : tie.Need-slice-read-if3
-slice-read-if3 c = omega (arith, long (c .before))
+slice-read-if4 : tie.Need-slice-read-if4
+slice-read-if4 c = omega (arith, long (c .before))
 
 returns-2 : tie.Need-returns-2
 returns-2 c = start (c .before .before) .pre .1 .1
@@ -43,7 +47,7 @@ prepare-requires c κs =
     let k = c .before .before .before in
     let s = start k in
     let g = s .pre .0 in
-    let row = first-room (s .args .kept .count) (some k) (s .pre .1 .0) in
+    let row = first-room _ (s .args .kept) (some k) (s .pre .1 .0) in
     (g .is-legal, (g .bits, ((g .short, g .few), (row, omega (arith, long k, length-set (s .args .desk .now) 0 1)))))
 
 same-length : tie.Need-same-length
@@ -58,8 +62,9 @@ returns-3 c =
     let q = c .before .before in
     let k = q .before .before .before .before in
     let s = start k in
-    let f = first-held (s .args .kept .count) (some k) (s .pre .1 .0) in
+    let f = first-held _ (s .args .kept) (some k) (s .pre .1 .0) in
     λ e. record {
+      some-checks = checked k;
       row = firstRow (s .args .l) (s .args .list .now);
       sent = f .0;
       known = f .1;
@@ -71,7 +76,7 @@ set-anchor-spec =
     tie.close
     (tie.spec
     returns
-    slice-read-if3
+    slice-read-if4
     returns-2
     slice-write-desk
     prepare-requires

@@ -5,6 +5,7 @@ use mathlib.Core.Path.{_≡_, refl, sym, ap, _∙_}
 use mathlib.Core.List.{List}
 use native.Mathlib.Omega.{arith}
 use lib.ListN.{length, getD, set, length-set}
+use Rattle.bits.specs.Bits.{mostChunks}
 use Rattle.column.proofs.Rows.{chunk-stands}
 use Rattle.blocks.proofs.Cutting.{bare-in, in-open, cut-next}
 use Rattle.blocks.proofs.cut_cell.Statement.{statement}
@@ -32,7 +33,7 @@ begin c = c .before .before .before .before .before .before
 -- the cell's chunk stands in the row
 stands : (c : tie.After-with-chunk) → let a = begin c .args in
     (getD (a .t3 .column) (a .z) 0 < a .l .l2) × ((getD (a .t3 .place) (a .z) 0 ≤ length (a .y .now))
-    × (a .i * a .l .l2 + getD (a .t3 .column) (a .z) 0 < 255))
+    × (a .i * a .l .l2 + getD (a .t3 .column) (a .z) 0 < mostChunks))
 stands c =
     let s = begin c in
     let a = s .args in

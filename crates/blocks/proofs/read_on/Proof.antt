@@ -9,7 +9,7 @@ use native.Mathlib.Omega.{arith}
 use borrow.Author.Count.{below-more}
 use lib.ListN.{length, getD, set, drop, length-set}
 use lib.Seq.{getD-set-same, getD-set-other}
-use Rattle.bits.specs.Bits.{number}
+use Rattle.bits.specs.Bits.{number, longest, mostChunks}
 use Rattle.column.proofs.Rows.{chunk-stands}
 use Rattle.message.proofs.Legal.{legal-bounds}
 use Rattle.blocks.specs.Blocks.{Later}
@@ -30,7 +30,7 @@ entry c = c .before .before .before .before .before
 
 -- where the chunk of a turn stands
 stands : (c : tie.In-loop Inv-loop μ-loop) → let a = entry c .args in
-    (a .i * a .l .l2 + c .before .loop .c < 255) × ((a .i * a .l .l2 + c .before .loop .c) * a .l .nc ≤ 2040)
+    (a .i * a .l .l2 + c .before .loop .c < mostChunks) × ((a .i * a .l .l2 + c .before .loop .c) * a .l .nc ≤ longest)
 stands c =
     let s = entry c in
     chunk-stands (s .args .l) (s .pre .0) (s .args .i) (c .before .loop .c) (s .pre .1 .1 .1 .0) (c .loop-test .taken) .1

@@ -12,13 +12,13 @@ use lib.ListN.{getD}
 use Rattle.bits.specs.Bits.{digits}
 use Rattle.bits.proofs.Laws.{lt-or-ge}
 use Rattle.vt.specs.Ones.{ones}
-use Rattle.message.proofs.Legal.{legal-bounds}
+use Rattle.message.proofs.Legal.{Lies, legal-bounds}
 use Rattle.weigh.specs.Weigh.{Wider}
 use Rattle.weigh.specs.declared.Span.{Span}
 use Rattle.column.specs.Column.{valueAt}
 use Rattle.column.proofs.Rows.{crosses-readable}
 use Rattle.choices.specs.Choices.{Viewed, Keeps, ChoicesOf}
-use Rattle.choices.proofs.Listing.{ChunkIs, chunk-is, keeps-same, keeps-then, kept-listed, listed-then}
+use Rattle.choices.proofs.Listing.{chunk-is, keeps-same, keeps-then, kept-listed, listed-then}
 use Rattle.choices.proofs.Listing.{listed-weaken, listed-none, listed-one, ones-first, ones-last}
 use Rattle.choices.proofs.list_share.Statement.{statement}
 use Rattle.choices.proofs.list_share.Tie as tie
@@ -64,9 +64,9 @@ viewed : (c : tie.Else1 Inv-loop μ-loop) → let a = begin c .args in
     Viewed (a .l) (a .y .now) (a .t5) (a .j) (a .b) (a .left) (a .a) (look c .look-at .result)
 viewed c = look c .look-at .ensures .0 (not-false _ (c .if1 .left))
 
--- where the chunk stands
+-- the chunk lies within its row
 stands : (c : tie.Else1 Inv-loop μ-loop) (i : ℕ) → i ≡ getD (begin c .args .t5 .block) (begin c .args .b) 0
-    → let a = begin c .args in ChunkIs (a .l) (a .t5) (a .j) (a .b) i
+    → Lies (begin c .args .l) i (begin c .args .j)
 stands c i is =
     let s = begin c in
     chunk-is (s .pre .0 .0) (s .args .b) i (s .pre .1 .0) is
@@ -246,7 +246,7 @@ loop-again c =
     subst (λ (i : ℕ). Wider (a .l .nc) (i * a .l .nc) (a .a) had (l .g) none span) (k .wide3 .ensures)
     (subst (λ (v : ℕ). Wider (a .l .nc) (k .wide3 .result * a .l .nc) v had (l .g) none span) at (w .widen .ensures)) in
     let d = other o in
-    let chunk = stands e (block d .wide .result) (block d .wide .ensures) .is in
+    let chunk = ap (λ (i : ℕ). i * a .l .l2 + a .j) (block d .wide .ensures) in
     let like = rw chunk at (d .other .ensures .0) in
     let put = n .put-choice .ensures in
     let adds = ap (λ (k : ℕ). k * a .one) (o .before .before .before .wide2 .ensures) in

@@ -8,58 +8,58 @@ use borrow.Author.Count.{below-more}
 use borrow.Author.Needs.{needs}
 use lib.ListN.{length, getD, length-set}
 use lib.Seq.{getD-set-same, getD-set-other}
-use Rattle.bits.specs.Bits.{longest}
+use Rattle.bits.specs.Bits.{longestLine}
 use Rattle.vt.specs.Sum.{total}
+use Rattle.message.proofs.Legal.{string-high}
 use Rattle.lines.specs.Lines.{line}
 use Rattle.lines.proofs.Lines.{string-inside}
 use Rattle.column.proofs.Zeros.{cleared-sum}
-use Rattle.column.proofs.Rows.{string-high}
 use Rattle.column.proofs.light_sums.Statement.{statement}
 use Rattle.column.proofs.light_sums.Tie as tie
 
 abbrev Inv-loop : tie.InvT-loop
-Inv-loop l y numbers known₀ l2 modulus table out j₀ known j =
+Inv-loop l y numbers row known₀ l2 modulus table j₀ known j =
     ((j ≤ l2) × (length known ≡ length known₀))
-    × ((i : ℕ) → i < j → getD known i 0 ≡ total 1 (line (l .nc) i (l .l2) (l .l1) out) % modulus)
+    × ((i : ℕ) → i < j → getD known i 0 ≡ total 1 (line (l .nc) i (l .l2) (l .l1) row) % modulus)
 
 abbrev μ-loop : tie.MeasureT-loop
-μ-loop l y numbers known₀ l2 modulus table out j₀ known j = l2 - j
+μ-loop l y numbers row known₀ l2 modulus table j₀ known j = l2 - j
 
 -- the modulus is small
-modulus-high : (s : tie.Start Inv-loop μ-loop) → s .args .l .l1 * s .args .l .nc ≤ longest
+modulus-high : (s : tie.Start Inv-loop μ-loop) → s .args .l .l1 * s .args .l .nc ≤ longestLine
 modulus-high s = string-high (s .args .l) (s .pre .0 .allowed)
 
 mul-modulus : tie.Need-mul-modulus Inv-loop μ-loop
-mul-modulus c = omega (arith, modulus-high (c .before .before .before .before))
+mul-modulus c = omega (arith, modulus-high (c .before .before .before .before .before))
 
 add-modulus : tie.Need-add-modulus Inv-loop μ-loop
-add-modulus c = omega (arith, modulus-high (c .before .before .before .before))
+add-modulus c = omega (arith, modulus-high (c .before .before .before .before .before))
 
 weights-requires : tie.Need-weights-requires Inv-loop μ-loop
 weights-requires c κs = search needs
 
-cleared-requires : tie.Need-cleared-requires Inv-loop μ-loop
-cleared-requires c κs = let f = c .before .before .before .before .before .pre .0 in
-    ((f .allowed, f .few), f .inside)
+clear-heavy-requires : tie.Need-clear-heavy-requires Inv-loop μ-loop
+clear-heavy-requires c κs =
+    let p = c .before .before .before .before .before .before .before .pre in
+    ((p .0 .allowed, (p .0 .few, p .1 .0)), p .0 .inside)
 
 loop-holds : tie.Need-loop-holds Inv-loop μ-loop
 loop-holds c = ((omega arith, refl), λ i h. absurd (omega arith))
 
--- where the function starts, seen from the loop
-abbrev start : tie.At-loop Inv-loop μ-loop → tie.Start Inv-loop μ-loop
-start c = c .before .before .before .before .before .before .before
+-- where the row is cleared, and where the function starts, seen from the loop
+abbrev cleared : tie.At-loop Inv-loop μ-loop → tie.After-clear-heavy Inv-loop μ-loop
+cleared c = c .before .before .before
 
-slice-aggregate-line-total : tie.Need-slice-aggregate-line-total Inv-loop μ-loop
-slice-aggregate-line-total c = search needs
+abbrev start : tie.At-loop Inv-loop μ-loop → tie.Start Inv-loop μ-loop
+start c = cleared c .before .before .before .before .before .before .before .before
 
 line-total-requires : tie.Need-line-total-requires Inv-loop μ-loop
 line-total-requires c κs =
     let p = c .before .before .before in
     let s = start p in
-    let out = p .before .cleared .result in
-    let n : length out ≡ 255 = search needs in (
-      p .before .before .weights .ensures,
-      string-inside (s .args .l) (s .pre .0 .allowed) (length out) (omega arith) (p .loop .j) (omega arith),
+    let long = cleared p .clear-heavy .kept .1 .1 .0 in (
+      p .before .before .before .before .before .weights .ensures,
+      string-inside (s .args .l) (s .pre .0 .allowed) _ (omega (arith, s .pre .1 .0, long)) (p .loop .j) (omega arith),
     )
 
 rem-known : tie.Need-rem-known Inv-loop μ-loop
@@ -99,12 +99,15 @@ loop-again c =
 same-length : tie.Need-same-length Inv-loop μ-loop
 same-length c = search needs
 
+same-length-2 : tie.Need-same-length-2 Inv-loop μ-loop
+same-length-2 c = search needs
+
 returns : tie.Need-returns Inv-loop μ-loop
 returns c =
     let p = c .before in
     let a = start p .args in
-    λ j h.
-    p .loop .inv .1 j (omega arith) ∙ cleared-sum (a .l) (a .heavy) (a .row) _ (p .before .cleared .ensures) j h
+    let k = cleared p .clear-heavy .ensures in
+    (λ j h. p .loop .inv .1 j (omega arith) ∙ cleared-sum (a .l) (a .heavy) (a .row .now) _ k j h, k)
 
 pub light-sums-spec : {M : Type 1} → statement M
 light-sums-spec =
@@ -115,9 +118,8 @@ light-sums-spec =
     mul-modulus
     add-modulus
     weights-requires
-    cleared-requires
+    clear-heavy-requires
     loop-holds
-    slice-aggregate-line-total
     line-total-requires
     rem-known
     cast-known
@@ -127,4 +129,5 @@ light-sums-spec =
     loop-less
     loop-again
     same-length
+    same-length-2
     returns)

@@ -7,9 +7,9 @@ use native.Mathlib.Numerals.{add-one}
 use native.Mathlib.Omega.{arith}
 use borrow.Author.Needs.{needs}
 use lib.ListN.{length, getD}
-use Rattle.message.proofs.Legal.{legal-bounds}
+use Rattle.bits.specs.Bits.{mostChunks}
+use Rattle.message.proofs.Legal.{legal-bounds, chunk-lies}
 use Rattle.column.specs.Column.{chunkAt, AsRead, apartIn}
-use Rattle.column.proofs.Rows.{chunk-stands}
 use Rattle.column.proofs.others.Statement.{statement}
 use Rattle.column.proofs.others.Tie as tie
 
@@ -28,7 +28,7 @@ start p = p .before .before .before .before .before .before
 chunk-is : (c : tie.After-struct-known Inv-loop μ-loop) → let p = c .before .before .before .before in
     let a = start p .args in
     let i = c .before .wide .result * a .l .l2 + a .j in
-    (i ≡ chunkAt (a .l) (a .t6) (a .j) (p .loop .s)) × ((i < 255) × (i < length (a .z .now)))
+    (i ≡ chunkAt (a .l) (a .t6) (a .j) (p .loop .s)) × ((i < mostChunks) × (i < length (a .z .now)))
 chunk-is c =
     let p = c .before .before .before .before in
     let s = start p in
@@ -36,8 +36,8 @@ chunk-is c =
     let f = s .pre .0 .0 in
     let e = ap (λ (v : ℕ). v * a .l .l2 + a .j) (c .before .wide .ensures) in
     let h = f .inside (p .loop .s) (c .before .before .before .loop-test .taken) in
-    let k = chunk-stands (a .l) (f .allowed) (getD (a .t6 .block) (p .loop .s) 0) (a .j) h (s .pre .1 .1 .0) in
-    (e, (rw e (k .1 .0), rw e (omega (arith, k .0, s .pre .1 .1 .1))))
+    let k = chunk-lies (a .l) (f .allowed) (getD (a .t6 .block) (p .loop .s) 0) (a .j) h (s .pre .1 .1 .0) in
+    (e, (rw e (k .low), rw e (omega (arith, k .inside, s .pre .1 .1 .1))))
 
 loop-holds : tie.Need-loop-holds Inv-loop μ-loop
 unfolding apartIn

@@ -6,7 +6,7 @@ use mathlib.Core.List.{List, _++_}
 use native.Mathlib.Omega.{arith}
 use lib.ListN.{length}
 use lib.Seq.{take-all}
-use Rattle.bits.specs.Bits.{same}
+use Rattle.bits.specs.Bits.{mostChunks, same}
 use Rattle.message.specs.Layout.{layout, rowBits}
 use Rattle.message.specs.Message.{blockSums, stringSums, checks}
 use Rattle.message.specs.declared.Layout.{Layout}
@@ -19,7 +19,7 @@ use Rattle.consistent.proofs.agrees.Tie as tie
 abbrev named : tie.Start → Layout
 named c = layout (c .args .l1) (c .args .l2) (c .args .nc) (c .args .r)
 
-few : (c : tie.Start) → c .args .l1 * c .args .l2 ≤ 255
+few : (c : tie.Start) → c .args .l1 * c .args .l2 ≤ mostChunks
 few c = sizes (named c) (legal-bounds (named c) (c .pre .0)) .chunks
 
 -- where the function starts, seen from where the chunks are filled in

@@ -8,7 +8,8 @@ use native.Mathlib.Omega.{arith}
 use borrow.Author.Count.{below-more}
 use borrow.Author.Needs.{needs}
 use lib.ListN.{length}
-use Rattle.column.proofs.Rows.{string-high}
+use Rattle.bits.specs.Bits.{longestLine}
+use Rattle.message.proofs.Legal.{string-high}
 use Rattle.whole.specs.Whole.{modulus, Legible, brings}
 use Rattle.sets.specs.Sets.{Grows, Moved}
 use Rattle.sets.proofs.Sets.{moved-rest, moved-grows}
@@ -33,7 +34,7 @@ abbrev begin : tie.At-loop Inv-loop μ-loop → tie.Start Inv-loop μ-loop
 begin c = entry (c .before .before .before)
 
 -- the modulus is small
-high : (s : tie.Start Inv-loop μ-loop) → s .args .l .l1 * s .args .l .nc ≤ 2040
+high : (s : tie.Start Inv-loop μ-loop) → s .args .l .l1 * s .args .l .nc ≤ longestLine
 high s = string-high (s .args .l) (s .pre .0 .allowed)
 
 mul-m : tie.Need-mul-m Inv-loop μ-loop

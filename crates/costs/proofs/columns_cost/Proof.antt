@@ -7,6 +7,7 @@ use mathlib.Core.List.{List}
 use native.Mathlib.Omega.{arith}
 use borrow.Author.Needs.{needs}
 use lib.ListN.{length}
+use Rattle.bits.specs.Bits.{mostInLine}
 use Rattle.message.proofs.Legal.{legal-bounds, sizes}
 use Rattle.states.specs.States.{each, firsts}
 use Rattle.column.specs.Column.{Light}
@@ -37,7 +38,7 @@ abbrev turn : tie.After-cost Inv-loop μ-loop → tie.In-loop Inv-loop μ-loop
 turn c = c .before .before .before
 
 -- there are few columns
-few : (s : tie.Start Inv-loop μ-loop) → s .args .l .l2 ≤ 255
+few : (s : tie.Start Inv-loop μ-loop) → s .args .l .l2 ≤ mostInLine
 few s = sizes (s .args .l) (legal-bounds (s .args .l) (s .pre .0 .allowed)) .l2-high
 
 -- behind the column, what is passed and what is left is no more than all losses

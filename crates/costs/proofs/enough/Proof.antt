@@ -4,7 +4,8 @@ use Prim.Native.Nat.{_*_, _≤_}
 use native.Mathlib.Omega.{arith}
 use borrow.Author.Needs.{needs}
 use borrow.Author.Tests.{le-leb}
-use Rattle.column.proofs.Rows.{string-high}
+use Rattle.bits.specs.Bits.{longestLine}
+use Rattle.message.proofs.Legal.{string-high}
 use Rattle.costs.proofs.enough.Statement.{statement}
 use Rattle.costs.proofs.enough.Tie as tie
 
@@ -20,7 +21,7 @@ abbrev asked : tie.Else2 → tie.After-columns-cost
 asked c = c .before .before .before .before
 
 -- the modulus is small
-high : (s : tie.Start) → s .args .l .l1 * s .args .l .nc ≤ 2040
+high : (s : tie.Start) → s .args .l .l1 * s .args .l .nc ≤ longestLine
 high s = string-high (s .args .l) (s .pre .0 .allowed)
 
 all-losses-requires : tie.Need-all-losses-requires

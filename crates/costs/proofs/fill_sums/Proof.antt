@@ -10,8 +10,9 @@ use native.Mathlib.Numerals.{add-one}
 use native.Mathlib.Omega.{arith}
 use borrow.Author.Needs.{needs}
 use lib.ListN.{length, getD}
+use Rattle.bits.specs.Bits.{longestLine}
+use Rattle.message.proofs.Legal.{string-high}
 use Rattle.states.specs.States.{firsts}
-use Rattle.column.proofs.Rows.{string-high}
 use Rattle.whole.specs.Whole.{modulus, bringsIn}
 use Rattle.sets.specs.Sets.{Twice}
 use Rattle.sets.proofs.Sets.{next-in}
@@ -41,7 +42,7 @@ abbrev begin : tie.After-slice-known3 Inv-loop μ-loop → tie.Start Inv-loop μ
 begin c = entry (first c .before .before .before)
 
 -- the modulus is small
-high : (s : tie.Start Inv-loop μ-loop) → s .args .l .l1 * s .args .l .nc ≤ 2040
+high : (s : tie.Start Inv-loop μ-loop) → s .args .l .l1 * s .args .l .nc ≤ longestLine
 high s = string-high (s .args .l) (s .pre .0 .0)
 
 -- the sets are as long as at the start

@@ -1,39 +1,40 @@
 -- `costs::repairs` meets its contract. The loop's invariant: a chunk that brings the column to its sum has at least g
 -- ones more than were received. The measure is what is left of these numbers. Rests on OneLost.antt. Assumes nothing.
 use Prim.Native.Nat.{ℕ, _+_, _-_, _*_, _≤_}
-use mathlib.Core.Path.{_≡_, refl, sym, ap, _∙_}
-use mathlib.Core.Bool.{false≢true}
+use mathlib.Core.Path.{_≡_, refl, sym, subst, _∙_}
+use mathlib.Core.Bool.{true, false≢true}
 use native.Mathlib.Nat.{mul-le-mul}
 use native.Mathlib.Omega.{arith}
 use borrow.Author.Needs.{needs}
 use borrow.Author.Tests.{not-true, not-false}
 use lib.ListN.{length}
-use Rattle.bits.specs.Bits.{digits}
+use Rattle.bits.specs.Bits.{digits, longestLine}
 use Rattle.vt.specs.Ones.{ones}
 use Rattle.vt.specs.Sum.{total}
-use Rattle.message.proofs.Legal.{Bounds, legal-bounds}
-use Rattle.column.proofs.Rows.{string-high}
+use Rattle.message.proofs.Legal.{Bounds, legal-bounds, chunk-lies, string-high}
 use Rattle.column.specs.Column.{startAt}
-use Rattle.whole.proofs.Whole.{Stands, stands}
 use Rattle.costs.specs.Costs.{Repairs}
 use Rattle.costs.proofs.OneLost.{lost-between, brings-between}
 use Rattle.costs.proofs.repairs.Statement.{statement}
 use Rattle.costs.proofs.repairs.Tie as tie
 
 abbrev Inv-loop : tie.InvT-loop
-Inv-loop l y totals counts block end j left sum set nc i from at seen last g₀ g =
+Inv-loop l y totals counts block end j left sum set nc i at seen last g₀ g =
     (v part : ℕ) → Repairs l y block end j left sum set v part → seen .ones + g ≤ ones (digits (l .nc) v)
 
 abbrev μ-loop : tie.MeasureT-loop
-μ-loop l y totals counts block end j left sum set nc i from at seen last g₀ g = last + 1 - g
+μ-loop l y totals counts block end j left sum set nc i at seen last g₀ g = last + 1 - g
 
--- where the function starts, seen from where the layout is known
-abbrev begin : tie.After-struct-known Inv-loop μ-loop → tie.Start Inv-loop μ-loop
-begin c = c .before .before .before .before .before .before
+-- where the block is known, and where the function starts, seen from where the chunk has its place
+abbrev known : tie.After-place-of Inv-loop μ-loop → tie.After-wide Inv-loop μ-loop
+known c = c .before
 
--- where the layout is known, seen from where the chunk can be matched
-abbrev known : tie.Else1 Inv-loop μ-loop → tie.After-struct-known Inv-loop μ-loop
-known c = c .before .before .before .before
+abbrev begin : tie.After-place-of Inv-loop μ-loop → tie.Start Inv-loop μ-loop
+begin c = known c .before .before .before .before .before
+
+-- where it has its place, seen from where it can be matched
+abbrev place : tie.Else1 Inv-loop μ-loop → tie.After-place-of Inv-loop μ-loop
+place c = c .before .before
 
 -- where it was looked at, and where it can be matched, seen from the loop
 abbrev looked : tie.At-loop Inv-loop μ-loop → tie.After-look Inv-loop μ-loop
@@ -43,7 +44,7 @@ abbrev found : tie.At-loop Inv-loop μ-loop → tie.Else1 Inv-loop μ-loop
 found c = looked c .before
 
 -- where a turn has its span, seen from where that is tried
-abbrev turn : tie.After-struct-known5 Inv-loop μ-loop → tie.After-widen Inv-loop μ-loop
+abbrev turn : tie.After-struct-known4 Inv-loop μ-loop → tie.After-widen Inv-loop μ-loop
 turn c = c .before .before .before
 
 -- the layout is legal
@@ -51,108 +52,86 @@ bounds : (s : tie.Start Inv-loop μ-loop) → Bounds (s .args .l)
 bounds s = legal-bounds (s .args .l) (s .pre .0 .allowed)
 
 -- the modulus is small
-high : (s : tie.Start Inv-loop μ-loop) → s .args .l .l1 * s .args .l .nc ≤ 2040
+high : (s : tie.Start Inv-loop μ-loop) → s .args .l .l1 * s .args .l .nc ≤ longestLine
 high s = string-high (s .args .l) (s .pre .0 .allowed)
 
--- where the chunk stands
-stands-at : (c : tie.After-struct-known Inv-loop μ-loop) → let a = begin c .args in
-    Stands (a .l) (a .block) (a .j) (c .before .wide .result)
-stands-at c = stands (begin c .pre .0) (c .before .wide .result) (c .before .wide .ensures)
+-- the positions before the chunk are few
+before-low : (c : tie.Else1 Inv-loop μ-loop) → let o = place c in
+    known o .wide .result * begin o .args .l .nc ≤ longestLine
+before-low c =
+    let o = place c in
+    let a = begin o .args in
+    let p = begin o .pre .0 in
+    subst (λ (i : ℕ). i * a .l .nc ≤ longestLine) (sym (known o .wide .ensures))
+    (chunk-lies (a .l) (p .allowed) (a .block) (a .j) (p .inside) (p .column) .in-string)
 
 wide-requires : tie.Need-wide-requires Inv-loop μ-loop
 wide-requires c κs = search needs
 
-mul-from : tie.Need-mul-from Inv-loop μ-loop
-mul-from c = record { fits = omega (arith, stands-at c .low) }
-
-add-from : tie.Need-add-from Inv-loop μ-loop
-add-from c = record { fits = omega (arith, stands-at c .low) }
-
-mul-from-2 : tie.Need-mul-from-2 Inv-loop μ-loop
-mul-from-2 c = record { fits = omega (arith, stands-at c .in-row) }
-
-wide-requires-2 : tie.Need-wide-requires-2 Inv-loop μ-loop
-wide-requires-2 c κs = search needs
-
--- what the place of the chunk is read from is what is meant, and it is small
-from-is : (c : tie.After-wide2 Inv-loop μ-loop) → let a = begin (c .before) .args in
-    let from = (c .before .before .wide .result * a .l .l2 + a .j) * a .l .nc + c .wide2 .result in
-    (from ≡ startAt (a .l) (a .block) (a .j) (a .left)) × (from ≤ 2295)
-from-is c =
-    let k = stands-at (c .before) in
-    let left = c .wide2 .ensures in
-    (omega (arith, k .is), omega (arith, k .in-row, begin (c .before) .fits .left))
-
-add-from-2 : tie.Need-add-from-2 Inv-loop μ-loop
-add-from-2 c = record { fits = omega (arith, from-is c .1) }
-
 sub-place-of : tie.Need-sub-place-of Inv-loop μ-loop
-sub-place-of c = begin (c .before) .pre .1 .0
+sub-place-of c = c .before .before .before .before .before .pre .1 .0
 
 place-of-requires : tie.Need-place-of-requires Inv-loop μ-loop
 place-of-requires c κs =
-    let s = begin (c .before) in
-    (bounds s .nc-high, (s .pre .0 .short, omega (arith, from-is c .1)))
+    let p = c .before .before .before .before .before .pre .0 in
+    ((p .allowed, p .short), (p .inside, p .column))
 
 returns : tie.Need-returns Inv-loop μ-loop
 returns c v part r =
-    let p = c .before .before in
-    let ok = p .place-of .ensures .0 (rw (from-is (p .before) .0) (r .readable)) in
-    absurd (false≢true (sym (not-true _ (c .if1 .taken)) ∙ ok))
+    absurd (false≢true (sym (not-true _ (c .if1 .taken)) ∙ c .before .before .place-of .ensures .found (r .readable)))
 
 -- the place that was found: the chunk's bits start there, and those that it did not lose are there
-placed : (c : tie.Else1 Inv-loop μ-loop) → let p = c .before .before .place-of .result in
-    let a = begin (known c) .args in
-    (p .at ≡ startAt (a .l) (a .block) (a .j) (a .left) - a .end) × (p .at + (a .l .nc - 1) ≤ length (a .y .now))
+placed : (c : tie.Else1 Inv-loop μ-loop) → let o = place c in let a = begin o .args in
+    (o .place-of .result .at ≡ startAt (a .l) (a .block) (a .j) (a .left) - a .end)
+    × (o .place-of .result .at + (a .l .nc - 1) ≤ length (a .y .now))
 placed c =
-    let p = c .before .before in
-    let s = begin (known c) in
-    let e = p .place-of .ensures .1 (not-false _ (c .if1 .left)) in (
-      e .0 ∙ ap (λ (k : ℕ). k - s .args .end) (from-is (p .before) .0),
-      omega (arith, e .1, s .pre .1 .0, bounds s .nc-low),
-    )
+    let o = place c in
+    let s = begin o in
+    let e = o .place-of .ensures in
+    let ok : o .place-of .result .ok ≡ true = not-false _ (c .if1 .left) in
+    (e .at-just ok, omega (arith, e .within ok, e .lost-just ok, s .pre .1 .0, bounds s .nc-low))
 
 sub-look : tie.Need-sub-look Inv-loop μ-loop
-sub-look c = omega (arith, bounds (begin (known c)) .nc-low)
+sub-look c = omega (arith, bounds (begin (place c)) .nc-low)
 
 look-requires : tie.Need-look-requires Inv-loop μ-loop
 look-requires c κs =
-    let p = begin (known c) .pre .0 in
+    let p = begin (place c) .pre .0 in
     (p .bits, (p .short, (p .tables, placed c .1)))
 
 sub-more-ones : tie.Need-sub-more-ones Inv-loop μ-loop
-sub-more-ones c = omega (arith, bounds (begin (known (c .before))) .nc-low)
+sub-more-ones c = omega (arith, bounds (begin (place (c .before))) .nc-low)
 
 more-ones-requires : tie.Need-more-ones-requires Inv-loop μ-loop
 more-ones-requires c κs =
-    let p = begin (known (c .before)) .pre .0 in
+    let p = begin (place (c .before)) .pre .0 in
     (p .bits, (p .short, (p .tables, placed (c .before) .1)))
 
 -- the ones of a chunk that brings the column to its sum
-between : (c : tie.After-more-ones Inv-loop μ-loop) → let e = c .before .before in let a = begin (known e) .args in
+between : (c : tie.After-more-ones Inv-loop μ-loop) → let e = c .before .before in let a = begin (place e) .args in
     (v part : ℕ) → Repairs (a .l) (a .y .now) (a .block) (a .end) (a .j) (a .left) (a .sum) (a .set .now) v part
     → (c .before .look .result .ones + c .more-ones .result .first ≤ ones (digits (a .l .nc) v))
     × (ones (digits (a .l .nc) v) ≤ c .before .look .result .ones + c .more-ones .result .last)
 between c v part r =
     let e = c .before .before in
-    lost-between r (omega (arith, bounds (begin (known e)) .nc-low)) _ (placed e .0) (c .before .look .ensures)
+    lost-between r (omega (arith, bounds (begin (place e)) .nc-low)) _ (placed e .0) (c .before .look .ensures)
     (c .more-ones .ensures)
 
 loop-holds : tie.Need-loop-holds Inv-loop μ-loop
 loop-holds c v part r = between c v part r .0
 
 mul-widen : tie.Need-mul-widen Inv-loop μ-loop
-mul-widen c = record { fits = omega (arith, stands-at (known (found (c .before))) .in-string) }
+mul-widen c = record { fits = omega (arith, before-low (found (c .before))) }
 
 widen-requires : tie.Need-widen-requires Inv-loop μ-loop
 widen-requires c κs =
     let p = c .before in
-    let s = begin (known (found p)) in
+    let s = begin (place (found p)) in
     let i = looked p .look .ensures in
     let few = bounds s .nc-high in
     let keeps : s .args .l .nc - 1 ≤ 8 = omega arith in
     let low : looked p .look .result .total ≤ 64 = omega (arith, i .positions-small, mul-le-mul keeps keeps) in (
-      (few, stands-at (known (found p)) .in-string),
+      (few, before-low (found p)),
       (
         (
           omega (arith, i .count-small, bounds s .nc-low),
@@ -163,15 +142,15 @@ widen-requires c κs =
     )
 
 mul-makes-up : tie.Need-mul-makes-up Inv-loop μ-loop
-mul-makes-up c = record { fits = omega (arith, high (begin (known (found (c .before .before .before))))) }
+mul-makes-up c = record { fits = omega (arith, high (begin (place (found (c .before .before .before))))) }
 
 add-makes-up : tie.Need-add-makes-up Inv-loop μ-loop
-add-makes-up c = record { fits = omega (arith, high (begin (known (found (c .before .before .before))))) }
+add-makes-up c = record { fits = omega (arith, high (begin (place (found (c .before .before .before))))) }
 
 makes-up-requires : tie.Need-makes-up-requires Inv-loop μ-loop
 makes-up-requires c κs =
     let w = turn c in
-    let s = begin (known (found (w .before .before))) in
+    let s = begin (place (found (w .before .before))) in
     let p = s .pre .1 .1 in
     (p .0, (omega (arith, w .widen .ensures .high-small), p .1))
 
@@ -193,14 +172,14 @@ loop-again c v part r =
     let w = turn (m .before) in
     let p = w .before .before in
     let e = found p in
-    let s = begin (known e) in
+    let s = begin (place e) in
     let a = s .args in
     let d = digits (a .l .nc) v in
     let b = total (a .block * a .l .nc + 1) d in
     let just : ones d ≡ looked p .look .result .ones + p .loop .g → ⊥ =
     λ q.
     let i = brings-between r (omega (arith, bounds s .nc-low)) _ (placed e .0) (looked p .look .ensures)
-    (known e .before .wide .result) (p .loop .g) _ (w .widen .result) (known e .before .wide .ensures) refl refl q
+    (known (place e) .wide .result) (p .loop .g) _ (w .widen .result) (known (place e) .wide .ensures) refl refl q
     (w .widen .ensures) in
     false≢true (sym (c .if2 .left) ∙ m .makes-up .ensures part b (r .low) (r .among) (i .0) (i .1) (r .hits)) in
     omega (arith, p .loop .inv v part r, just)
@@ -217,11 +196,6 @@ repairs-spec =
     Inv-loop
     μ-loop
     wide-requires
-    mul-from
-    add-from
-    mul-from-2
-    wide-requires-2
-    add-from-2
     sub-place-of
     place-of-requires
     returns

@@ -3,7 +3,8 @@ use Prim.Native.Nat.{ℕ, _*_, _%_, _≤_}
 use mathlib.Core.Path.{ap}
 use native.Mathlib.Omega.{arith}
 use borrow.Author.Needs.{needs}
-use Rattle.column.proofs.Rows.{string-high}
+use Rattle.bits.specs.Bits.{longestLine}
+use Rattle.message.proofs.Legal.{string-high}
 use Rattle.whole.specs.Whole.{modulus}
 use Rattle.costs.proofs.residue.Statement.{statement}
 use Rattle.costs.proofs.residue.Tie as tie
@@ -12,7 +13,7 @@ use Rattle.costs.proofs.residue.Tie as tie
 abbrev start : tie.After-struct-known → tie.Start
 start c = c .before .before .before .before
 
-high : (c : tie.After-struct-known) → let l = start c .args .l in l .l1 * l .nc ≤ 2040
+high : (c : tie.After-struct-known) → let l = start c .args .l in l .l1 * l .nc ≤ longestLine
 high c = string-high (start c .args .l) (start c .pre .0 .allowed)
 
 mul-m : tie.Need-mul-m

@@ -7,6 +7,7 @@ use mathlib.Core.List.{List}
 use native.Mathlib.Omega.{arith}
 use borrow.Author.Needs.{needs}
 use lib.ListN.{length, getD}
+use Rattle.bits.specs.Bits.{mostInLine}
 use Rattle.message.proofs.Legal.{legal-bounds, sizes}
 use Rattle.far.specs.Far.{stepAt}
 use Rattle.far.proofs.Walks.{Stepping, stepping-first, stepping-next, stepping-last}
@@ -25,7 +26,7 @@ here-is : (c : tie.After-step-apart Inv-loop μ-loop) → let p = c .before .bef
     let s = p .before .before .before .before in
     let at = s .args .at + s .args .t * 13 + p .loop .w in
     (getD (p .loop .table) at 0 ≡ getD (s .args .table .now) at 0)
-    × ((getD (s .args .table .now) at 0 ≤ s .args .t) × (s .args .t < 255))
+    × ((getD (s .args .table .now) at 0 ≤ s .args .t) × (s .args .t < mostInLine))
 here-is c =
     let p = c .before .before .before in
     let s = p .before .before .before .before in

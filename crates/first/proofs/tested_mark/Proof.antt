@@ -5,9 +5,8 @@ use mathlib.Core.Bool.{false≢true}
 use native.Mathlib.Omega.{arith}
 use borrow.Author.Needs.{needs}
 use lib.ListN.{getD}
-use Rattle.message.proofs.Legal.{legal-bounds, sizes}
+use Rattle.message.proofs.Legal.{legal-bounds, sizes, string-high}
 use Rattle.states.specs.States.{each, firsts, entryAt, addedUp}
-use Rattle.column.proofs.Rows.{string-high}
 use Rattle.whole.specs.Whole.{modulus}
 use Rattle.states.proofs.Sums.{firsts-same}
 use Rattle.whole.proofs.Whole.{weightOf, weights-sum, kept-legible, kept-read}

@@ -9,9 +9,16 @@ use lib.ListN.{length, take, drop, length-drop}
 use lib.Seq.{length-take-le}
 use Rattle.bits.specs.Bits.{bytesFor}
 use Rattle.message.specs.Layout.{rowBits}
+use Rattle.consistent.specs.Query.{query}
+use Rattle.found.specs.Given.{consistentWith}
+use Rattle.found.specs.Sought.{Sought}
 use Rattle.floor.proofs.Floor.{none-known, last-known, last-room}
 use Rattle.floor.proofs.above.Statement.{statement}
 use Rattle.floor.proofs.above.Tie as tie
+
+-- the rows that are looked for
+abbrev sought : tie.Start → Sought
+sought s = let a = s .args in consistentWith (query (a .l) (a .numbers .now) (a .y .now))
 
 -- where the function starts, seen from where the first test does not hold
 abbrev entry : tie.Else1 → tie.Start
@@ -28,7 +35,7 @@ room : (c : tie.After-struct-known5) → let a = start c .args in
     (a .kept .count - 1) * bytesFor (rowBits (a .l)) + bytesFor (rowBits (a .l)) ≤ length (a .list .now)
 room c =
     let s = start c in
-    last-room (s .args .l) (s .args .list .now) (s .args .kept .count) (s .args .kept .more) (s .pre .1 .0) (some c)
+    last-room (sought s) (s .args .list .now) (s .args .kept) (s .pre .1 .0) (some c)
 
 -- the part that is lent is one row wide
 width : (at w : ℕ) → at + w - at ≡ w
@@ -42,7 +49,7 @@ returns-2 c =
     let m = c .before .before in
     let a = entry m .args in
     λ e x sent own light.
-    none-known (a .l) (a .list .now) (a .kept .count) (a .kept .more) (c .if2 .taken) (not-false _ (m .if1 .left)) x
+    none-known (sought (entry m)) (a .list .now) (a .kept) (c .if2 .taken) (not-false _ (m .if1 .left)) x
 
 mul-w : tie.Need-mul-w
 mul-w c = search needs
@@ -91,7 +98,7 @@ returns-3 c =
     let w : ℕ = bytesFor (rowBits (a .l)) in
     let more = not-false _ (k .before .before .before .before .before .if1 .left) in
     λ e x sent own light.
-    last-known (a .l) (a .list .now) (a .kept .count) (a .kept .more) (s .pre .1 .0) (some k) more x (sent .0)
+    last-known (sought s) (a .list .now) (a .kept) (s .pre .1 .0) (some k) more x (sent .0)
     (rw (width ((a .kept .count - 1) * w) w) at (c .after-row .ensures e x (sent .0) own light))
 
 pub above-spec : {M : Type 1} → statement M

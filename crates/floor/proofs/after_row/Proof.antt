@@ -10,7 +10,7 @@ use native.Mathlib.Nat.{zero-mul}
 use native.Mathlib.Omega.{arith}
 use borrow.Author.Tests.{eqb-true}
 use lib.ListN.{length, take}
-use Rattle.bits.specs.Bits.{unpack}
+use Rattle.bits.specs.Bits.{mostInLine, unpack}
 use Rattle.rows.specs.Order.{Row}
 use Rattle.message.specs.Layout.{rowBits, blockBits}
 use Rattle.message.proofs.Legal.{legal-bounds, sizes}
@@ -36,7 +36,7 @@ abbrev start : tie.At-loop Inv-loop μ-loop → tie.Start Inv-loop μ-loop
 start t = t .before .before .before .before .before
 
 -- there are as many counts as blocks
-few : (s : tie.Start Inv-loop μ-loop) → s .args .i ≤ 255
+few : (s : tie.Start Inv-loop μ-loop) → s .args .i ≤ mostInLine
 few s = omega (arith, sizes (s .args .l) (legal-bounds (s .args .l) (s .pre .0)) .l1-high, s .pre .1 .1 .1 .0)
 
 many : (s : tie.Start Inv-loop μ-loop) → s .args .i ≤ length (s .args .counts .now)
@@ -65,7 +65,8 @@ compare-block-requires c κs =
     (s .pre .0, (s .pre .1 .0, (omega (arith, s .pre .1 .1 .1 .0), (s .pre .1 .1 .0 .0, s .pre .1 .1 .1 .1))))
 
 -- what the comparison of block b says of a row under the counts
-compared : (c : tie.After-compare-block Inv-loop μ-loop) → let t = c .before .before .before .before in let a = start t .args in
+compared : (c : tie.After-compare-block Inv-loop μ-loop)
+    → let t = c .before .before .before .before in let a = start t .args in
     (x : List ℕ) → Row (rowBits (a .l)) x → OwnCounts (a .l) (a .y .now) (a .counts .now) (a .i) x
     → LightInHand (a .l) (a .counts .now) (a .i) (a .row .now) x
     → BlockCompared (a .l) (t .loop .b) (unpack (a .last .now)) x (c .compare-block .result)

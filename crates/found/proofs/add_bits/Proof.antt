@@ -3,7 +3,7 @@
 use borrow.Author.Needs.{needs}
 use borrow.Author.Tests.{not-true, not-false}
 use mathlib.Core.Path.{sym, _∙_}
-use Rattle.found.proofs.Row.{grown-refused}
+use Rattle.found.proofs.Steps.{grown-refused}
 use Rattle.found.proofs.add_bits.Statement.{statement}
 use Rattle.found.proofs.add_bits.Tie as tie
 

@@ -10,7 +10,7 @@ use Rattle.rows.specs.Order.{Row}
 use Rattle.message.specs.Layout.{rowBits}
 use Rattle.message.proofs.Legal.{Bounds, Sizes, legal-bounds, sizes}
 use Rattle.lines.specs.Lines.{line, Inside}
-use Rattle.found.proofs.Found.{grown-weaken}
+use Rattle.found.proofs.Steps.{grown-weaken}
 use Rattle.found.proofs.Row.{front-part, handBits, hand-row, hand-only}
 use Rattle.found.proofs.add_row.Statement.{statement}
 use Rattle.found.proofs.add_row.Tie as tie

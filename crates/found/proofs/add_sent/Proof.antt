@@ -7,7 +7,8 @@ use native.Mathlib.Omega.{arith}
 use lib.ListN.{length, take, drop}
 use Rattle.bits.specs.Bits.{longest, bytesFor, pack}
 use Rattle.bits.proofs.Packing.{length-pack}
-use Rattle.found.proofs.Row.{front-part, row-short, insert-asks, grown-packed}
+use Rattle.found.proofs.Row.{front-part, row-some, row-short}
+use Rattle.found.proofs.Steps.{insert-asks, grown-packed}
 use Rattle.found.proofs.add_sent.Statement.{statement}
 use Rattle.found.proofs.add_sent.Tie as tie
 
@@ -55,7 +56,7 @@ bytes-are c =
 insert-requires : tie.Need-insert-requires
 insert-requires c κs =
     let s = start c in
-    insert-asks (s .pre .0) (s .args .x .now) (s .pre .1 .0 .0) (bytes c) (bytes-are c) (s .pre .1 .1)
+    insert-asks (s .pre .1 .1) (row-some (s .pre .0)) (s .args .x .now) (s .pre .1 .0 .0) (bytes c) (bytes-are c)
 
 same-length : tie.Need-same-length
 same-length c = search needs
@@ -65,8 +66,8 @@ returns c =
     let k = c .before .before in
     let i = k .before in
     let s = start i in
-    grown-packed (s .pre .0) (s .args .x .now) (s .pre .1 .0 .0) (bytes i) (bytes-are i) (s .pre .1 .1) (s .pre .1 .0)
-    (k .insert .ensures)
+    grown-packed (s .pre .1 .1) (row-some (s .pre .0)) (s .args .x .now) (s .pre .1 .0 .0) (bytes i) (bytes-are i)
+    (s .pre .1 .0) (k .insert .ensures)
 
 pub add-sent-spec : {M : Type 1} → statement M
 add-sent-spec =

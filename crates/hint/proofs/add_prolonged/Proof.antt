@@ -2,7 +2,7 @@
 -- Assumes nothing.
 use borrow.Author.Needs.{needs}
 use native.Mathlib.Omega.{arith}
-use Rattle.found.proofs.Found.{grown-nothing, grown-weaken}
+use Rattle.found.proofs.Steps.{grown-nothing, grown-weaken}
 use Rattle.hint.proofs.Places.{stands-start}
 use Rattle.hint.proofs.add_prolonged.Statement.{statement}
 use Rattle.hint.proofs.add_prolonged.Tie as tie

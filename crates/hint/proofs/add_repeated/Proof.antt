@@ -3,7 +3,7 @@
 use borrow.Author.Needs.{needs}
 use mathlib.Core.Path.{_∙_}
 use native.Mathlib.Omega.{arith}
-use Rattle.found.proofs.Found.{grown-weaken}
+use Rattle.found.proofs.Steps.{grown-weaken}
 use Rattle.hint.specs.Tries.{Hand}
 use Rattle.hint.proofs.Places.{stands-start}
 use Rattle.hint.proofs.add_repeated.Statement.{statement}

@@ -3,8 +3,9 @@ use borrow.Author.Needs.{needs}
 use Prim.Native.Nat.{_-_}
 use native.Mathlib.Omega.{arith}
 use lib.ListN.{take, replicate}
+use Rattle.bits.specs.Bits.{longest}
 use Rattle.message.specs.Layout.{rowBits}
-use Rattle.found.proofs.Found.{grown-nothing}
+use Rattle.found.proofs.Steps.{grown-nothing}
 use Rattle.hint.specs.Tries.{Hand}
 use Rattle.hint.proofs.Strings.{hand-zeros}
 use Rattle.hint.proofs.Places.{high, received-short}
@@ -43,8 +44,8 @@ part-x-end : tie.Need-part-x-end
 part-x-end c = omega (arith, high (looked (c .before) .pre .0) .row)
 
 -- the zeros that a guess is made in
-zeros : (s : tie.Start) → Hand (s .args .l) (take (rowBits (s .args .l) - 0) (replicate 2040 0))
-zeros s = hand-zeros (s .args .l) 2040 (high (s .pre .0) .row) (rowBits (s .args .l) - 0) (omega arith)
+zeros : (s : tie.Start) → Hand (s .args .l) (take (rowBits (s .args .l) - 0) (replicate longest 0))
+zeros s = hand-zeros (s .args .l) longest (high (s .pre .0) .row) (rowBits (s .args .l) - 0) (omega arith)
 
 add-prolonged-requires : tie.Need-add-prolonged-requires
 add-prolonged-requires c κs =

@@ -6,7 +6,7 @@ use mathlib.Core.Path.{_≡_, _∙_}
 use native.Mathlib.Nat.{mul-le-mul-left}
 use native.Mathlib.Omega.{arith}
 use lib.ListN.{length, length-set}
-use Rattle.bits.specs.Bits.{AllBits}
+use Rattle.bits.specs.Bits.{longest, AllBits}
 use Rattle.hint.proofs.Strings.{bits-set}
 use Rattle.hint.proofs.try_block.Statement.{statement}
 use Rattle.hint.proofs.try_block.Tie as tie
@@ -56,7 +56,7 @@ abbrev place : tie.After-wide Inv-loop μ-loop → ℕ
 place c = let a = turn c .before .before .before .args in a .i * a .nb + turn c .loop .u
 
 small : (c : tie.After-wide Inv-loop μ-loop)
-    → let u = turn c .loop .u in ((u + 1) * c .wide .result ≤ u + 1) × (u < 2040)
+    → let u = turn c .loop .u in ((u + 1) * c .wide .result ≤ u + 1) × (u < longest)
 small c =
     let u = turn c .loop .u in
     let s = turn c .before .before .before in

@@ -6,7 +6,7 @@ use mathlib.Core.Path.{_∙_}
 use native.Mathlib.Nat.{mul-le-mul}
 use native.Mathlib.Omega.{arith}
 use lib.ListN.{length, getD}
-use Rattle.bits.specs.Bits.{longest, digits}
+use Rattle.bits.specs.Bits.{longestLine, digits}
 use Rattle.bits.proofs.Laws.{bits-digits}
 use Rattle.vt.specs.Ones.{ones}
 use Rattle.vt.specs.Sum.{total}
@@ -25,13 +25,13 @@ stands s =
 
 -- what the bits at hand weigh is little, also behind the chunks before them
 small : (s : tie.Start) → let a = s .args in
-    ((total 1 (a .bits .now) ≤ 7 * 8) × (ones (a .bits .now) ≤ 7)) × (a .hole * a .nc * ones (a .bits .now) ≤ longest * 7)
+    ((total 1 (a .bits .now) ≤ 7 * 8) × (ones (a .bits .now) ≤ 7)) × (a .hole * a .nc * ones (a .bits .now) ≤ longestLine * 7)
 small s =
     let a = s .args in
     let i = s .pre .0 .0 in
     let few = few-bits (a .bits .now) (s .pre .1 .1 .0 .1) (omega (arith, s .pre .1 .1 .0 .0, i .nc-high)) in
-    let before : a .hole * a .nc ≤ longest = omega (arith, stands s .room, i .short) in
-    (few, mul-le-mul {n₂ = longest} {m₂ = 7} before (few .1))
+    let before : a .hole * a .nc ≤ longestLine = omega (arith, stands s .room, i .short) in
+    (few, mul-le-mul {n₂ = longestLine} {m₂ = 7} before (few .1))
 
 mul-at : tie.Need-mul-at
 mul-at c = let s = c .before .before in omega (arith, stands s .stands, s .pre .0 .1)
@@ -76,7 +76,7 @@ start c = entry (c .before .before .before .before)
 -- what the chunk brings is part of the line's total, which is not large
 parts : (c : tie.After-weigh) → let a = start c .args in
     (c .before .chunk-total .result ≤ c .before .before .before .before .line-total .result)
-    × (c .before .before .before .before .line-total .result ≤ longest * (1 + longest))
+    × (c .before .before .before .before .line-total .result ≤ longestLine * (1 + longestLine))
 parts c =
     let s = start c in
     let a = s .args in

@@ -5,6 +5,7 @@ use mathlib.Core.Bool.{false≢true}
 use native.Mathlib.Nat.{mul-le-mul}
 use native.Mathlib.Omega.{arith}
 use borrow.Author.Needs.{needs}
+use Rattle.bits.specs.Bits.{mostInLine}
 use Rattle.message.proofs.Legal.{legal-bounds, sizes}
 use Rattle.states.specs.declared.Shape.{Shape}
 use Rattle.live.proofs.prepare.Statement.{statement}
@@ -44,7 +45,7 @@ mul-if3 c =
     record {
       fits = omega (
         arith,
-        mul-le-mul {n₁ = s .args .l .l2 + 1} {m₁ = h .shape-of .result .states} {n₂ = 256} {m₂ = 729}
+        mul-le-mul {n₁ = s .args .l .l2 + 1} {m₁ = h .shape-of .result .states} {n₂ = mostInLine + 1} {m₂ = 729}
             (omega (arith, sizes (s .args .l) (legal-bounds (s .args .l) (s .pre .0 .allowed)) .l2-high))
             (c .before .before .if2 .left),
       );

@@ -4,6 +4,7 @@ use mathlib.Core.Logic.{inl, inr}
 use native.Mathlib.Nat.{mul-le-mul}
 use native.Mathlib.Omega.{arith}
 use borrow.Author.Needs.{needs}
+use Rattle.bits.specs.Bits.{mostInLine}
 use Rattle.marks.proofs.mark_at.Statement.{statement}
 use Rattle.marks.proofs.mark_at.Tie as tie
 
@@ -19,7 +20,7 @@ mul-at c =
     record {
       fits = omega (
         arith,
-        mul-le-mul {n₁ = s .args .j} {m₁ = s .args .shape .states} {n₂ = 255} {m₂ = 4294967295}
+        mul-le-mul {n₁ = s .args .j} {m₁ = s .args .shape .states} {n₂ = mostInLine} {m₂ = 4294967295}
             (s .pre) (c .before .before .if1 .left),
       );
     }

@@ -12,6 +12,7 @@ use borrow.Fn.Kinds.{In}
 use borrow.Fn.PlainCycle.{Measures, is, falls, and}
 use borrow.Rule.Slice.PartAt.{part-to-end}
 use lib.ListN.{length}
+use Rattle.bits.specs.Bits.{mostInLine}
 use Rattle.bits.proofs.Laws.{bits-drop}
 use Rattle.rows.specs.Slice.{rowsIn}
 use Rattle.message.specs.Layout.{rowBits, blockBits}
@@ -183,7 +184,7 @@ count t c = counting t c .count-at .result
 high : (t : ℕ) (s : Start t) → Sizes (s .args .l)
 high t s = sizes (s .args .l) (legal-bounds (s .args .l) (s .pre .1 .0 .0 .is-legal))
 
-length-counts : (t : ℕ) (s : Start t) → length (s .args .pattern .counts) ≡ 255
+length-counts : (t : ℕ) (s : Start t) → length (s .args .pattern .counts) ≡ mostInLine
 length-counts t s = search needs
 
 counts-fit : (t : ℕ) (s : Start t) → s .args .l .l1 ≤ length (s .args .pattern .counts)

@@ -8,6 +8,7 @@ use mathlib.Core.List.{List}
 use native.Mathlib.Omega.{arith}
 use lib.ListN.{length, getD, take, drop, length-drop}
 use lib.Seq.{length-take-le, getD-take, getD-drop}
+use Rattle.bits.specs.Bits.{mostChunks, mostInLine}
 use Rattle.bits.proofs.Laws.{zeros-at}
 use Rattle.rows.specs.Held.{Held}
 use Rattle.message.specs.declared.Layout.{Layout}
@@ -22,19 +23,15 @@ use Rattle.search.proofs.finish.Statement.{statement}
 use Rattle.search.proofs.finish.Tie as tie
 
 -- there is a count for each block
-few : (s : tie.Start) → s .args .l .l1 ≤ 255
+few : (s : tie.Start) → s .args .l .l1 ≤ mostInLine
 few s = sizes (s .args .l) (legal-bounds (s .args .l) (s .pre .0 .is-legal)) .l1-high
 
 -- a place for each chunk
-chunks : (s : tie.Start) → s .args .l .l1 * s .args .l .l2 ≤ 255
+chunks : (s : tie.Start) → s .args .l .l1 * s .args .l .l2 ≤ mostChunks
 chunks s = sizes (s .args .l) (legal-bounds (s .args .l) (s .pre .0 .is-legal)) .chunks
 
 counted : (s : tie.Start) → s .args .l .l1 ≤ length (s .args .pattern .counts)
-counted s = let n : length (s .args .pattern .counts) ≡ 255 = search needs in omega (arith, few s)
-
--- the row in hand has 255 places
-long : (s : tie.Start) → length (s .args .t7) ≡ 255
-long s = search (needs, s .good .1 .1 .1 .1 .1 .1 .0)
+counted s = let n : length (s .args .pattern .counts) ≡ mostInLine = search needs in omega (arith, few s)
 
 -- where the function starts, seen from the call of `heavy_of`
 abbrev entry : tie.After-slice-known → tie.Start
@@ -45,25 +42,22 @@ abbrev start : tie.After-heavy-of → tie.Start
 start h = entry (h .before)
 
 -- the anchor's chunks on the desk, and that rows near them are known
-anchor-part : (desk : List ℕ) → isSet desk ≡ true → length (take 255 (drop 1 desk)) ≡ 255
-anchor-part desk e = length-take-le 255 (drop 1 desk) (omega (arith, length-drop 1 desk, set-long desk e))
+anchor-part : (desk : List ℕ) → isSet desk ≡ true → length (take mostChunks (drop 1 desk)) ≡ mostChunks
+anchor-part desk e = length-take-le mostChunks (drop 1 desk) (omega (arith, length-drop 1 desk, set-long desk e))
 
-anchor-near : (l : Layout) (numbers y : List ℕ) (held : Held) (desk : List ℕ) → Given l numbers y → l .l1 * l .l2 ≤ 255
-    → Anchored l numbers y held desk → isSet desk ≡ true → NearKnown l numbers y held (take 255 (drop 1 desk)) (l .r + 1)
+anchor-near : (l : Layout) (numbers y : List ℕ) (held : Held) (desk : List ℕ) → Given l numbers y → l .l1 * l .l2 ≤ mostChunks
+    → Anchored l numbers y held desk → isSet desk ≡ true → NearKnown l numbers y held (take mostChunks (drop 1 desk)) (l .r + 1)
 anchor-near l numbers y held desk given small a e x sent near =
-    near-known given (a e) (take 255 (drop 1 desk))
-    (λ c h. getD-take 255 (drop 1 desk) c 0 (omega arith) ∙ getD-drop 1 desk c 0) x sent (omega (arith, near))
+    near-known given (a e) (take mostChunks (drop 1 desk))
+    (λ c h. getD-take mostChunks (drop 1 desk) c 0 (omega arith) ∙ getD-drop 1 desk c 0) x sent (omega (arith, near))
 
 heavy-of-requires : tie.Need-heavy-of-requires
-heavy-of-requires c κs = let s = entry c in (few s, s .pre .1 .1 .0)
-
-slice-aggregate-add-row : tie.Need-slice-aggregate-add-row
-slice-aggregate-add-row c = let hand = long (start (c .before .before .before .before)) in search (needs, hand)
+heavy-of-requires c κs = let s = entry c in (few s, s .pre .1 .1 .0 .0)
 
 add-row-requires : tie.Need-add-row-requires
 add-row-requires c κs =
     let s = start (c .before .before .before .before .before) in
-    (s .pre .0, (omega (arith, long s, chunks s), s .pre .1 .0))
+    (s .pre .0, (s .pre .1 .1 .0 .1, s .pre .1 .0))
 
 same-length : tie.Need-same-length
 same-length c = search needs
@@ -116,7 +110,7 @@ tables-requires c κs =
     let f = h .heavy-of in
     let sound =
     starts-sound (a .l) (a .pattern .counts) (f .result .heavy) _ (f .ensures) refl (zeros-at 12) (length (a .y .now))
-    (s .pre .1 .1 .0) in
+    (s .pre .1 .1 .0 .0) in
     let set = is-anchored (c .before .before .before) in
     let part = anchor-part (a .desk .now) set in (
       (s .pre .0, s .pre .1 .0),
@@ -125,7 +119,7 @@ tables-requires c κs =
         (
           s .pre .1 .1 .1 .0,
           (
-            omega (arith, part, chunks s),
+            (s .pre .1 .1 .0 .1, omega (arith, part, chunks s)),
             anchor-near (a .l) (a .numbers .now) (a .y .now) _ (a .desk .now) (s .pre .0) (chunks s)
                 (s .pre .1 .1 .1 .1) set,
           ),
@@ -145,11 +139,11 @@ returns-2 c =
     let f = h .heavy-of in
     grown-weaken
     (λ x k u. starts-under (a .l) (a .pattern .counts) (f .result .heavy) _ (f .ensures) refl (zeros-at 12) (a .y .now)
-    (counted s) x u)
-    (q .tables .ensures)
+    (counted s) (a .row .now) x u)
+    (q .tables .ensures .0)
 
 slice-aggregate-tables : tie.Need-slice-aggregate-tables
-slice-aggregate-tables c = let hand = long (start (at-heavy (c .before .before))) in search (needs, hand)
+slice-aggregate-tables c = search needs
 
 tables-requires-2 : tie.Need-tables-requires-2
 tables-requires-2 c κs =
@@ -159,11 +153,11 @@ tables-requires-2 c κs =
     let f = h .heavy-of in
     let sound =
     starts-sound (a .l) (a .pattern .counts) (f .result .heavy) _ (f .ensures) refl (zeros-at 12) (length (a .y .now))
-    (s .pre .1 .1 .0) in (
+    (s .pre .1 .1 .0 .0) in (
       (s .pre .0, s .pre .1 .0),
       (
         (sound, refl),
-        (s .pre .1 .1 .1 .0, (omega (arith, long s, chunks s), λ x sent near. absurd (omega (arith, near)))),
+        (s .pre .1 .1 .1 .0, ((s .pre .1 .1 .0 .1, omega (arith, chunks s)), λ x sent near. absurd (omega (arith, near)))),
       ),
     )
 
@@ -179,15 +173,14 @@ returns-3 c =
     let f = h .heavy-of in
     grown-weaken
     (λ x k u. starts-under (a .l) (a .pattern .counts) (f .result .heavy) _ (f .ensures) refl (zeros-at 12) (a .y .now)
-    (counted s) x u)
-    (q .tables2 .ensures)
+    (counted s) (a .row .now) x u)
+    (q .tables2 .ensures .0)
 
 pub finish-spec : {M : Type 1} → statement M
 finish-spec =
     tie.close
     (tie.spec
     heavy-of-requires
-    slice-aggregate-add-row
     add-row-requires
     same-length
     returns

@@ -6,6 +6,7 @@ use mathlib.Core.Path.{_≡_, refl}
 use mathlib.Core.Logic.{⊎-elim}
 use native.Mathlib.Omega.{arith}
 use lib.ListN.{length, take}
+use Rattle.bits.specs.Bits.{mostInLine}
 use Rattle.bits.proofs.Laws.{zeros-at}
 use Rattle.consistent.specs.Greedy.{inAll}
 use Rattle.search.specs.Patterns.{HeavyIn}
@@ -37,7 +38,7 @@ total : (c : tie.After-wide Inv-loop μ-loop) → let p = c .before .before .bef
 total c =
     let p = c .before .before .before in
     let a = p .before .args in
-    let n : length (a .t2 .counts) ≡ 255 = search needs in
+    let n : length (a .t2 .counts) ≡ mostInLine = search needs in
     let e = total-next (a .t2 .counts) (p .loop .i) (omega arith) in
     let g = total-grows (a .t2 .counts) (p .loop .i + 1) (a .l1) (omega arith) in
     (omega (arith, c .wide .ensures, p .loop .inv .1 .0), omega arith)
@@ -49,7 +50,7 @@ with-block-requires : tie.Need-with-block-requires Inv-loop μ-loop
 with-block-requires c κs =
     let p = c .before .before .before .before in
     let a = p .before .args in
-    let n : length (a .t2 .counts) ≡ 255 = search needs in
+    let n : length (a .t2 .counts) ≡ mostInLine = search needs in
     let e = total-next (a .t2 .counts) (p .loop .i) (omega arith) in
     let z = total (c .before) in
     (omega (arith, p .loop .inv .1 .1 .few), (omega arith, omega arith))
@@ -67,7 +68,7 @@ gathered c =
     let p = c .before .before .before .before in
     let hs = p .loop .hs in
     let k = p .before .args .t2 .counts in
-    let n : length k ≡ 255 = search needs in
+    let n : length k ≡ mostInLine = search needs in
     let h : p .loop .i < length k = omega arith in
     let q = p .loop .inv .1 .1 in
     let e = total-next k (p .loop .i) h in

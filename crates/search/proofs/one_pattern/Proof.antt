@@ -4,6 +4,7 @@ use borrow.Author.Needs.{needs}
 use mathlib.Core.Path.{_∙_}
 use native.Mathlib.Omega.{arith}
 use lib.ListN.{replicate}
+use Rattle.bits.specs.Bits.{mostChunks}
 use Rattle.message.proofs.Legal.{Sizes, legal-bounds, sizes}
 use Rattle.found.proofs.Found.{grown-nothing}
 use Rattle.search.proofs.Leaves.{all-counts, copied}
@@ -59,7 +60,7 @@ returns-2 c =
     let s = start (k .before .before .before) in
     let a = s .args in
     let n = s .pre .1 .1 .0 .0 in
-    let hand = copied (a .row .now) (replicate 255 0) (k .copy-to .last .1 .0) (omega arith) (k .copy-to .ensures) in
+    let hand = copied (a .row .now) (replicate mostChunks 0) (k .copy-to .last .1 .0) (omega arith) (k .copy-to .ensures) in
     rw hand at (c .before .before .finish .ensures)
 
 pub one-pattern-spec : {M : Type 1} → statement M

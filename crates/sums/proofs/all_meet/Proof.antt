@@ -7,6 +7,7 @@ use mir.Val.{Fits}
 use mir.Syntax.{w8}
 use borrow.Author.Tests.{not-true, not-false}
 use lib.ListN.{getD}
+use Rattle.bits.specs.Bits.{mostInLine}
 use Rattle.message.proofs.Legal.{legal-bounds, sizes}
 use Rattle.residues.specs.Residues.{Has}
 use Rattle.sums.specs.Sums.{blockModulus, rest, restAt}
@@ -34,7 +35,7 @@ abbrev start : tie.At-loop Inv-loop μ-loop → tie.Start Inv-loop μ-loop
 start c = c .before .before .before .before
 
 -- the column and the number of blocks are small
-low : (c : tie.At-loop Inv-loop μ-loop) → start c .args .c ≤ 255
+low : (c : tie.At-loop Inv-loop μ-loop) → start c .args .c ≤ mostInLine
 low c =
     let s = start c in
     omega (arith, s .pre .1 .1, sizes (s .args .l) (legal-bounds (s .args .l) (s .pre .0)) .l2-high)

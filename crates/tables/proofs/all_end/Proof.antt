@@ -7,10 +7,10 @@ use Rattle.tables.proofs.all_end.Statement.{statement}
 use Rattle.tables.proofs.all_end.Tie as tie
 
 abbrev Inv-loop : tie.InvT-loop
-Inv-loop l y totals counts numbers heavy j t before n h₀ h = h ≤ n
+Inv-loop l y totals counts numbers heavy j t row before n h₀ h = h ≤ n
 
 abbrev μ-loop : tie.MeasureT-loop
-μ-loop l y totals counts numbers heavy j t before n h₀ h = n - h
+μ-loop l y totals counts numbers heavy j t row before n h₀ h = n - h
 
 loop-holds : tie.Need-loop-holds Inv-loop μ-loop
 loop-holds c = search needs
@@ -19,7 +19,9 @@ array-read-ends : tie.Need-array-read-ends Inv-loop μ-loop
 array-read-ends c = search needs
 
 ends-requires : tie.Need-ends-requires Inv-loop μ-loop
-ends-requires c κs = search needs
+ends-requires c κs =
+    let p = c .before .before .before .before .before .before .before .pre in
+    (p .0, (p .1 .0, (p .1 .1 .0, (p .1 .1 .1 .0, (c .loop-test .taken, p .1 .1 .1 .1)))))
 
 returns : tie.Need-returns Inv-loop μ-loop
 returns c = λ x sent u. sym (not-true (c .before .ends .result) (c .if1 .taken)) ∙ c .before .ends .ensures x sent u

@@ -16,10 +16,10 @@ use Rattle.tables.proofs.ends.Tie as tie
 
 -- where the block has lost something before, and where the function starts, seen from where the width is known
 abbrev losing : tie.After-wide → tie.Else1
-losing c = c .before .before .before .before .before .before
+losing c = c .before .before .before .before .before
 
 abbrev begin : tie.After-wide → tie.Start
-begin c = losing c .before .before .before .before .before
+begin c = losing c .before .before .before .before .before .before
 
 returns : tie.Need-returns
 returns c = λ x sent u. refl
@@ -57,7 +57,7 @@ can-end-requires c κs =
     let p = s .pre in
     let z = sizes (s .args .l) (legal-bounds (s .args .l) (p .0 .is-legal)) in
     let f = fits (p .0) (p .1 .1 .0) in
-    let inside = p .1 .1 .0 .inside (s .args .h) (p .1 .1 .1 .1) in
+    let inside = p .1 .1 .0 .inside (s .args .h) (p .1 .1 .1 .1 .0) in
     let i = w .wide .ensures in (
       (p .0 .is-legal, (p .0 .bits, f .short)),
       (
@@ -65,7 +65,7 @@ can-end-requires c κs =
         (
           p .1 .1 .0 .placed,
           (
-            omega (arith, i, inside),
+            (omega (arith, i, inside), p .1 .1 .1 .1 .1),
             (
               omega (arith, i, inside, p .0 .count),
               subst (λ (k : ℕ). getD (s .args .numbers .now) k 0 ≤ s .args .l .l2 * s .args .l .nc) (sym i)
@@ -81,15 +81,15 @@ returns-3 c =
     let w = c .before .before in
     let s = begin w in
     let a = s .args in
-    let none : getD (a .t10 .left) (a .h) 0 ≡ 0 = omega (arith, w .before .before .before .before .if2 .left) in
+    let none : getD (a .t10 .left) (a .h) 0 ≡ 0 = omega (arith, w .before .before .before .if2 .left) in
     λ x sent u.
     c .can-end .ensures (values (a .l) x)
     (subst
-    (λ (k : ℕ). Ended (a .l) (a .y .now) (a .numbers .now) (a .t10 .cells) (a .t10 .row) k (getD (a .t6 .end) (a .h) 0)
+    (λ (k : ℕ). Ended (a .l) (a .y .now) (a .numbers .now) (a .t10 .cells) (a .row .now) k (getD (a .t6 .end) (a .h) 0)
     (a .j + 1)
     (values (a .l) x))
     (sym (w .wide .ensures))
-    (ended (s .pre .0) sent (s .pre .1 .1 .0) u (a .h) (s .pre .1 .1 .1 .1) none))
+    (ended (s .pre .0) sent (s .pre .1 .1 .0) u (a .h) (s .pre .1 .1 .1 .1 .0) none))
 
 pub ends-spec : {M : Type 1} → statement M
 ends-spec =

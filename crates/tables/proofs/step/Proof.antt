@@ -1,7 +1,7 @@
 -- `tables::step` meets its contract. The loop's invariant: the first h heavy blocks have their share, and every row
 -- under the table that has just so much left after the column is under the one in hand. Where a chunk is read is said by
 -- `place_of`; what becomes of it are laws of Sharing.antt. Assumes nothing.
-use Prim.Native.Nat.{ℕ, _+_, _-_, _<_, _≤_}
+use Prim.Native.Nat.{ℕ, _+_, _-_, _*_, _<_, _≤_}
 use mathlib.Core.Path.{_≡_, refl, sym, ap, subst, _∙_}
 use mathlib.Core.Bool.{true, false}
 use mathlib.Core.List.{List}
@@ -14,10 +14,10 @@ use mir.Val.{Fits}
 use Rattle.states.specs.States.{each}
 use Rattle.column.specs.Column.{chunkAt}
 use Rattle.cells.specs.declared.Cells.{Cells}
-use Rattle.tables.specs.Tables.{Sharable, Shared, withChunk, withCell}
+use Rattle.tables.specs.Tables.{Sharable, Shared, withCell}
 use Rattle.tables.specs.declared.Table.{Table}
 use Rattle.tables.proofs.Making.{Twelve}
-use Rattle.tables.proofs.Sharing.{chunk-low, start-low, received-low, column-low, chunk-bits}
+use Rattle.tables.proofs.Sharing.{inside, chunk-low, start-low, received-low, column-low, chunk-bits}
 use Rattle.tables.proofs.Sharing.{shared-short, shared-read, shared-beyond, cell-room, shared-cell}
 use Rattle.tables.proofs.Stepping.{Halfway, halfway-start, halfway-next, halfway-end}
 use Rattle.tables.proofs.Stepping.{stepped-none, too-few, share-failed}
@@ -27,18 +27,13 @@ use Rattle.tables.proofs.step.Tie as tie
 -- a table whose lists have their lengths
 record Full (t : Table) : Type 0 where
   left : length (t .left) ≡ 6
-  row : length (t .row) ≡ 255
   cells : Twelve (t .cells)
-
-full-read : {t : Table} → Full t → (c v : ℕ) → Full (withChunk t c v)
-full-read {t} f c v = record { left = f .left; row = length-set (t .row) c v ∙ f .row; cells = f .cells }
 
 full-cell : {t : Table} → Full t → (h i j a place : ℕ) → Full (withCell t h i j a place)
 full-cell {t} f h i j a place =
     let k = t .cells in
     record {
       left = length-set (t .left) h (getD (t .left) h 0 - a) ∙ f .left;
-      row = f .row;
       cells = record {
         blocks = length-set (k .block) (k .n) i ∙ f .cells .blocks;
         columns = length-set (k .column) (k .n) j ∙ f .cells .columns;
@@ -48,14 +43,15 @@ full-cell {t} f h i j a place =
     }
 
 abbrev Inv-loop : tie.InvT-loop
-Inv-loop l y j t heavy next n nc table₀ h₀ table h = Full table × Halfway l y heavy j h (each next) t table
+Inv-loop l y j t row₀ heavy next n nc table₀ h₀ row table h =
+    (Full table × (length row ≡ length row₀)) × Halfway l y heavy j h (each next) t row₀ table row
 
 abbrev μ-loop : tie.MeasureT-loop
-μ-loop l y j t heavy next n nc table₀ h₀ table h = n - h
+μ-loop l y j t row₀ heavy next n nc table₀ h₀ row table h = n - h
 
 -- where the function starts, seen from a turn of the loop
 abbrev begin : tie.In-loop Inv-loop μ-loop → tie.Start Inv-loop μ-loop
-begin c = c .before .before .before
+begin c = c .before .before .before .before
 
 -- a share is that of one of six heavy blocks
 at-block : (c : tie.In-loop Inv-loop μ-loop) → c .before .loop .h < 6
@@ -75,7 +71,7 @@ sharable c =
       bits = q .1 .0;
       short = q .1 .1 .0;
       sound = i .before .loop .inv .1 .sound;
-      column = q .1 .1 .1 .1;
+      column = q .1 .1 .1 .1 .0;
       some = i .loop-test .taken;
       less = omega arith;
     }
@@ -94,20 +90,21 @@ less c = omega (arith, c .if1 .left)
 
 loop-holds : tie.Need-loop-holds Inv-loop μ-loop
 loop-holds c =
-    let s = c .before in
-    let t = s .args .t in
+    let s = c .before .before in
     let g = s .good .1 .1 .1 .1 .1 .0 in
     let k = g .1 .1 .1 .0 .1 .1 .1 in (
-      record {
-        left = search (needs, g);
-        row = search (needs, g .1 .1);
-        cells = record {
-          blocks = search (needs, k .0);
-          columns = search (needs, k .1 .0);
-          losts = search (needs, k .1 .1 .0);
-          places = search (needs, k .1 .1 .1 .0);
-        };
-      },
+      (
+        record {
+          left = search (needs, g);
+          cells = record {
+            blocks = search (needs, k .0);
+            columns = search (needs, k .1 .0);
+            losts = search (needs, k .1 .1 .0);
+            places = search (needs, k .1 .1 .1 .0);
+          };
+        },
+        refl,
+      ),
       halfway-start (s .pre .1 .1 .1 .0),
     )
 
@@ -125,8 +122,8 @@ returns c =
     let i = c .before .before .before in
     let q = begin i .pre .1 .1 .1 in
     let n = c .not-shared .ensures in
-    stepped-none (n .0) (rw (n .1) (q .0))
-    (too-few (i .before .loop .inv .1) (i .loop-test .taken) (q .1) (c .before .if1 .taken))
+    stepped-none (n .0) (n .1) (q .0) (i .before .loop .inv .1 .same)
+    (too-few (i .before .loop .inv .1) (i .loop-test .taken) (q .1 .0) (c .before .if1 .taken))
 
 array-read-a : tie.Need-array-read-a Inv-loop μ-loop
 array-read-a c = at-block (turn c)
@@ -177,16 +174,35 @@ returns-2 c =
     let shared =
     shared-short (sharable e) (f .place-of .result) (f .place-of .ensures .1) (c .before .before .if2 .taken)
     (c .before .if3 .taken) in
-    stepped-none (n .0) (rw (n .1) (q .0))
-    (share-failed (i .before .loop .inv .1) (i .loop-test .taken) (q .1) (less e) shared refl)
+    stepped-none (n .0) (n .1) (q .0) (i .before .loop .inv .1 .same)
+    (share-failed (i .before .loop .inv .1) (i .loop-test .taken) (q .1 .0) (less e) shared refl)
 
 number-at-requires : tie.Need-number-at-requires Inv-loop μ-loop
 number-at-requires c κs =
     let p = sharable (enough (c .before .before)) in
     (p .bits, (chunk-bits p, c .if3 .left))
 
-element-write-table : tie.Need-element-write-table Inv-loop μ-loop
-element-write-table c = chunk-low (sharable (enough (c .before .before .before)))
+slice-write-row : tie.Need-slice-write-row Inv-loop μ-loop
+slice-write-row c =
+    let e = enough (c .before .before .before) in
+    let i = turn e in
+    omega (arith, inside (sharable e), begin i .pre .1 .1 .1 .1 .1, i .before .loop .inv .0 .1)
+
+-- the row in hand has its length in a turn
+turn-length : (i : tie.In-loop Inv-loop μ-loop) → length (i .before .loop .row) ≡ length (begin i .args .row .now)
+turn-length i = i .before .loop .inv .0 .1
+
+same-length : tie.Need-same-length Inv-loop μ-loop
+same-length c = turn-length (c .before .before .before)
+
+same-length-2 : tie.Need-same-length-2 Inv-loop μ-loop
+same-length-2 c = turn-length (turn (enough (c .before .before .before)))
+
+same-length-3 : tie.Need-same-length-3 Inv-loop μ-loop
+same-length-3 c = turn-length (turn (enough (c .before .before .before)))
+
+same-length-4 : tie.Need-same-length-4 Inv-loop μ-loop
+same-length-4 c = c .before .loop .inv .0 .1
 
 not-shared-requires-3 : tie.Need-not-shared-requires-3 Inv-loop μ-loop
 not-shared-requires-3 c κs = search needs
@@ -199,34 +215,34 @@ returns-3 c =
     let q = begin i .pre .1 .1 .1 in
     let n = c .not-shared3 .ensures in
     let shared = shared-beyond (sharable e) (f .place-of .result) (f .place-of .ensures .1) (c .before .if4 .taken) in
-    stepped-none (n .0) (rw (n .1) (q .0))
-    (share-failed (i .before .loop .inv .1) (i .loop-test .taken) (q .1) (less e) shared refl)
+    stepped-none (n .0) (n .1) (q .0) (i .before .loop .inv .1 .same)
+    (share-failed (i .before .loop .inv .1) (i .loop-test .taken) (q .1 .0) (less e) shared refl)
 
 -- what holds where the chunk becomes a cell: there is room for it, and the table with it
 cell : (f : tie.After-place-of Inv-loop μ-loop) → let e = enough f in let a = begin (turn e) .args in
     let p = turn e .before .loop in
     let lost = getD (p .table .left) (p .h) 0 - getD (a .t5) (p .h) 0 in
     (lost ≡ 0 → ⊥) → f .place-of .result ≤ length (a .y .now) → (p .table .cells .n < 12)
-    × Shared (a .l) (a .y .now) (a .t3) (a .j) (p .h) lost (p .table) true
-    (withCell (p .table) (p .h) (getD (a .t3 .block) (p .h) 0) (a .j) lost (f .place-of .result))
+    × Shared (a .l) (a .y .now) (a .t3) (a .j) (p .h) lost (p .table) (p .row) true
+    (withCell (p .table) (p .h) (getD (a .t3 .block) (p .h) 0) (a .j) lost (f .place-of .result)) (p .row)
 cell f some there =
     let e = enough f in
     let s = begin (turn e) in
     let a = s .args in
     let p = turn e .before .loop in
-    let full = p .inv .0 in
+    let full = p .inv .0 .0 in
     let pos : 0 < getD (p .table .left) (p .h) 0 - getD (a .t5) (p .h) 0 = omega arith in
     let blocks : length (a .t3 .block) ≡ 6 = search (needs, s .good .1 .1 .0) in
     let read = f .place-of .ensures .1 in (
-      cell-room (sharable e) (f .place-of .result) read pos (full .left) blocks (full .cells),
+      cell-room (sharable e) pos (full .left) blocks,
       shared-cell (sharable e) (f .place-of .result) read pos (full .left) blocks (full .cells) there,
     )
 
 sub-table : tie.Need-sub-table Inv-loop μ-loop
 sub-table c = search needs
 
-element-write-table-2 : tie.Need-element-write-table-2 Inv-loop μ-loop
-element-write-table-2 c = at-block (turn (enough (c .before .before)))
+element-write-table : tie.Need-element-write-table Inv-loop μ-loop
+element-write-table c = at-block (turn (enough (c .before .before)))
 
 cast-push-cell : tie.Need-cast-push-cell Inv-loop μ-loop
 cast-push-cell c = omega (arith, column-low (sharable (enough (c .before .before .before))))
@@ -242,23 +258,25 @@ add-h c = record { fits = omega (arith, at-block (turn (enough (c .before)))) }
 loop-less : tie.Need-loop-less Inv-loop μ-loop
 loop-less c = omega (arith, turn (enough (c .before)) .loop-test .taken)
 
--- what holds after a turn of the table that the share makes
-abbrev Turned : tie.After-place-of Inv-loop μ-loop → Table → Type 0
-Turned f new =
+-- what holds after a turn of the table that the share makes, and of the row in hand
+abbrev Turned : tie.After-place-of Inv-loop μ-loop → Table → List ℕ → Type 0
+Turned f new after =
     let i = turn (enough f) in
     let a = begin i .args in
-    Full new × Halfway (a .l) (a .y .now) (a .t3) (a .j) (i .before .loop .h + 1) (each (a .t5)) (a .t) new
+    (Full new × (length after ≡ length (a .row .now)))
+    × Halfway (a .l) (a .y .now) (a .t3) (a .j) (i .before .loop .h + 1) (each (a .t5)) (a .t) (a .row .now) new after
 
-turned : (f : tie.After-place-of Inv-loop μ-loop) {new : Table} → let i = turn (enough f) in let a = begin i .args in
+turned : (f : tie.After-place-of Inv-loop μ-loop) {new : Table} {after : List ℕ} → let i = turn (enough f) in
+    let a = begin i .args in
     let p = i .before .loop in
-    Full new
+    Full new → length after ≡ length (p .row)
     → Shared (a .l) (a .y .now) (a .t3) (a .j) (p .h) (getD (p .table .left) (p .h) 0 - getD (a .t5) (p .h) 0)
-    (p .table) true new
-    → Turned f new
-turned f full shared =
+    (p .table) (p .row) true new after
+    → Turned f new after
+turned f full long shared =
     let i = turn (enough f) in (
-      full,
-      halfway-next (i .before .loop .inv .1) (i .loop-test .taken) (begin i .pre .1 .1 .1 .1) (less (enough f))
+      (full, long ∙ i .before .loop .inv .0 .1),
+      halfway-next (i .before .loop .inv .1) (i .loop-test .taken) (begin i .pre .1 .1 .1 .1 .0) (less (enough f))
           shared refl,
     )
 
@@ -267,20 +285,24 @@ loop-again c =
     let f = c .before in
     let e = enough f in
     let p = turn e .before .loop in
-    let a = begin (turn e) .args in
-    let full = p .inv .0 in
+    let s = begin (turn e) in
+    let a = s .args in
+    let full = p .inv .0 .0 in
     let chunk = chunkAt (a .l) (a .t3) (a .j) (p .h) in
     let lost = getD (p .table .left) (p .h) 0 - getD (a .t5) (p .h) 0 in
     let left : List ℕ = set (p .table .left) (p .h) (getD (p .table .left) (p .h) 0 - lost) in
+    let room : a .l .l1 * a .l .l2 ≤ length (p .row) = omega (arith, s .pre .1 .1 .1 .1 .1, p .inv .0 .1) in
     ⊎-elim
     (λ w.
-    subst (Turned f) (sym (w .3 ∙ ap (withChunk (p .table) chunk) (w .2 .ensures)))
-    (turned f (full-read full chunk _)
-    (shared-read (sharable e) (f .place-of .result) (f .place-of .ensures .1) (w .0 .taken) (full .row))))
+    subst (λ (v : Table). Turned f v (c .if2 .row)) (sym (w .4))
+    (subst (Turned f (p .table)) (sym (w .3 ∙ ap (set (p .row) chunk) (w .2 .ensures)))
+    (turned f full (length-set (p .row) chunk _)
+    (shared-read (sharable e) (f .place-of .result) (f .place-of .ensures .1) (w .0 .taken) room))))
     (λ w.
-    subst (Turned f)
-    (sym (w .4 ∙ ap (λ (x : Cells). record { left = left; cells = x; row = p .table .row }) (w .3 .ensures)))
-    (turned f (full-cell full (p .h) _ (a .j) lost _) (cell f (w .0 .left) (w .1 .left) .1)))
+    subst (Turned f (c .if2 .table)) (sym (w .4))
+    (subst (λ (v : Table). Turned f v (p .row))
+    (sym (w .5 ∙ ap (λ (x : Cells). record { left = left; cells = x }) (w .3 .ensures)))
+    (turned f (full-cell full (p .h) _ (a .j) lost _) refl (cell f (w .0 .left) (w .1 .left) .1))))
     (c .if2 .came)
 
 returns-4 : tie.Need-returns-4 Inv-loop μ-loop
@@ -296,6 +318,7 @@ step-spec =
     element-copy-out-left
     array-read-if1
     not-shared-requires
+    same-length
     returns
     array-read-a
     sub-a
@@ -308,16 +331,19 @@ step-spec =
     place-of-requires
     add-if3
     not-shared-requires-2
+    same-length-2
     returns-2
     number-at-requires
-    element-write-table
+    slice-write-row
     not-shared-requires-3
+    same-length-3
     returns-3
     sub-table
-    element-write-table-2
+    element-write-table
     cast-push-cell
     push-cell-requires
     add-h
     loop-less
     loop-again
+    same-length-4
     returns-4)

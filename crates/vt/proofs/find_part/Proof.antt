@@ -7,7 +7,7 @@ use mathlib.Core.Logic.{inl, inr, ⊎-elim}
 use mathlib.Core.List.{List}
 use native.Mathlib.Omega.{arith}
 use lib.ListN.{length, drop, length-drop}
-use Rattle.bits.specs.Bits.{unpack}
+use Rattle.bits.specs.Bits.{unpack, longest}
 use Rattle.bits.proofs.Laws.{bits-drop, bits-unpack, length-unpack}
 use Rattle.bits.proofs.Packing.{fits-blank, fits-length}
 use Rattle.vt.specs.Ones.{ones}
@@ -41,7 +41,7 @@ weigh-byte-requires c κs = search needs
 seen : (c : tie.After-weigh-byte Inv-loop μ-loop)
     → let p = c .before .before .before .loop in
     let s : List ℕ = c .before .before .before .before .before .args .s .now in
-    (p .r ≡ c .weigh-byte .result .ones + ones (drop ((p .i + 1) * 8) (unpack s))) × (p .r ≤ 2040)
+    (p .r ≡ c .weigh-byte .result .ones + ones (drop ((p .i + 1) * 8) (unpack s))) × (p .r ≤ longest)
 seen c =
     let start = c .before .before .before .before .before in
     let a = start .args in

@@ -7,6 +7,7 @@ use mathlib.Core.List.{List}
 use native.Mathlib.Nat.{zero-add}
 use native.Mathlib.Omega.{arith}
 use lib.ListN.{length, getD, drop}
+use Rattle.bits.specs.Bits.{longest}
 use Rattle.bits.proofs.Laws.{bit-at}
 use Rattle.vt.specs.Ones.{ones as onesOf}
 use Rattle.vt.specs.Sum.{total as totalOf}
@@ -18,7 +19,7 @@ use Rattle.vt.proofs.weigh.Tie as tie
 
 abbrev Inv-loop : tie.InvT-loop
 Inv-loop bits total₀ ones₀ i₀ total ones i =
-    (i ≤ length bits) × ((total ≤ 2040 * i)
+    (i ≤ length bits) × ((total ≤ longest * i)
     × ((ones ≤ i) × ((total + totalOf (i + 1) (drop i bits) ≡ totalOf 1 bits)
     × (ones + onesOf (drop i bits) ≡ onesOf bits))))
 

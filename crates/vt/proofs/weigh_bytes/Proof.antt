@@ -7,7 +7,7 @@ use mathlib.Core.List.{List}
 use native.Mathlib.Nat.{zero-add, mul-le-mul}
 use native.Mathlib.Omega.{arith}
 use lib.ListN.{length, getD, drop}
-use Rattle.bits.specs.Bits.{unpack}
+use Rattle.bits.specs.Bits.{unpack, longest}
 use Rattle.bits.proofs.Laws.{length-unpack}
 use Rattle.vt.specs.Ones.{ones as onesOf}
 use Rattle.vt.specs.Sum.{total as totalOf}
@@ -39,8 +39,8 @@ mul-total c = search needs
 
 -- what the byte adds is small
 small : (c : tie.After-weigh-byte Inv-loop μ-loop)
-    → c .before .before .before .loop .i * 8 * c .weigh-byte .result .ones ≤ 255 * 8 * 8
-small c = mul-le-mul {n₂ = 255 * 8} {m₂ = 8} (omega arith) (omega arith)
+    → c .before .before .before .loop .i * 8 * c .weigh-byte .result .ones ≤ longest * 8
+small c = mul-le-mul {n₂ = longest} {m₂ = 8} (omega arith) (omega arith)
 
 mul-total-2 : tie.Need-mul-total-2 Inv-loop μ-loop
 mul-total-2 c = record { fits = omega (arith, small (c .before)) }

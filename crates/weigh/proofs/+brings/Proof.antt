@@ -13,7 +13,7 @@ use borrow.Fn.PlainCycle.{Measures, is, falls, and}
 use lib.ListN.{length, getD}
 use mir.Syntax.{w8}
 use mir.Val.{Fits}
-use Rattle.bits.specs.Bits.{digits}
+use Rattle.bits.specs.Bits.{mostInLine, longestLine, digits}
 use Rattle.vt.specs.Ones.{ones}
 use Rattle.weigh.specs.Weigh.{Can, brought, chunkTop, There, Within}
 use Rattle.weigh.proofs.Spans.{received, ones-between, wider-holds}
@@ -148,9 +148,9 @@ block-small : (t : ℕ) (c : Ready t) → let a = start t (found t c) .args in F
 block-small t c = search needs
 
 -- so many positions stand before the chunk
-before-small : (t : ℕ) (c : Ready t) → let a = start t (found t c) .args in getD (a .t6 .block) (a .s) 0 * a .nc ≤ 2040
+before-small : (t : ℕ) (c : Ready t) → let a = start t (found t c) .args in getD (a .t6 .block) (a .s) 0 * a .nc ≤ longestLine
 before-small t c =
-    mul-le-mul {n₂ = 255} {m₂ = 8} (omega (arith, block-small t c)) (start t (found t c) .pre .1 .0 .short)
+    mul-le-mul {n₂ = mostInLine} {m₂ = 8} (omega (arith, block-small t c)) (start t (found t c) .pre .1 .0 .short)
 
 brings-cast-before : (t : ℕ)
     → brings-lts.Need-cast-before (called t) (brings-at t) brings.Post brings-Inv-loop brings-μ-loop

@@ -2,20 +2,17 @@
 -- nothing.
 use Prim.Native.Nat.{ℕ, _+_, _-_, _*_, _%_, _≤_}
 use mathlib.Core.Path.{_≡_, sym, ap, _∙_}
-use mathlib.Core.Bool.{false≢true}
+use mathlib.Core.Bool.{true, false≢true}
 use mathlib.Core.List.{List}
 use native.Mathlib.Nat.{mod-lt, mod-add-mod}
 use native.Mathlib.Omega.{arith}
 use borrow.Author.Needs.{needs}
 use borrow.Author.Tests.{not-true, not-false}
 use lib.ListN.{getD}
-use Rattle.bits.specs.Bits.{digits}
+use Rattle.bits.specs.Bits.{longestLine, digits}
 use Rattle.vt.specs.Sum.{total}
-use Rattle.message.proofs.Legal.{legal-bounds}
+use Rattle.message.proofs.Legal.{legal-bounds, string-high}
 use Rattle.weigh.specs.Weigh.{brought}
-use Rattle.column.proofs.Rows.{string-high}
-use Rattle.column.specs.Column.{startAt}
-use Rattle.whole.proofs.Whole.{Stands, stands}
 use Rattle.whole.proofs.can_lose_one.Statement.{statement}
 use Rattle.whole.proofs.can_lose_one.Tie as tie
 
@@ -24,13 +21,8 @@ abbrev begin : tie.After-struct-known → tie.Start
 begin c = c .before .before .before .before
 
 -- the modulus is small
-high : (s : tie.Start) → s .args .l .l1 * s .args .l .nc ≤ 2040
+high : (s : tie.Start) → s .args .l .l1 * s .args .l .nc ≤ longestLine
 high s = string-high (s .args .l) (s .pre .0 .allowed)
-
--- where the chunk stands
-stands-at : (c : tie.After-struct-known2) → let a = begin (c .before .before) .args in
-    Stands (a .l) (a .block) (a .j) (c .before .wide .result)
-stands-at c = stands (begin (c .before .before) .pre .0) (c .before .wide .result) (c .before .wide .ensures)
 
 mul-m : tie.Need-mul-m
 mul-m c = omega (arith, high (begin c))
@@ -38,53 +30,24 @@ mul-m c = omega (arith, high (begin c))
 add-m : tie.Need-add-m
 add-m c = omega (arith, high (begin c))
 
-wide-requires : tie.Need-wide-requires
-wide-requires c κs = search needs
-
-mul-from : tie.Need-mul-from
-mul-from c = omega (arith, stands-at c .low)
-
-add-from : tie.Need-add-from
-add-from c = omega (arith, stands-at c .low)
-
-mul-from-2 : tie.Need-mul-from-2
-mul-from-2 c = omega (arith, stands-at c .in-row)
-
-wide-requires-2 : tie.Need-wide-requires-2
-wide-requires-2 c κs = search needs
-
-add-from-2 : tie.Need-add-from-2
-add-from-2 c =
-    let left = begin (c .before .before .before) .args .left in
-    record { fits = omega (arith, stands-at (c .before) .in-row, c .wide2 .ensures) }
-
 sub-place-of : tie.Need-sub-place-of
-sub-place-of c = begin (c .before .before .before) .pre .1 .0
+sub-place-of c = begin c .pre .1 .0
 
 place-of-requires : tie.Need-place-of-requires
 place-of-requires c κs =
-    let s = begin (c .before .before .before) in (
-      legal-bounds (s .args .l) (s .pre .0 .allowed) .nc-high,
-      (s .pre .0 .short, omega (arith, stands-at (c .before) .in-row, c .wide2 .ensures)),
-    )
-
--- what the place of the chunk is read from is what is meant
-from-is : (c : tie.After-wide2) → let a = begin (c .before .before .before) .args in
-    (c .before .before .wide .result * a .l .l2 + a .j) * a .l .nc + c .wide2 .result
-    ≡ startAt (a .l) (a .block) (a .j) (a .left)
-from-is c = omega (arith, stands-at (c .before) .is, c .wide2 .ensures)
+    let p = begin c .pre .0 in
+    ((p .allowed, p .short), (p .inside, p .column))
 
 returns : tie.Need-returns
 returns c v small readable loses sum =
-    let p = c .before .before in
-    absurd (false≢true (sym (not-true _ (c .if1 .taken)) ∙ p .place-of .ensures .0 (rw (from-is (p .before)) readable)))
+    absurd (false≢true (sym (not-true _ (c .if1 .taken)) ∙ c .before .before .place-of .ensures .found readable))
 
 rem-missing : tie.Need-rem-missing
 rem-missing c = search needs
 
 -- where the function starts, seen from where the chunk has its place
 abbrev start : tie.After-place-of → tie.Start
-start c = begin (c .before .before .before .before)
+start c = begin (c .before)
 
 missing-requires : tie.Need-missing-requires
 missing-requires c κs =
@@ -121,18 +84,17 @@ returns-2 c v small readable loses sum =
     let p = e .before .before in
     let s = start p in
     let a = s .args in
-    let place = p .place-of .ensures .1 (not-false _ (e .if1 .left)) in
-    let at : p .place-of .result .at ≡ startAt (a .l) (a .block) (a .j) (a .left) - a .end =
-    omega (arith, place .0, from-is (p .before)) in
-    let one : p .place-of .result .lost ≡ 1 = omega (arith, place .1 .0, s .pre .1 .0) in
+    let place = p .place-of .ensures in
+    let ok : p .place-of .result .ok ≡ true = not-false _ (e .if1 .left) in
+    let one : p .place-of .result .lost ≡ 1 = omega (arith, place .lost-just ok, s .pre .1 .0) in
     let b = total (a .block * a .l .nc + 1) (digits (a .l .nc) v) in
     let modulus = a .l .l1 * a .l .nc + 1 in
     c .can-bring .ensures (λ k. v)
     record {
       small = λ k h. small;
       few = λ k h. let z : k ≡ 0 = omega (arith, h) in rw z (omega (arith, readable .few, s .pre .1 .0));
-      there = λ k h. let z : k ≡ 0 = omega (arith, h) in rw z (omega (arith, place .1 .1, one));
-      loses = λ k h. let z : k ≡ 0 = omega (arith, h) in rw (z, at) loses;
+      there = λ k h. let z : k ≡ 0 = omega (arith, h) in rw z (omega (arith, place .within ok, one));
+      loses = λ k h. let z : k ≡ 0 = omega (arith, h) in rw (z, place .at-just ok) loses;
     }
     (ap (λ (n : ℕ). n % modulus) (brought-one (a .l .nc) _ v)
     ∙ m .missing .ensures .1 b (mod-lt (a .rest) (omega arith)) (mod-add-mod (a .rest) modulus b ∙ sum))
@@ -143,12 +105,6 @@ can-lose-one-spec =
     (tie.spec
     mul-m
     add-m
-    wide-requires
-    mul-from
-    add-from
-    mul-from-2
-    wide-requires-2
-    add-from-2
     sub-place-of
     place-of-requires
     returns

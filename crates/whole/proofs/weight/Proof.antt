@@ -6,7 +6,7 @@ use native.Mathlib.Nat.{mul-le-mul}
 use native.Mathlib.Omega.{arith}
 use borrow.Author.Needs.{needs}
 use lib.ListN.{take, drop}
-use Rattle.bits.specs.Bits.{longest}
+use Rattle.bits.specs.Bits.{longest, longestLine}
 use Rattle.windows.proofs.Windows.{total-on}
 use Rattle.whole.proofs.weight.Statement.{statement}
 use Rattle.whole.proofs.weight.Tie as tie
@@ -17,12 +17,12 @@ begin m = m .before .before .before .before
 
 -- the window is not longer than the longest row, so the ones weigh little with the positions before them
 short : (m : tie.After-look) → let a = begin m .args in
-    (a .w ≤ longest) × (a .before * m .look .result .ones ≤ longest * longest)
+    (a .w ≤ longest) × (a .before * m .look .result .ones ≤ longestLine * longest)
 short m =
     let a = begin m .args in
     let w : a .w ≤ longest = omega (arith, begin m .pre) in
     let few : m .look .result .ones ≤ longest = omega (arith, m .look .ensures .count-small) in
-    let low : a .before ≤ longest = begin m .pre .1 .1 .1 in
+    let low : a .before ≤ longestLine = begin m .pre .1 .1 .1 in
     (w, mul-le-mul low few)
 
 look-requires : tie.Need-look-requires

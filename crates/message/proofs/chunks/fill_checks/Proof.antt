@@ -55,7 +55,7 @@ checks-requires c κs =
     let s = start (k .before) in
     let b = bounds s in (
       (tabled (k .before) .table .ensures, b .nc-low, b .nc-high, k .fill-logs .ensures .1, s .pre .1 .0 .1),
-      (omega (arith, s .pre .1 .0 .0, b .chunks-high, size-low (s .args .nc) (b .nc-low)), s .pre .1 .1),
+      (omega (arith, s .pre .1 .0 .0, b .field (omega (arith, tabled (k .before) .before .if1 .left)), size-low (s .args .nc) (b .nc-low)), s .pre .1 .1),
     )
 
 same-length : tie.Need-same-length

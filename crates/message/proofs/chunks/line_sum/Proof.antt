@@ -7,6 +7,7 @@ use mathlib.Core.List.{List}
 use native.Mathlib.Nat.{zero-add, mul-le-mul}
 use native.Mathlib.Omega.{arith}
 use lib.ListN.{length, getD}
+use Rattle.bits.specs.Bits.{mostInLine, longestLine}
 use Rattle.vt.specs.Sum.{total as totalOf}
 use Rattle.message.specs.Chunks.{rowOf, picked}
 use Rattle.message.proofs.Fields.{field-room}
@@ -30,7 +31,7 @@ loop-holds c =
 
 -- the chunk stands among the numbers, and its place is small
 inside : (c : tie.In-loop Inv-loop μ-loop) → let a = c .before .before .before .args in let k = c .before .loop .k in
-    ((a .start + k * a .stride < length (a .chunks .now)) × (k * a .stride ≤ 255 * 255)) × (k * a .nc ≤ 2040)
+    ((a .start + k * a .stride < length (a .chunks .now)) × (k * a .stride ≤ mostInLine * mostInLine)) × (k * a .nc ≤ longestLine)
 inside c =
     let s = c .before .before .before in
     let a = s .args in
@@ -38,7 +39,7 @@ inside c =
     let q = s .pre .1 in (
       (
         line-inside (a .start) (a .stride) (a .count) k (length (a .chunks .now)) (c .loop-test .taken) (q .1 .1),
-        mul-le-mul {n₂ = 255} {m₂ = 255} (omega (arith, c .loop-test .taken, q .0 .0)) (q .0 .1),
+        mul-le-mul {n₂ = mostInLine} {m₂ = mostInLine} (omega (arith, c .loop-test .taken, q .0 .0)) (q .0 .1),
       ),
       omega (arith, field-room (a .count) (a .nc) k (c .loop-test .taken), q .1 .0),
     )

@@ -1,4 +1,4 @@
--- `message::layouts::few_chunks` meets its contract: a count above 255 makes the product too large. Assumes nothing.
+-- `message::layouts::few_chunks` meets its contract: more than fit in a line make the product too large. Assumes nothing.
 use borrow.Author.Needs.{needs}
 use Prim.Native.Nat.{_-_, _*_, _^_, _≤_}
 use mathlib.Core.Path.{sym}
@@ -6,6 +6,7 @@ use native.Mathlib.Nat.{mul-le-mul, mul-le-mul-left, mul-le-mul-right, mul-one, 
 use native.Mathlib.Omega.{arith}
 use borrow.Author.Tests.{lt-leb, le-leb}
 use lib.Pow.{pow-mono, pow-pos}
+use Rattle.bits.specs.Bits.{mostInLine}
 use Rattle.message.proofs.layouts.few_chunks.Statement.{statement}
 use Rattle.message.proofs.layouts.few_chunks.Tie as tie
 
@@ -32,8 +33,8 @@ power-requires c κs = search needs
 
 mul-if3 : tie.Need-mul-if3
 mul-if3 c =
-    let l1-high : c .before .before .before .args .l1 ≤ 255 = omega arith in
-    let l2-high : c .before .before .before .args .l2 ≤ 255 = omega arith in
+    let l1-high : c .before .before .before .args .l1 ≤ mostInLine = omega arith in
+    let l2-high : c .before .before .before .args .l2 ≤ mostInLine = omega arith in
     record { fits = omega (arith, mul-le-mul l1-high l2-high) }
 
 returns-3 : tie.Need-returns-3
