@@ -1,6 +1,6 @@
 -- What is known of a consistent row under a state: a line of chunks at most one of which is open has its sum, and its
 -- chunk at a cell is one of the contents tried. Rests on the laws of lines, found and cells. Assumes nothing.
-use Prim.Native.Nat.{ℕ, _+_, _*_, _<_, _≤_}
+use Prim.Native.Nat.{ℕ, _+_, _*_, _<_}
 use mathlib.Core.Path.{_≡_, refl, sym, ap, _∙_}
 use mathlib.Core.Bool.{true}
 use mathlib.Core.Logic.{_⊎_, inl, inr, ⊎-elim}
@@ -8,17 +8,15 @@ use mathlib.Core.List.{List}
 use native.Mathlib.Nat.{add-comm, mul-one}
 use native.Mathlib.Omega.{arith}
 use lib.ListN.{length, getD, set}
-use Rattle.bits.specs.Bits.{mostChunks}
 use Rattle.bits.proofs.Laws.{lt-or-ge}
 use Rattle.vt.specs.Sum.{sum}
 use Rattle.message.specs.Layout.{legal}
 use Rattle.message.specs.declared.Layout.{Layout}
-use Rattle.message.proofs.Fields.{field-room}
 use Rattle.message.proofs.Legal.{legal-bounds}
 use Rattle.consistent.specs.Greedy.{inAll}
 use Rattle.erasures.specs.Erasures.{weight}
-use Rattle.lines.specs.Lines.{values, line, Inside}
-use Rattle.lines.proofs.Lines.{block-line, string-line, block-inside, string-inside}
+use Rattle.lines.specs.Lines.{values, line}
+use Rattle.lines.proofs.Lines.{block-line, string-line}
 use Rattle.found.specs.Found.{Given, Sent, InHand}
 use Rattle.found.proofs.Found.{sent-parts}
 use Rattle.cells.specs.Cells.{share, chunkOf, Open, Placed, Under, found}
@@ -27,23 +25,6 @@ use Rattle.cells.proofs.Shares.{all-found}
 use Rattle.cells.proofs.State.{chunk-inside, decide, chunk-in-hand, closed-column, closed-block}
 use Rattle.recover.proofs.Weights.{weight-none}
 use Rattle.fill.specs.Fill.{AllLose, With, Tried}
-
--- ---- the lines of a layout stand in a row in hand
-module _ (l : Layout) (e : legal l ≡ true) (size : ℕ) (h : l .l1 * l .l2 ≤ size) where
-  pub block-within : (i : ℕ) → i < l .l1 → Inside (l .nc) (i * l .l2) 1 (l .l2) size
-  block-within i k =
-      let n = block-inside l e (mostChunks + size) (omega arith) i k in
-      record {
-        nc-high = n .nc-high;
-        short = n .short;
-        stride-high = n .stride-high;
-        last = omega (arith, mul-one (l .l2), field-room (l .l1) (l .l2) i k);
-      }
-
-  pub string-within : (j : ℕ) → j < l .l2 → Inside (l .nc) j (l .l2) (l .l1) size
-  string-within j k =
-      let n = string-inside l e (mostChunks + size) (omega arith) j k in
-      record { nc-high = n .nc-high; short = n .short; stride-high = n .stride-high; last = omega arith }
 
 -- ---- one consistent row under a state
 module _ {l : Layout} {numbers y x : List ℕ} (given : Given l numbers y) (s : Sent l numbers y x)

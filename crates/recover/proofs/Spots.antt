@@ -22,7 +22,7 @@ use Rattle.recover.proofs.Weights.{weight-next, weight-some}
 
 -- a row with checks has no more chunks than the field has places
 pub few-chunks : (l : Layout) → legal l ≡ true → 0 < l .r → l .l1 * l .l2 ≤ 2 ^ l .nc - 1
-few-chunks l e some = legal-bounds l e .chunks-high
+few-chunks l e = legal-bounds l e .field
 
 -- ---- a place among others
 -- a place is among the first n or not

@@ -17,14 +17,13 @@ use Rattle.message.specs.declared.Layout.{Layout}
 use Rattle.message.proofs.Legal.{legal-bounds, sizes}
 use Rattle.consistent.proofs.Greedy.{piece}
 use Rattle.lines.specs.Lines.{values, line, Inside, Mendable}
-use Rattle.lines.proofs.Lines.{value-low, block-line, string-line}
+use Rattle.lines.proofs.Lines.{value-low, block-line, string-line, block-inside, string-inside}
 use Rattle.found.specs.Found.{Given, Sent}
 use Rattle.found.proofs.Found.{sent-parts}
 use Rattle.cells.specs.Cells.{SingleAt, chunkOf, Open, OpenAt, Placed, SameBut, Under, found}
 use Rattle.cells.specs.declared.Cells.{Cells}
 use Rattle.cells.proofs.Same.{cell-set}
 use Rattle.cells.proofs.State.{chunk-inside, decide, single-column, single-block}
-use Rattle.fill.proofs.Rows.{block-within, string-within}
 use Rattle.turns.specs.Turns.{keysOf, lineOf, Ready, chunkAt, Short}
 use Rattle.turns.specs.declared.Line.{Line}
 
@@ -33,8 +32,8 @@ module _ (l : Layout) (e : legal l ≡ true) (i j : ℕ) (h : i < l .l1) (g : j 
   -- inside of the row
   line-inside : (strings : Bool) → let n = lineOf strings l i j in
       Inside (l .nc) (n .start) (n .stride) (n .count) (l .l1 * l .l2)
-  line-inside true = string-within l e (l .l1 * l .l2) (omega arith) j g
-  line-inside false = block-within l e (l .l1 * l .l2) (omega arith) i h
+  line-inside true = string-inside l e (l .l1 * l .l2) (omega arith) j g
+  line-inside false = block-inside l e (l .l1 * l .l2) (omega arith) i h
 
   -- the marked chunk is its own
   mark-inside : (strings : Bool) → let n = lineOf strings l i j in n .hole < n .count

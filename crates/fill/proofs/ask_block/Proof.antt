@@ -7,9 +7,10 @@ use native.Mathlib.Omega.{arith}
 use lib.ListN.{length, getD}
 use Rattle.message.proofs.Legal.{legal-bounds}
 use Rattle.lines.specs.Lines.{values}
+use Rattle.lines.proofs.Lines.{block-inside}
 use Rattle.cells.specs.Cells.{chunkOf}
 use Rattle.cells.proofs.State.{chunk-low, chunk-inside}
-use Rattle.fill.proofs.Rows.{block-within, block-alone}
+use Rattle.fill.proofs.Rows.{block-alone}
 use Rattle.fill.proofs.ask_block.Statement.{statement}
 use Rattle.fill.proofs.ask_block.Tie as tie
 
@@ -69,7 +70,7 @@ asked-requires c κs =
     let w = m .before .before .before in
     let s = start (w .before) in
     let a = s .args in (
-      rw (w .wide .ensures) (block-within (a .l) (s .pre .0 .0) (length (a .row .now)) (s .pre .0 .1) _ (s .pre .1 .1 .1 .0)),
+      rw (w .wide .ensures) (block-inside (a .l) (s .pre .0 .0) (length (a .row .now)) (s .pre .0 .1) _ (s .pre .1 .1 .1 .0)),
       (omega arith, rw (m .before .wide2 .ensures) (s .pre .1 .1 .1 .1)),
     )
 

@@ -7,9 +7,10 @@ use native.Mathlib.Omega.{arith}
 use lib.ListN.{length, getD}
 use Rattle.message.proofs.Legal.{legal-bounds}
 use Rattle.lines.specs.Lines.{values}
+use Rattle.lines.proofs.Lines.{string-inside}
 use Rattle.cells.specs.Cells.{chunkOf}
 use Rattle.cells.proofs.State.{chunk-inside}
-use Rattle.fill.proofs.Rows.{string-within, string-alone}
+use Rattle.fill.proofs.Rows.{string-alone}
 use Rattle.fill.proofs.ask_string.Statement.{statement}
 use Rattle.fill.proofs.ask_string.Tie as tie
 
@@ -62,7 +63,7 @@ asked-requires c κs =
     let w = c .before .before .before in
     let s = start (w .before .before .before) in
     let a = s .args in (
-      rw (w .wide2 .ensures) (string-within (a .l) (s .pre .0 .0) (length (a .row .now)) (s .pre .0 .1) _ (s .pre .1 .1 .1 .1)),
+      rw (w .wide2 .ensures) (string-inside (a .l) (s .pre .0 .0) (length (a .row .now)) (s .pre .0 .1) _ (s .pre .1 .1 .1 .1)),
       (legal-bounds (a .l) (s .pre .0 .0) .l2-low, rw (w .before .wide .ensures) (s .pre .1 .1 .1 .0)),
     )
 
