@@ -46,8 +46,8 @@ unfoldable pub listRefusal : (s row : List ℕ) (m slice : ℕ) → ℕ
 unfolding inputChecks roomCheck firstRefusal
 listRefusal s row m slice = firstRefusal (inputChecks s row m ++ roomCheck s row m slice)
 
--- an answer of listing as the papers number it: the refusal, 0 where there is none, and the number of consistent rows, 0
--- where it refuses
+-- an answer of listing as the papers number it: the refusal, 0 where there is none, and the number of consistent rows,
+-- 0 where it refuses
 pub record ListAnswer : Type 0 where
   pub refusal : ℕ
   pub count : ℕ

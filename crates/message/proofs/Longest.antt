@@ -50,7 +50,8 @@ short-at : (nc a b : ℕ) → 1 ≤ nc → nc ≤ 8 → 1 ≤ a → 1 ≤ b → 
 unfolding all-short
 short-at nc a b lo hi la lb h ha =
     upTo-at (short nc a) (mostChunks / a) b
-    (upTo-at (λ (a : ℕ). upTo (short nc a) (mostChunks / a)) mostInLine a (upTo-at all-short 8 nc tested lo hi) la ha) lb
+    (upTo-at (λ (a : ℕ). upTo (short nc a) (mostChunks / a)) mostInLine a (upTo-at all-short 8 nc tested lo hi) la ha)
+    lb
     (le-div-iff-mul-le la .1 (rw (mul-comm b a) h))
 
 -- the fields of a legal layout take at most 1,160 bits

@@ -69,7 +69,8 @@ returns c =
     let o = c .before .before in
     let p = o .before .before .before in (
       λ all.
-          absurd (false≢true (sym (not-true _ (c .if1 .taken)) ∙ o .place-of .ensures .found (all (p .loop .s) (omega arith)))),
+          let found = o .place-of .ensures .found (all (p .loop .s) (omega arith)) in
+          absurd (false≢true (sym (not-true _ (c .if1 .taken)) ∙ found)),
       λ e. absurd (false≢true e),
     )
 

@@ -52,7 +52,8 @@ from-is c =
 returns : tie.Need-returns
 returns c =
     let a = c .before .args in
-    nowhere (a .l) (a .size) (a .block) (a .j) (a .end) (a .left) (a .next) (λ r. omega (arith, r .falls, c .if1 .taken))
+    nowhere (a .l) (a .size) (a .block) (a .j) (a .end) (a .left) (a .next)
+    (λ r. omega (arith, r .falls, c .if1 .taken))
 
 wide-requires : tie.Need-wide-requires
 wide-requires c κs = search needs
@@ -106,14 +107,16 @@ add-ok-2 c =
     let k = c .before .before .before .before in
     let two = k .before .before in
     let s = begin k in
-    record { fits = omega (
-      arith,
-      c .wide5 .ensures,
-      s .pre .0 .1,
-      two .if2 .left,
-      two .before .wide .ensures,
-      legal-bounds (s .args .l) (s .pre .0 .0) .nc-high,
-    ) }
+    record {
+      fits = omega (
+        arith,
+        c .wide5 .ensures,
+        s .pre .0 .1,
+        two .if2 .left,
+        two .before .wide .ensures,
+        legal-bounds (s .args .l) (s .pre .0 .0) .nc-high,
+      );
+    }
 
 returns-4 : tie.Need-returns-4
 returns-4 c =
@@ -128,7 +131,8 @@ returns-4 c =
     let room : ℕ = a .size + c .wide5 .result in
     let is = from-is f .0 in
     record {
-      found = λ r. le-leb reach room (omega (arith, e .wide4 .ensures, c .wide5 .ensures, r .there, r .falls, r .starts));
+      found = λ r.
+          le-leb reach room (omega (arith, e .wide4 .ensures, c .wide5 .ensures, r .there, r .falls, r .starts));
       at-just = λ ok. omega (arith, e .wide4 .ensures);
       lost-just = λ ok. refl;
       few = λ ok. omega (arith, two .if2 .left, two .before .wide .ensures);

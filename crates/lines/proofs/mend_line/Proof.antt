@@ -25,7 +25,8 @@ stands s =
 
 -- what the bits at hand weigh is little, also behind the chunks before them
 small : (s : tie.Start) → let a = s .args in
-    ((total 1 (a .bits .now) ≤ 7 * 8) × (ones (a .bits .now) ≤ 7)) × (a .hole * a .nc * ones (a .bits .now) ≤ longestLine * 7)
+    ((total 1 (a .bits .now) ≤ 7 * 8) × (ones (a .bits .now) ≤ 7))
+    × (a .hole * a .nc * ones (a .bits .now) ≤ longestLine * 7)
 small s =
     let a = s .args in
     let i = s .pre .0 .0 in

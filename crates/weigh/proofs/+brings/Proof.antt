@@ -148,7 +148,8 @@ block-small : (t : ℕ) (c : Ready t) → let a = start t (found t c) .args in F
 block-small t c = search needs
 
 -- so many positions stand before the chunk
-before-small : (t : ℕ) (c : Ready t) → let a = start t (found t c) .args in getD (a .t6 .block) (a .s) 0 * a .nc ≤ longestLine
+before-small : (t : ℕ) (c : Ready t) → let a = start t (found t c) .args in
+    getD (a .t6 .block) (a .s) 0 * a .nc ≤ longestLine
 before-small t c =
     mul-le-mul {n₂ = mostInLine} {m₂ = 8} (omega (arith, block-small t c)) (start t (found t c) .pre .1 .0 .short)
 

@@ -53,9 +53,10 @@ checks-requires : tie.Need-checks-requires
 checks-requires c κs =
     let k = c .before .before .before .before in
     let s = start (k .before) in
-    let b = bounds s in (
+    let b = bounds s in
+    let few = b .field (omega (arith, tabled (k .before) .before .if1 .left)) in (
       (tabled (k .before) .table .ensures, b .nc-low, b .nc-high, k .fill-logs .ensures .1, s .pre .1 .0 .1),
-      (omega (arith, s .pre .1 .0 .0, b .field (omega (arith, tabled (k .before) .before .if1 .left)), size-low (s .args .nc) (b .nc-low)), s .pre .1 .1),
+      (omega (arith, s .pre .1 .0 .0, few, size-low (s .args .nc) (b .nc-low)), s .pre .1 .1),
     )
 
 same-length : tie.Need-same-length

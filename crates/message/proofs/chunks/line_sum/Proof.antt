@@ -31,7 +31,8 @@ loop-holds c =
 
 -- the chunk stands among the numbers, and its place is small
 inside : (c : tie.In-loop Inv-loop μ-loop) → let a = c .before .before .before .args in let k = c .before .loop .k in
-    ((a .start + k * a .stride < length (a .chunks .now)) × (k * a .stride ≤ mostInLine * mostInLine)) × (k * a .nc ≤ longestLine)
+    ((a .start + k * a .stride < length (a .chunks .now)) × (k * a .stride ≤ mostInLine * mostInLine))
+    × (k * a .nc ≤ longestLine)
 inside c =
     let s = c .before .before .before in
     let a = s .args in

@@ -1,4 +1,5 @@
--- `message::layouts::few_chunks` meets its contract: more than fit in a line make the product too large. Assumes nothing.
+-- `message::layouts::few_chunks` meets its contract: more than fit in a line make the product too large. Assumes
+-- nothing.
 use borrow.Author.Needs.{needs}
 use Prim.Native.Nat.{_-_, _*_, _^_, _≤_}
 use mathlib.Core.Path.{sym}
