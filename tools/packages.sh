@@ -4,7 +4,7 @@
 set -u
 
 crates=(librust-clap-dev librust-clap-derive-dev librust-image-dev librust-indicatif-dev librust-plotters-dev librust-png-dev
-    librust-rayon-dev)
+    librust-signal-hook-dev)
 
 missing() {
     local package

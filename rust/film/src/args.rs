@@ -165,10 +165,13 @@ pub struct Plot {
 ///
 /// Rows of the given films and of every made-up kind are written, robbed of 0 to 12 bits and listed. Each list must hold
 /// the row that was sent, and only rows that fit the message and the received row, in order and each once; an
-/// independent implementation says so. At the first row that is missing or wrong it stops and prints the case. The exit
-/// status is 1 for such a row, and also where a row was given up.
+/// independent implementation says so. At the first row that is missing or wrong it stops, prints the case, and ends with
+/// status 1. A row that takes longer than patience lasts is given up and described; that is no fault, since some rows that
+/// lost many bits take long on every machine.
 #[derive(clap::Args)]
-#[command(after_help = "Example:\n  film soak --rows 10000 --seed 7 board.pbm")]
+#[command(
+    after_help = "Examples:\n  film soak --rows 10000 --seed 7 board.pbm\n  film soak --seed 7 --case 123 board.pbm"
+)]
 pub struct Soak {
     /// Films whose rows are tried beside the made-up ones (PBM)
     pub films: Vec<PathBuf>,
@@ -178,6 +181,12 @@ pub struct Soak {
     /// What decides which rows and losses are tried
     #[arg(long, default_value_t = 1)]
     pub seed: u64,
+    /// Try only this case again, and show it; the other options must be as they were
+    #[arg(long, value_name = "NUMBER", conflicts_with = "rows")]
+    pub case: Option<usize>,
+    /// Rows that were given up count too: the exit status is then 1
+    #[arg(long)]
+    pub strict: bool,
     /// The most bits that a row loses
     #[arg(long, value_name = "BITS", default_value_t = 12, value_parser = clap::value_parser!(u16).range(0..=12))]
     pub most: u16,
@@ -195,9 +204,9 @@ pub struct Work {
     /// Threads, 1 to 256 (default: one for each processor)
     #[arg(long, value_name = "N", value_parser = clap::value_parser!(u16).range(1..=256))]
     pub jobs: Option<u16>,
-    /// A row that takes longer is given up and reported; its work is stopped. 0: without limit
-    #[arg(long, value_name = "SECONDS", default_value_t = 60.0, value_parser = seconds)]
-    pub patience: f64,
+    /// A row that takes longer is given up and reported; its work is stopped. 0: without limit (default: 60, for `film soak` 1)
+    #[arg(long, value_name = "SECONDS", value_parser = seconds)]
+    pub patience: Option<f64>,
     /// The program that lists rows in place of this one
     #[arg(long, hide = true)]
     pub worker: Option<PathBuf>,

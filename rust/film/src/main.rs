@@ -3,16 +3,22 @@
 #![forbid(unsafe_code)]
 
 mod args;
+mod board;
 mod command;
 mod cut;
 mod files;
+mod hand;
+mod hex;
 mod json;
 mod layout;
 mod line;
 mod lister;
+mod lists;
 mod picture;
+mod progress;
 mod tally;
 mod trouble;
+mod verdict;
 mod worker;
 
 use std::process::ExitCode;

@@ -33,6 +33,21 @@ impl Film {
         self.packed[at] |= 0x80 >> (column % 8);
     }
 
+    /// Blackens a row from column `first` on where the first `columns` of these packed bits are 1.
+    pub fn put(&mut self, row: usize, first: usize, packed: &[u8], columns: usize) {
+        let start = row * bytes_for(self.width) + first / 8;
+        for (place, byte) in packed.iter().take(bytes_for(columns)).enumerate() {
+            let left = columns - 8 * place;
+            let byte = if left < 8 { byte & !(0xFF >> left) } else { *byte };
+            let [high, low] = (u16::from(byte) << 8 >> (first % 8)).to_be_bytes();
+            self.packed[start + place] |= high;
+            // What goes to the next byte is within the columns, so there is one.
+            if low != 0 {
+                self.packed[start + place + 1] |= low;
+            }
+        }
+    }
+
     /// A row, packed.
     pub fn row(&self, row: usize) -> &[u8] {
         let length = bytes_for(self.width);

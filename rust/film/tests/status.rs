@@ -31,6 +31,29 @@ fn several_rows_are_status_1() {
     assert!(report.contains("\"open\":[{\"row\":0,\"panel\":0,\"lost\":2,\"outcome\":\"count 2\"}]"), "{report}");
 }
 
+/// The pad is white: rows of a list with ink in it are neither counted nor written, and marked in the text of the lists.
+#[test]
+fn rows_with_ink_in_the_pad_are_left_out() {
+    let folder = folder("pad");
+    fs::write(folder.join("film.pbm"), "P1\n7 3\n0 0 0 0 0 1 0\n0 0 0 1 0 1 0\n0 0 0 0 0 1 1\n").unwrap();
+    ends(0, &folder, "write film.pbm --layout 2,1,4,0 -o film.rsm");
+    let row = |packed| container::Row { bits: 6, packed: vec![packed] };
+    let received =
+        container::Received { row_bits: 8, rows: vec![row(0b0000_0000), row(0b0001_0000), row(0b0000_1000)] };
+    fs::write(folder.join("film.rx"), received.encode()).unwrap();
+    for patience in [0, 60] {
+        let words = format!("list film.rsm film.rx --patience {patience} --sent film.pbm --lists lists -o out.pbm");
+        let report = ends(1, &folder, &words);
+        assert!(report.contains("recovered alone    2\nseveral rows       1 (size: lists; 2: 1)\n"), "{report}");
+        assert!(report.contains("ruled out          3 listed rows with ink in the pad\n"), "{report}");
+        assert!(report.contains("row 1: count 2, 2 bits lost\n"), "{report}");
+        ends(0, &folder, "check film.pbm out.pbm");
+        let lists = fs::read_to_string(folder.join("lists")).unwrap();
+        let (first, second) = ("row 0 received 6 count 2\n03 pad\n04\n", "row 1 received 6 count 3\n13 pad\n14\nA4\n");
+        assert_eq!(lists, format!("{first}{second}row 2 received 6 count 2\n06\n09 pad\n"));
+    }
+}
+
 /// With `--quiet` the status alone says that rows are open or differ; errors are still said.
 #[test]
 fn quiet_commands_say_errors_only() {

@@ -18,7 +18,7 @@ pub use crc::crc32;
 pub use fault::Fault;
 pub use messages::{Head, Messages};
 pub use received::{Received, Row};
-pub use save::{replaced, save};
+pub use save::{nameless, replaced, save, save_from, stream};
 
 /// The first four bytes of a file of messages.
 pub const MESSAGES_MARK: [u8; 4] = *b"DHFM";

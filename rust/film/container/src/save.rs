@@ -1,8 +1,8 @@
 //! Files that are whole or not there.
 
 use std::ffi::{OsStr, OsString};
-use std::fs::{self, OpenOptions};
-use std::io::{self, Write};
+use std::fs::{self, File, OpenOptions};
+use std::io::{self, Read};
 use std::path::{Path, PathBuf};
 use std::process;
 
@@ -10,10 +10,34 @@ use std::process;
 /// either what stood there before or the whole new file, also where the program is killed. Symbolic links are followed,
 /// and a device or a pipe is written to as it stands.
 pub fn save(path: &Path, bytes: &[u8]) -> io::Result<()> {
+    save_from(path, &mut &bytes[..])
+}
+
+/// [`save`] for bytes that are read from somewhere.
+pub fn save_from(path: &Path, from: &mut impl Read) -> io::Result<()> {
     match replaced(path)? {
-        Some(file) => replace(&file, bytes),
-        None => OpenOptions::new().write(true).open(path)?.write_all(bytes),
+        Some(file) => replace(&file, from),
+        None => io::copy(from, &mut stream(path)?).map(|_| ()),
     }
+}
+
+/// Opens a device or a pipe to write to as it stands.
+pub fn stream(path: &Path) -> io::Result<File> {
+    OpenOptions::new().write(true).open(path)
+}
+
+/// A file without a name, to be written and read, on the same disk as the file that [`save`] would make: nothing is left of
+/// it when the program ends, in whatever way. None where the name stands for something else than a file. That there is one
+/// says that the file can be saved, as far as that can be known before.
+pub fn nameless(path: &Path) -> io::Result<Option<File>> {
+    let file = match replaced(path)? {
+        Some(file) => file,
+        None => return Ok(None),
+    };
+    let partial = partial_name(&file)?;
+    let opened = OpenOptions::new().read(true).write(true).create(true).truncate(true).open(&partial)?;
+    fs::remove_file(&partial)?;
+    Ok(Some(opened))
 }
 
 /// The file that [`save`] replaces or makes for a name, as its folder's full name and its own; none where the name stands
@@ -37,9 +61,9 @@ fn new_file(path: &Path) -> io::Result<PathBuf> {
     Ok(fs::canonicalize(folder)?.join(file_name(&path)?))
 }
 
-fn replace(path: &Path, bytes: &[u8]) -> io::Result<()> {
+fn replace(path: &Path, from: &mut impl Read) -> io::Result<()> {
     let partial = partial_name(path)?;
-    let saved = write_whole(&partial, bytes).and_then(|()| fs::rename(&partial, path));
+    let saved = write_whole(&partial, from).and_then(|()| fs::rename(&partial, path));
     if saved.is_err() {
         // The first error is the one to report.
         let _ = fs::remove_file(&partial);
@@ -58,15 +82,16 @@ fn partial_name(path: &Path) -> io::Result<PathBuf> {
     Ok(path.with_file_name(partial))
 }
 
-fn write_whole(path: &Path, bytes: &[u8]) -> io::Result<()> {
+fn write_whole(path: &Path, from: &mut impl Read) -> io::Result<()> {
     let mut file = OpenOptions::new().write(true).create(true).truncate(true).open(path)?;
-    file.write_all(bytes)?;
+    io::copy(from, &mut file)?;
     file.sync_all()
 }
 
 #[cfg(test)]
 mod tests {
     use super::*;
+    use std::io::{Seek, Write};
     use std::os::unix::fs::{symlink, FileTypeExt};
     use std::process::Command;
     use std::thread;
@@ -125,6 +150,21 @@ mod tests {
         save(&folder.join("null"), b"bytes").unwrap();
         assert!(fs::metadata("/dev/null").unwrap().file_type().is_char_device());
         assert_eq!(fs::read_dir(&folder).unwrap().count(), 2);
+        fs::remove_dir_all(&folder).unwrap();
+    }
+
+    #[test]
+    fn a_nameless_file_leaves_nothing() {
+        let folder = folder("nameless");
+        let mut file = nameless(&folder.join("film.rsm")).unwrap().unwrap();
+        assert_eq!(fs::read_dir(&folder).unwrap().count(), 0);
+        file.write_all(b"bytes").unwrap();
+        file.rewind().unwrap();
+        save_from(&folder.join("film.rsm"), &mut file).unwrap();
+        assert_eq!(fs::read(folder.join("film.rsm")).unwrap(), b"bytes");
+        assert!(nameless(Path::new("/dev/null")).unwrap().is_none());
+        assert!(nameless(&folder.join("none/film.rsm")).is_err());
+        assert!(nameless(&folder.join("n".repeat(250))).is_err(), "too long with the ending of the temporary name");
         fs::remove_dir_all(&folder).unwrap();
     }
 

@@ -1,22 +1,30 @@
 //! `film list`: every row that can have been sent.
 
+use std::borrow::Cow;
 use std::fmt::Write as _;
 use std::path::{Path, PathBuf};
+use std::sync::Arc;
 use std::time::Instant;
 
 use container::{Messages, Received};
 
 use super::{plural, read_film, read_messages, read_received};
 use crate::args::List;
-use crate::json::{object, Json};
-use crate::lister::{row_bytes, Lister, Outcome, Task};
+use crate::json::Json;
+use crate::lister::{row_bytes, Lister, Next, Outcome, Rows, Silence, Task};
+use crate::lists::Lists;
+use crate::picture::Film;
+use crate::progress::Progress;
 use crate::tally::Tally;
 use crate::trouble::{Result, Trouble};
-use crate::worker::Silence;
-use crate::{cut, files, picture};
+use crate::verdict::Verdict;
+use crate::{cut, files, hex, picture};
 
 /// How many rows that were not recovered alone are named in the report.
 const NAMED: usize = 20;
+
+/// How many seconds a row may take unless it is said.
+const PATIENCE: f64 = 60.0;
 
 pub fn run(args: &List) -> Result<bool> {
     let sent: Option<&Path> = args.sent.as_deref();
@@ -25,33 +33,58 @@ pub fn run(args: &List) -> Result<bool> {
         [Some(&args.output), args.lists.as_ref()].into_iter().flatten().map(PathBuf::as_path).collect();
     files::once(&inputs)?;
     files::apart(&inputs, &outputs)?;
+    let source = Arc::new(source(args)?);
+    let mut lists = args.lists.as_deref().map(Lists::new).transpose()?;
+    let (report, trouble) = list(args, &source, &mut lists)?;
+
+    files::write(&args.output, &picture::encode(&report.film))?;
+    lists.map_or(Ok(()), Lists::finish)?;
+    let output = outputs.into_iter().find(|path| files::is_standard(path));
+    match (args.say.json, args.say.quiet) {
+        (true, _) => files::say(&format!("{}\n", report.json()), output)?,
+        (false, false) => files::say(&report.text(), output)?,
+        (false, true) => {}
+    }
+    match trouble {
+        Some(trouble) => Err(trouble),
+        None => Ok(report.tally.alone == report.tally.rows && report.missing == 0),
+    }
+}
+
+/// Lists all rows. The trouble is why rows were left out, where nothing could list them any more.
+fn list<'a>(args: &List, source: &'a Arc<Source>, lists: &mut Option<Lists>) -> Result<(Report<'a>, Option<Trouble>)> {
+    let count = source.received.rows.len();
+    let mut report = Report::new(source);
+    let mut take = |row: usize, listed: Listed| {
+        let text = report.count(row, listed);
+        let full = lists.as_mut().map_or(false, |lists| {
+            lists.add(row, text);
+            lists.is_full()
+        });
+        if full {
+            Next::Hold
+        } else {
+            Next::Go
+        }
+    };
+    let began = Instant::now();
+    let run =
+        Lister::new(&args.work, PATIENCE)?.run(source, count, &mut Progress::new(count, args.say.quiet), &mut take)?;
+    let seconds = began.elapsed().as_secs_f64();
+    for row in run.rest() {
+        take(row, source.done(row, Outcome { answer: Err(Silence::NotDone), seconds: 0.0 }));
+    }
+    report.finish(seconds);
+    Ok((report, run.trouble))
+}
+
+/// Reads the files, and sees whether they belong together.
+fn source(args: &List) -> Result<Source> {
     let messages = read_messages(&args.messages)?;
     let received = read_received(&args.received)?;
     fit(&messages, &received)?;
-    let sent = sent.map(|path| sent_rows(&messages, path)).transpose()?;
-
-    let lister = Lister::new(&args.work)?;
-    let began = Instant::now();
-    let task = |row: usize| Task {
-        message: &messages.messages[row],
-        bits: received.rows[row].bits,
-        row: &received.rows[row].packed,
-    };
-    let outcomes = lister.each(received.rows.len(), args.say.quiet, |row| lister.list(&task(row)))?;
-    let done = Done { messages: &messages, received: &received, outcomes: &outcomes, sent: sent.as_deref() };
-    let tally = Tally::new(outcomes.iter().enumerate(), began.elapsed().as_secs_f64());
-
-    if let Some(path) = &args.lists {
-        files::write(path, done.lists().as_bytes())?;
-    }
-    files::write(&args.output, &picture::encode(&done.film()))?;
-    let output = outputs.into_iter().find(|path| files::is_standard(path));
-    match (args.say.json, args.say.quiet) {
-        (true, _) => files::say(&format!("{}\n", done.json(&tally)), output)?,
-        (false, false) => files::say(&done.text(&tally), output)?,
-        (false, true) => {}
-    }
-    Ok(tally.alone == tally.rows && done.missing().map_or(true, |missing| missing == 0))
+    let sent = args.sent.as_deref().map(|path| sent_film(&messages, path)).transpose()?;
+    Ok(Source { messages, received, sent, lists: args.lists.is_some() })
 }
 
 /// Are these the received rows of the film that the messages belong to?
@@ -68,52 +101,83 @@ fn fit(messages: &Messages, received: &Received) -> Result<()> {
     Ok(())
 }
 
-/// The rows of the film that was sent.
-fn sent_rows(messages: &Messages, path: &Path) -> Result<Vec<Vec<u8>>> {
+/// The film that was sent.
+fn sent_film(messages: &Messages, path: &Path) -> Result<Film> {
     let film = read_film(path)?;
     let head = &messages.head;
     if (film.width, film.height) != (head.width as usize, head.height as usize) {
         let size = format!("the film has {} × {}", film.width, film.height);
         return Err(Trouble::with(files::name(path), format!("{size}, its messages {} × {}", head.width, head.height)));
     }
-    Ok(cut::rows(&film, head))
+    Ok(film)
 }
 
-/// Everything that is known when all rows are done.
-struct Done<'a> {
-    messages: &'a Messages,
-    received: &'a Received,
-    outcomes: &'a [Outcome],
-    sent: Option<&'a [Vec<u8>]>,
+/// Everything that rows are listed from.
+struct Source {
+    messages: Messages,
+    received: Received,
+    /// The film that was sent, where it is known.
+    sent: Option<Film>,
+    /// Is the text of the lists wanted?
+    lists: bool,
 }
 
-impl Done<'_> {
-    /// The rows of a list, packed; after refusal 9 its first ones.
-    fn rows(&self, row: usize) -> std::slice::ChunksExact<'_, u8> {
-        let rows = self.outcomes[row].answer.as_ref().map_or(&[][..], |answer| &answer.rows);
-        rows.chunks_exact(row_bytes(&self.messages.messages[row]))
+/// What came out of a row.
+struct Listed {
+    verdict: Verdict,
+    seconds: f64,
+    /// The only row that can have been sent, or the first.
+    first: Option<Vec<u8>>,
+    /// Rows of the list that cannot have been sent.
+    ruled_out: usize,
+    /// The list was not refused, and lacks the row that was sent.
+    missing: bool,
+    /// The list as text, where it is wanted.
+    text: String,
+}
+
+impl Rows for Source {
+    type Done = Listed;
+
+    fn task(&self, row: usize) -> Task<'_> {
+        let received = &self.received.rows[row];
+        let message = Cow::Borrowed(&self.messages.messages[row][..]);
+        Task { message, bits: received.bits, row: Cow::Borrowed(&received.packed) }
     }
 
-    /// Is there a list of this row that was not refused?
-    fn listed(&self, row: usize) -> bool {
-        matches!(&self.outcomes[row].answer, Ok(answer) if answer.refusal == 0)
+    /// Rows with ink in the pad cannot have been sent, and are left out.
+    fn done(&self, row: usize, outcome: Outcome) -> Listed {
+        let found = outcome.answer.as_ref().map_or(&[][..], |answer| &answer.rows);
+        let found = || found.chunks_exact(row_bytes(&self.messages.messages[row]));
+        let possible = || found().filter(|packed| !self.inks_pad(row, packed));
+        let verdict = Verdict::new(&outcome, possible().count());
+        let listed = matches!(verdict, Verdict::Rows(_));
+        let missing = |sent: &Film| {
+            let sent = cut::row(sent, &self.messages.head, row);
+            listed && !found().any(|packed| packed == sent)
+        };
+        Listed {
+            verdict,
+            seconds: outcome.seconds,
+            first: possible().next().filter(|_| listed).map(<[u8]>::to_vec),
+            ruled_out: found().count() - possible().count(),
+            missing: self.sent.as_ref().map_or(false, missing),
+            text: if self.lists { self.text(row, &outcome, found()) } else { String::new() },
+        }
     }
+}
 
-    /// The film with the only row of each list, or the first; white where the list was refused.
-    fn film(&self) -> picture::Film {
-        let first = |row| self.rows(row).next().filter(|_| self.listed(row));
-        let firsts: Vec<Option<&[u8]>> = (0..self.outcomes.len()).map(first).collect();
-        cut::join(&self.messages.head, &firsts)
-    }
-
-    /// How many lists that were not refused lack the row that was sent, where that is known.
-    fn missing(&self) -> Option<usize> {
-        let lacks = |sent: &[Vec<u8>], row: usize| self.listed(row) && !self.rows(row).any(|found| found == sent[row]);
-        self.sent.map(|sent| (0..self.outcomes.len()).filter(|row| lacks(sent, *row)).count())
+impl Source {
+    fn inks_pad(&self, row: usize, packed: &[u8]) -> bool {
+        cut::inks_pad(&self.messages.head, row, packed)
     }
 
     fn lost(&self, row: usize) -> usize {
         usize::from(self.received.row_bits.saturating_sub(self.received.rows[row].bits))
+    }
+
+    fn all_lost(&self) -> usize {
+        (0..self.received.rows.len()).map(|row| self.lost(row)).sum()
     }
 
     /// Which row of the film, and which panel where there are several.
@@ -124,82 +188,110 @@ impl Done<'_> {
         }
     }
 
-    /// What came out of a row.
-    fn verdict(&self, row: usize) -> String {
-        match &self.outcomes[row].answer {
-            Ok(answer) if answer.refusal != 0 => format!("refused {}", answer.refusal),
-            Ok(answer) => format!("count {}", answer.count),
-            Err(Silence::TooLong) => String::from("given up"),
-            Err(Silence::Ended) => String::from("worker ended"),
-        }
-    }
-
-    /// Every list: a line that says which row, how many of its bits arrived and what came out, then its rows, each in
-    /// capital hexadecimal on a line of its own.
-    fn lists(&self) -> String {
-        let mut text = String::new();
-        for row in 0..self.outcomes.len() {
-            let bits = self.received.rows[row].bits;
-            let _ = writeln!(text, "{} received {bits} {}", self.name(row), self.verdict(row));
-            for found in self.rows(row) {
-                text.extend(found.iter().map(|byte| format!("{byte:02X}")));
-                text.push('\n');
-            }
+    /// A list: a line that says which row, how many of its bits arrived and what the library answered, then its rows, each in
+    /// capital hexadecimal on a line of its own, and behind it `pad` if it has ink there.
+    fn text<'a>(&self, row: usize, outcome: &Outcome, found: impl Iterator<Item = &'a [u8]>) -> String {
+        let count = outcome.answer.as_ref().map_or(0, |answer| answer.count);
+        let bits = self.received.rows[row].bits;
+        let mut text = format!("{} received {bits} {}\n", self.name(row), Verdict::new(outcome, count).code());
+        for packed in found {
+            hex::push(&mut text, packed);
+            text.push_str(if self.inks_pad(row, packed) { " pad\n" } else { "\n" });
         }
         text
     }
+}
 
+/// Everything that is said of the rows, and the film that is made of them.
+struct Report<'a> {
+    source: &'a Source,
+    tally: Tally,
+    /// The rows that can have been sent, the first where there are several, and white where there is none.
+    film: Film,
     /// The rows that were not recovered alone.
-    fn open(&self) -> Vec<usize> {
-        let alone = |row: &usize| matches!(&self.outcomes[*row].answer, Ok(answer) if answer.count == 1);
-        (0..self.outcomes.len()).filter(|row| !alone(row)).collect()
+    open: Vec<(usize, Verdict)>,
+    missing: usize,
+    ruled_out: usize,
+}
+
+impl<'a> Report<'a> {
+    fn new(source: &'a Source) -> Report<'a> {
+        let head = &source.messages.head;
+        let film = Film::blank(head.width as usize, head.height as usize);
+        Report { source, tally: Tally::default(), film, open: Vec::new(), missing: 0, ruled_out: 0 }
     }
 
-    fn text(&self, tally: &Tally) -> String {
-        let head = &self.messages.head;
+    /// Counts a row, and answers the text of its list.
+    fn count(&mut self, row: usize, listed: Listed) -> String {
+        self.tally.count(row, listed.verdict, listed.seconds);
+        self.missing += usize::from(listed.missing);
+        self.ruled_out += listed.ruled_out;
+        if listed.verdict != Verdict::Rows(1) {
+            self.open.push((row, listed.verdict));
+        }
+        if let Some(first) = &listed.first {
+            cut::put(&mut self.film, &self.source.messages.head, row, first);
+        }
+        listed.text
+    }
+
+    /// All rows were counted, in the order in which they came.
+    fn finish(&mut self, seconds: f64) {
+        self.tally.seconds = seconds;
+        self.open.sort_by_key(|(row, _)| *row);
+    }
+
+    /// How many lists lack the row that was sent, where that is known.
+    fn missing(&self) -> Option<usize> {
+        self.source.sent.as_ref().map(|_| self.missing)
+    }
+
+    fn text(&self) -> String {
+        let head = &self.source.messages.head;
         let [l1, l2, nc, r] = head.layout;
-        let lost: usize = (0..tally.rows).map(|row| self.lost(row)).sum();
         let mut text = format!(
-            "rows               {} of {} bits, layout {l1},{l2},{nc},{r}\nbits lost          {lost}\n{}",
-            tally.rows,
+            "rows               {} of {} bits, layout {l1},{l2},{nc},{r}\nbits lost          {}\n{}",
+            self.tally.rows,
             head.row_bits(),
-            tally.text()
+            self.source.all_lost(),
+            self.tally.text(&|row| self.source.name(row))
         );
+        if self.ruled_out > 0 {
+            let rows = plural(self.ruled_out, "listed row");
+            let _ = writeln!(text, "ruled out          {rows} with ink in the pad");
+        }
         if let Some(missing) = self.missing() {
             let _ = writeln!(text, "sent but missing   {missing}");
         }
-        let open = self.open();
-        for row in open.iter().take(NAMED) {
-            let lost = plural(self.lost(*row), "bit");
-            let _ = writeln!(text, "{}: {}, {lost} lost", self.name(*row), self.verdict(*row));
+        for (row, verdict) in self.open.iter().take(NAMED) {
+            let lost = plural(self.source.lost(*row), "bit");
+            let _ = writeln!(text, "{}: {}, {lost} lost", self.source.name(*row), verdict.code());
         }
-        if open.len() > NAMED {
-            let _ = writeln!(text, "and {} more rows that were not recovered alone", open.len() - NAMED);
+        if self.open.len() > NAMED {
+            let _ = writeln!(text, "and {} more rows that were not recovered alone", self.open.len() - NAMED);
         }
         text
     }
 
-    fn json(&self, tally: &Tally) -> Json {
-        let head = &self.messages.head;
-        let panels = head.panels as usize;
-        let open = |row: usize| {
-            object([
-                ("row", Json::Count(row / panels)),
-                ("panel", Json::Count(row % panels)),
-                ("lost", Json::Count(self.lost(row))),
-                ("outcome", Json::Text(self.verdict(row))),
-            ])
+    fn json(&self) -> Json {
+        let panels = self.source.messages.head.panels as usize;
+        let name = |row: usize| vec![("row", Json::Count(row / panels)), ("panel", Json::Count(row % panels))];
+        let open = |(row, verdict): &(usize, Verdict)| {
+            let more = [("lost", Json::Count(self.source.lost(*row))), ("outcome", Json::Text(verdict.code()))];
+            let members = name(*row).into_iter().chain(more);
+            Json::Object(members.map(|(name, value)| (String::from(name), value)).collect())
         };
         let mut members = vec![
-            (String::from("rows"), Json::Count(tally.rows)),
-            (String::from("row_bits"), Json::Count(head.row_bits())),
-            (String::from("lost"), Json::Count((0..tally.rows).map(|row| self.lost(row)).sum())),
+            (String::from("rows"), Json::Count(self.tally.rows)),
+            (String::from("row_bits"), Json::Count(self.source.messages.head.row_bits())),
+            (String::from("lost"), Json::Count(self.source.all_lost())),
         ];
-        members.extend(tally.json());
+        members.extend(self.tally.json(&name));
+        members.push((String::from("ruled_out"), Json::Count(self.ruled_out)));
         if let Some(missing) = self.missing() {
             members.push((String::from("missing"), Json::Count(missing)));
         }
-        members.push((String::from("open"), Json::List(self.open().into_iter().map(open).collect())));
+        members.push((String::from("open"), Json::List(self.open.iter().map(open).collect())));
         Json::Object(members)
     }
 }

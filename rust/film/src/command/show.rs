@@ -8,8 +8,8 @@ use dairyhour::MOST_FIELDS;
 use super::write::cut_into;
 use super::{decode_messages, drop, layout_of, plural};
 use crate::args::Show;
-use crate::files;
 use crate::trouble::{Result, Trouble};
+use crate::{files, hex};
 
 pub fn run(args: &Show) -> Result<bool> {
     let name = files::name(&args.file);
@@ -64,8 +64,7 @@ fn show_received(received: &Received, rows: &[usize]) -> String {
     let mut text = drop::text(received);
     for row in rows {
         let found = &received.rows[*row];
-        let packed: String = found.packed.iter().map(|byte| format!("{byte:02X}")).collect();
-        let _ = writeln!(text, "row {row}: {} {packed}", plural(found.bits.into(), "bit"));
+        let _ = writeln!(text, "row {row}: {} {}", plural(found.bits.into(), "bit"), hex::text(&found.packed));
     }
     text
 }
