@@ -11,6 +11,17 @@ Prints a line with the word count and the number of rows, then each row on a lin
 dictionary order. Where the input is refused, prints one line, the word refused and the number of the refusal. It lists at most
 as many rows as 4,096 bytes hold; where there are more, it is refused by 9.
 
+Refusals, by their number:
+   1  message under nine bytes, or another mark
+   2  version not 1
+   3  layout not legal, or w outside 1 to 2,040
+   4  message length not the one its layout gives
+   5  a sum above the length of its string
+   6  a spare bit of the message is 1
+   7  m above n, or n − m above 12
+   8  a row or string of another byte count than its bits need, or a spare bit 1
+   9  more consistent rows than fit whole in the list slice
+
 What it puts out for the bytes that it has read is proved to be what is written here, as the library is proved, for any
 bytes. Reading and writing themselves rest on the C library's read and write, of which it is assumed that they do their part.
 

@@ -52,6 +52,8 @@ pub struct Write {
     #[arg(long, value_parser = layout::parse)]
     pub layout: Option<Layout>,
     #[command(flatten)]
+    pub version: Version,
+    #[command(flatten)]
     pub say: Say,
 }
 
@@ -80,15 +82,18 @@ pub struct Drop {
     #[arg(long, value_parser = layout::parse)]
     pub layout: Option<Layout>,
     #[command(flatten)]
+    pub version: Version,
+    #[command(flatten)]
     pub say: Say,
 }
 
 /// List every row that can have been sent
 ///
 /// The film that is written has the only row of each list, or the first of several; a row that is not listed is left
-/// white. The report counts them and names each row that was not recovered alone; then the exit status is 1.
+/// white. The report counts them and names each row that was not recovered alone; then the exit status is 1. An interrupt ends
+/// the work: the rows that are done are written, the others are left white and marked as not done, and the status is 130.
 #[derive(clap::Args)]
-#[command(after_help = "Example:\n  film list board.rsm board.rx -o recovered.pbm")]
+#[command(after_help = format!("Example:\n  film list board.rsm board.rx -o recovered.pbm\n\n{}", refusals()))]
 pub struct List {
     /// The messages, as `film write` writes them
     #[arg(value_name = "FILM.rsm")]
@@ -102,6 +107,9 @@ pub struct List {
     /// Also write every list as text
     #[arg(long, value_name = "FILE")]
     pub lists: Option<PathBuf>,
+    /// Also write a film that is black where the recovered one is not certain: in every row that was not recovered alone
+    #[arg(long, value_name = "FILE.pbm")]
+    pub mask: Option<PathBuf>,
     /// The film that was sent, where it is known: says whether each list has the row that was sent
     #[arg(long, value_name = "FILM.pbm")]
     pub sent: Option<PathBuf>,
@@ -118,9 +126,12 @@ pub struct Show {
     /// A file of messages or of received rows
     #[arg(value_name = "FILE")]
     pub file: PathBuf,
-    /// Only this row of the line
+    /// Only this row of the film
     #[arg(long, value_name = "ROW")]
     pub row: Option<usize>,
+    /// Only this panel of it
+    #[arg(long, value_name = "PANEL", requires = "row")]
+    pub panel: Option<usize>,
 }
 
 /// Compare two films bit by bit, or a film with its messages
@@ -207,9 +218,19 @@ pub struct Work {
     /// A row that takes longer is given up and reported; its work is stopped. 0: without limit (default: 60, for `film soak` 1)
     #[arg(long, value_name = "SECONDS", value_parser = seconds)]
     pub patience: Option<f64>,
+    /// What is not done after so many seconds is left and marked as not done
+    #[arg(long, value_name = "SECONDS", value_parser = seconds)]
+    pub deadline: Option<f64>,
     /// The program that lists rows in place of this one
     #[arg(long, hide = true)]
     pub worker: Option<PathBuf>,
+}
+
+#[derive(clap::Args)]
+pub struct Version {
+    /// The version of the file: 2 names the film, 1 is for programs that do not know 2
+    #[arg(long, value_name = "VERSION", default_value_t = 2, value_parser = clap::value_parser!(u8).range(1..=2))]
+    pub format: u8,
 }
 
 #[derive(clap::Args)]
@@ -220,6 +241,12 @@ pub struct Say {
     /// Report as JSON
     #[arg(long)]
     pub json: bool,
+}
+
+/// The refusals by their numbers, for the help of a command that lists rows.
+fn refusals() -> String {
+    let line = |number: u32| format!("{number:>4}  {}\n", dairyhour::Refusal::from_number(number).when());
+    format!("Refusals, by their number:\n{}", (1..=9).map(line).collect::<String>())
 }
 
 fn chance(text: &str) -> Result<f64, String> {

@@ -27,7 +27,8 @@ pub fn once(paths: &[&Path]) -> Result<()> {
     }
 }
 
-/// No output may be an input, which it would replace, or another output. Devices and pipes may stand for several.
+/// No output may be an input, which it would replace, or another output, and a file is made for each to see that it can be.
+/// Devices and pipes may stand for several.
 pub fn apart(inputs: &[&Path], outputs: &[&Path]) -> Result<()> {
     let named = inputs.iter().filter(|path| !is_standard(path));
     let read: Vec<PathBuf> = named.filter_map(|path| file(path).ok()?).collect();
@@ -40,6 +41,9 @@ pub fn apart(inputs: &[&Path], outputs: &[&Path]) -> Result<()> {
             Some(file) => written.push(file),
             None => {}
         }
+    }
+    for path in outputs.iter().filter(|path| !is_standard(path)) {
+        container::nameless(path).map_err(|error| Trouble::with(path.display(), error))?;
     }
     Ok(())
 }

@@ -13,6 +13,7 @@ use crate::args::Work;
 use crate::board::Board;
 use crate::hand::{self, Hand};
 use crate::progress::Progress;
+use crate::stop::Stop;
 use crate::trouble::{Result, Trouble};
 
 /// The stack of each thread, in bytes: several times what a list takes.
@@ -153,6 +154,7 @@ impl Lister {
         &self,
         rows: &Arc<R>,
         count: usize,
+        stop: &Stop,
         progress: &mut Progress,
         mut sink: impl FnMut(usize, R::Done) -> Next,
     ) -> Result<Run> {
@@ -160,6 +162,7 @@ impl Lister {
         let board = Arc::new(Board::new(count, jobs));
         start(jobs, &board, || self.thread(rows, &board))?;
         let mut run = Run { done: 0, reached: vec![false; count], trouble: None };
+        let mut enough = false;
         let mut stopped: Option<Instant> = None;
         while stopped.map_or(true, |since| since.elapsed() < GRACE) {
             let news = board.fetch(LOOK);
@@ -167,10 +170,11 @@ impl Lister {
                 run.reach(row);
                 let next = sink(row, done);
                 board.hold(next == Next::Hold);
-                if next == Next::Stop && stopped.is_none() {
-                    stopped = Some(Instant::now());
-                    board.stop();
-                }
+                enough |= next == Next::Stop;
+            }
+            if stopped.is_none() && (enough || stop.is_due()) {
+                stopped = Some(Instant::now());
+                board.stop();
             }
             progress.show(run.done);
             if news.last {

@@ -16,6 +16,7 @@ mod lister;
 mod lists;
 mod picture;
 mod progress;
+mod stop;
 mod tally;
 mod trouble;
 mod verdict;
@@ -30,8 +31,7 @@ use trouble::{Result, Trouble};
 
 fn main() -> ExitCode {
     match run(&Args::parse().command) {
-        Ok(true) => ExitCode::SUCCESS,
-        Ok(false) => ExitCode::from(1),
+        Ok(status) => ExitCode::from(status),
         Err(trouble) => {
             files::complain(&format!("film: {trouble}"));
             ExitCode::from(2)
@@ -39,16 +39,21 @@ fn main() -> ExitCode {
     }
 }
 
-/// Answers whether every row was recovered alone, or every comparison came out the same.
-fn run(command: &Command) -> Result<bool> {
+/// Answers the exit status.
+fn run(command: &Command) -> Result<u8> {
     match command {
-        Command::Write(args) => command::write::run(args),
-        Command::Drop(args) => command::drop::run(args),
+        Command::Write(args) => command::write::run(args).map(status),
+        Command::Drop(args) => command::drop::run(args).map(status),
         Command::List(args) => command::list::run(args),
-        Command::Show(args) => command::show::run(args),
-        Command::Check(args) => command::check::run(args),
-        Command::Plot(args) => command::plot::run(args),
+        Command::Show(args) => command::show::run(args).map(status),
+        Command::Check(args) => command::check::run(args).map(status),
+        Command::Plot(args) => command::plot::run(args).map(status),
         Command::Soak(args) => command::soak::run(args),
-        Command::Worker => worker::serve().map(|()| true).map_err(|error| Trouble::with("worker", error)),
+        Command::Worker => worker::serve().map(|()| 0).map_err(|error| Trouble::with("worker", error)),
     }
+}
+
+/// The status of a command after which every row was recovered alone, or every comparison came out the same, or not.
+pub fn status(well: bool) -> u8 {
+    u8::from(!well)
 }

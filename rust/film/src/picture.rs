@@ -36,7 +36,11 @@ impl Film {
     /// Blackens a row from column `first` on where the first `columns` of these packed bits are 1.
     pub fn put(&mut self, row: usize, first: usize, packed: &[u8], columns: usize) {
         let start = row * bytes_for(self.width) + first / 8;
-        for (place, byte) in packed.iter().take(bytes_for(columns)).enumerate() {
+        let whole = if first % 8 == 0 { columns / 8 } else { 0 };
+        for (to, from) in self.packed[start..].iter_mut().zip(&packed[..whole]) {
+            *to |= from;
+        }
+        for (place, byte) in packed.iter().enumerate().take(bytes_for(columns)).skip(whole) {
             let left = columns - 8 * place;
             let byte = if left < 8 { byte & !(0xFF >> left) } else { *byte };
             let [high, low] = (u16::from(byte) << 8 >> (first % 8)).to_be_bytes();

@@ -18,8 +18,9 @@ pub struct Tally {
     pub several: BTreeMap<usize, usize>,
     /// Lists without a row.
     pub none: usize,
-    /// Refused rows, by the number of the refusal.
+    /// Refused rows, by the number of the refusal, and by what is said of it.
     pub refused: BTreeMap<u32, usize>,
+    refused_words: BTreeMap<String, usize>,
     pub given_up: usize,
     /// Rows at which two workers ended without an answer.
     pub ended: usize,
@@ -27,6 +28,8 @@ pub struct Tally {
     pub not_done: usize,
     /// The time that all of it took.
     pub seconds: f64,
+    /// The time that the rows themselves took, one after the other.
+    pub listing: f64,
     /// The slowest rows, the slowest first.
     pub slowest: Vec<(usize, f64)>,
 }
@@ -38,12 +41,16 @@ impl Tally {
             Verdict::Rows(0) => self.none += 1,
             Verdict::Rows(1) => self.alone += 1,
             Verdict::Rows(count) => *self.several.entry(count).or_default() += 1,
-            Verdict::Refused(number) => *self.refused.entry(number).or_default() += 1,
+            Verdict::Refused(number, _) => {
+                *self.refused.entry(number).or_default() += 1;
+                *self.refused_words.entry(verdict.words()).or_default() += 1;
+            }
             Verdict::Silent(Silence::TooLong) => self.given_up += 1,
             Verdict::Silent(Silence::Ended) => self.ended += 1,
             Verdict::Silent(Silence::NotDone) => self.not_done += 1,
         }
         if verdict != Verdict::Silent(Silence::NotDone) {
+            self.listing += seconds;
             self.slowest.push((row, seconds));
             self.slowest.sort_by(|a, b| b.1.total_cmp(&a.1));
             self.slowest.truncate(SLOWEST);
@@ -89,8 +96,8 @@ impl Tally {
         part(self.given_up, String::from("given up"));
         part(self.ended, String::from("worker ended"));
         part(self.not_done, String::from("not done"));
-        for (number, count) in &self.refused {
-            part(*count, format!("refused by {number}"));
+        for (words, count) in &self.refused_words {
+            part(*count, words.clone());
         }
         if parts.is_empty() {
             String::new()
@@ -115,6 +122,7 @@ impl Tally {
             ("worker_ended", Json::Count(self.ended)),
             ("not_done", Json::Count(self.not_done)),
             ("seconds", Json::Number(self.seconds)),
+            ("listing_seconds", Json::Number(self.listing)),
             ("rows_a_second", Json::Number(self.rows_a_second())),
             ("slowest", Json::List(self.slowest.iter().map(slowest).collect())),
         ]);
@@ -152,6 +160,7 @@ pub fn time(seconds: f64) -> String {
 #[cfg(test)]
 mod tests {
     use super::*;
+    use crate::verdict::Loss;
 
     #[test]
     fn each_kind_is_counted() {
@@ -161,7 +170,7 @@ mod tests {
             (Verdict::Rows(1), 0.1),
             (Verdict::Rows(3), 0.2),
             (Verdict::Rows(0), 0.2),
-            (Verdict::Refused(9), 1.5),
+            (Verdict::Refused(9, Loss::Lost(4)), 1.5),
             (Verdict::Silent(Silence::TooLong), 2.0),
             (Verdict::Silent(Silence::Ended), 2.0),
             (Verdict::Silent(Silence::NotDone), 9.0),
@@ -177,8 +186,9 @@ mod tests {
         let text = tally.text(&|row| format!("row {row}"));
         assert!(text.contains("slowest            row 5 with 2.0 s, row 6 with 2.0 s, row 4 with 1.5 s"), "{text}");
         assert!(text.contains("several rows       1 (size: lists; 3: 1)"), "{text}");
-        let reasons =
-            "not listed         5 (no row fits: 1, given up: 1, worker ended: 1, not done: 1, refused by 9: 1)";
-        assert!(text.contains(reasons), "{text}");
+        let silent = "no row fits: 1, given up: 1, worker ended: 1, not done: 1";
+        let reasons = format!("not listed         5 ({silent}, refused: more rows than a list holds (9): 1)\n");
+        assert!(text.contains(&reasons), "{text}");
+        assert_eq!(tally.listing, 6.5);
     }
 }

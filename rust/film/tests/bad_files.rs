@@ -12,7 +12,7 @@ use common::{ends, folder, made_up, refused};
 fn files(name: &str) -> std::path::PathBuf {
     let folder = folder(name);
     fs::write(folder.join("film.pbm"), made_up(60, 3)).unwrap();
-    ends(0, &folder, "write film.pbm --layout 5,3,4,4 -o film.rsm");
+    ends(0, &folder, "write film.pbm --layout 5,3,4,4 --format 1 -o film.rsm");
     ends(0, &folder, "drop film.pbm --layout 5,3,4,4 --burst 2 -o film.rx");
     folder
 }
@@ -42,11 +42,11 @@ fn bad_messages() {
         (23, 2, "bad: byte 20: the number of panels is 2"),
         (25, 1, "bad: byte 24: the pad is 1"),
         (29, 4, "bad: byte 26: the number of messages is 4"),
-        (31, 8, "bad: byte 30: message 0 has 8 bytes"),
-        (32, 0, "bad: byte 32: message 0 does not start with the mark"),
-        (37, 6, "bad: byte 37: message 0 has another layout"),
+        (31, 8, "bad: byte 30: the message of row 0 has 8 bytes"),
+        (32, 0, "bad: byte 32: the message of row 0 does not start with the mark"),
+        (37, 6, "bad: byte 37: the message of row 0 has another layout"),
         // The first block sum becomes 15, and a block has 12 bits.
-        (41, 0xFF, "bad: byte 32: message 0 is refused 5"),
+        (41, 0xFF, "bad: byte 32: the message of row 0 is refused: a sum above the length of its string (5)"),
     ] {
         let mut bytes = good.clone();
         bytes[place] = byte;
@@ -60,12 +60,22 @@ fn bad_messages() {
     let mut bytes = good.clone();
     bytes[good.len() - 5] |= 1;
     put(&folder, &bytes);
-    assert!(refused(&folder, "list bad film.rx -o out").contains("message 2 is refused 6"));
+    assert!(refused(&folder, "list bad film.rx -o out")
+        .contains("the message of row 2 is refused: a spare bit of the message is 1 (6)"));
     let mut bytes = good.clone();
     bytes[31] -= 1;
     bytes.remove(47);
     put(&folder, &bytes);
-    assert!(refused(&folder, "list bad film.rx -o out").contains("byte 32: message 0 is refused 4"));
+    assert!(refused(&folder, "list bad film.rx -o out")
+        .contains("byte 32: the message of row 0 is refused: message length not the one its layout gives (4)"));
+    // In version 2 another message, though a good one, is not that of the film.
+    ends(0, &folder, "write film.pbm --layout 5,3,4,4 -o film.rsm");
+    let mut bytes = fs::read(folder.join("film.rsm")).unwrap();
+    let place = bytes.len() - 8;
+    bytes[place - 2] ^= 0x10;
+    put(&folder, &bytes);
+    let line = refused(&folder, "list bad film.rx -o out");
+    assert!(line.contains(&format!("bad: byte {place}: the identity of the film is ")), "{line}");
     nothing_is_written(&folder);
 }
 

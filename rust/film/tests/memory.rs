@@ -49,7 +49,7 @@ fn long_lists_take_little_memory() {
     let output = limited(&folder, "list film.rsm film.rx --lists lists -o out.pbm");
     let said = text(&output.stderr);
     assert_eq!(output.status.code(), Some(1), "{said}");
-    assert!(text(&output.stdout).contains("refused by 9: 500"), "{}", text(&output.stdout));
+    assert!(text(&output.stdout).contains("refused: more rows than a list holds (9): 500"), "{}", text(&output.stdout));
     let lists = fs::read_to_string(folder.join("lists")).unwrap();
     assert_eq!(lists.lines().count(), 500 * (1 + 65_536 / 255));
 }

@@ -95,5 +95,5 @@ fn differences_are_found() {
     ends(0, &folder, "write one.pbm --layout 2,1,4,1 -o one.rsm");
     ends(0, &folder, "check one.pbm one.rsm --quiet");
     let report = ends(1, &folder, "check two.pbm one.rsm");
-    assert_eq!(report, "row 0 panel 0: another message\n1 row of 2 messages differ\n");
+    assert_eq!(report, "row 0: another message\n1 row of 2 messages differ\n");
 }

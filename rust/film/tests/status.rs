@@ -28,7 +28,10 @@ fn several_rows_are_status_1() {
     ends(0, &folder, "check film.pbm out.pbm");
     let report = ends(1, &folder, "list film.rsm film.rx --json -o out.pbm");
     assert!(report.contains("\"several\":{\"2\":1}"), "{report}");
-    assert!(report.contains("\"open\":[{\"row\":0,\"panel\":0,\"lost\":2,\"outcome\":\"count 2\"}]"), "{report}");
+    assert!(
+        report.contains("\"open\":[{\"row\":0,\"panel\":0,\"lost\":2,\"too_many\":0,\"outcome\":\"count 2\"}]"),
+        "{report}"
+    );
 }
 
 /// The pad is white: rows of a list with ink in it are neither counted nor written, and marked in the text of the lists.
@@ -84,9 +87,43 @@ fn refused_rows_are_status_1() {
     ends(0, &folder, "write film.pbm -o film.rsm");
     ends(0, &folder, "drop film.pbm --burst 13 -o film.rx");
     let report = ends(1, &folder, "list film.rsm film.rx -o out.pbm");
-    assert!(report.contains("not listed         2 (refused by 7: 2)\n"), "{report}");
+    assert!(report.contains("not listed         2 (refused: more than 12 bits lost (7): 2)\n"), "{report}");
     let film = text(&fs::read(folder.join("out.pbm")).unwrap());
     assert_eq!(film, format!("P4\n60 2\n{}", "\0".repeat(16)));
+}
+
+/// A row with more bits than were sent is said to have so many too many, and not to have lost none.
+#[test]
+fn rows_that_are_too_long_are_said_to_be() {
+    let folder = case_8("longer");
+    let rows = vec![container::Row { bits: 10, packed: vec![0x36, 0xC0] }];
+    fs::write(folder.join("film.rx"), container::Received { row_bits: 8, rows }.encode()).unwrap();
+    let report = ends(1, &folder, "list film.rsm film.rx -o out.pbm");
+    assert!(report.contains("row 0: refused: more bits than were sent (7), 2 bits too many\n"), "{report}");
+    assert!(report.contains("not listed         1 (refused: more bits than were sent (7): 1)\n"), "{report}");
+    let report = ends(1, &folder, "list film.rsm film.rx --json -o out.pbm");
+    assert!(report.contains("\"lost\":0,\"too_many\":2,\"outcome\":\"refused 7\""), "{report}");
+    let shown = ends(0, &folder, "show film.rx");
+    assert!(
+        shown.contains("bits lost  0 (bits lost: rows; )\nbits too many  2 (bits too many: rows; 2: 1)\n"),
+        "{shown}"
+    );
+}
+
+/// The refusals stand with their numbers and words in the README, in the help that the man page is made of, and in the
+/// page of rowlist.
+#[test]
+fn the_table_of_refusals() {
+    let top = std::path::Path::new(env!("CARGO_MANIFEST_DIR")).join("../..");
+    let readme = fs::read_to_string(top.join("README.md")).unwrap();
+    let page = fs::read_to_string(top.join("tools/rowlist-help.sh")).unwrap();
+    let help = ends(0, &folder("refusals"), "list --help");
+    for number in 1..=10 {
+        let when = dairyhour::Refusal::from_number(number).when();
+        assert!(readme.contains(&format!("| {number} | {when} |")), "{number}");
+        assert!(number == 10 || help.contains(&format!("{number:>4}  {when}\n")), "{number}: {help}");
+        assert!(number == 10 || page.contains(&format!("{number:>4}  {when}\n")), "{number}: {page}");
+    }
 }
 
 /// A row that is refused by 9, since its list is too long, is left white too; the text of the lists has the first of its
@@ -98,7 +135,7 @@ fn rows_with_too_long_lists_are_left_white() {
     ends(0, &folder, "write film.pbm --layout 15,17,8,0 -o film.rsm");
     ends(0, &folder, "drop film.pbm --layout 15,17,8,0 --burst 4 -o film.rx");
     let report = ends(1, &folder, "list film.rsm film.rx --lists lists.txt -o out.pbm");
-    assert!(report.contains("not listed         1 (refused by 9: 1)\n"), "{report}");
+    assert!(report.contains("not listed         1 (refused: more rows than a list holds (9): 1)\n"), "{report}");
     assert_eq!(fs::read_to_string(folder.join("lists.txt")).unwrap().lines().count(), 1 + 65_536 / 255);
     assert_eq!(fs::read(folder.join("out.pbm")).unwrap(), [&b"P4\n2040 1\n"[..], &[0; 255]].concat());
 }
@@ -123,6 +160,9 @@ fn bad_usage_is_status_2() {
         "list film.rsm film.rx -o x.pbm --jobs 257",
         "plot film.pbm film.rx film.pbm",
         "soak --most 13",
+        "soak --case 1 --rows 2",
+        "show film.rsm --panel 0",
+        "write film.pbm -o x.rsm --format 3",
     ] {
         let output = film(&folder, words);
         assert_eq!(output.status.code(), Some(2), "film {words}");
@@ -134,6 +174,16 @@ fn bad_usage_is_status_2() {
 #[test]
 fn files_that_do_not_go_together_are_status_2() {
     let folder = case_8("together");
+    fs::write(folder.join("third.pbm"), "P1\n8 1\n0 0 1 1 0 1 1 1\n").unwrap();
+    ends(0, &folder, "drop third.pbm --layout 2,1,4,0 --burst 1 -o third.rx");
+    let line = refused(&folder, "list film.rsm third.rx -o x.pbm");
+    assert!(line.starts_with("film: third.rx: these are rows of the film "), "{line}");
+    ends(0, &folder, "drop third.pbm --layout 2,1,4,0 --burst 1 --format 1 -o third.rx");
+    film(&folder, "list film.rsm third.rx -o y.pbm");
+    assert!(folder.join("y.pbm").exists(), "a file without the identity of its film is read");
+    ends(0, &folder, "write film.pbm --layout 2,1,4,0 --format 1 -o old.rsm");
+    ends(0, &folder, "drop film.pbm --layout 2,1,4,0 --burst 1 -o new.rx");
+    ends(0, &folder, "list old.rsm new.rx -o y.pbm");
     assert!(refused(&folder, "write none.pbm -o x.rsm").contains("none.pbm: "));
     assert!(refused(&folder, "list - - -o x.pbm").contains("only one"));
     assert!(refused(&folder, "show film.rsm --row 1").contains("there is no row 1"));
@@ -191,10 +241,81 @@ fn help_is_status_0_and_has_an_example() {
     let folder = folder("help");
     for command in ["write", "drop", "list", "show", "check", "plot", "soak"] {
         let help = ends(0, &folder, &format!("{command} --help"));
-        assert!(help.contains(&format!("film {command} board")) || help.contains("film soak --rows"), "{help}");
+        let example = ["board", "--rows"].iter().any(|word| help.contains(&format!("film {command} {word}")));
+        assert!(example, "{help}");
     }
     assert!(ends(0, &folder, "--help").contains("Exit status: 0"));
     assert!(ends(0, &folder, "--version").starts_with("film "));
+}
+
+/// Every command calls a row by its row of the film, and its panel where there are several.
+#[test]
+fn rows_and_panels_have_one_name() {
+    let folder = folder("names");
+    fs::write(folder.join("film.pbm"), common::made_up(16, 2)).unwrap();
+    ends(0, &folder, "write film.pbm --layout 2,1,4,0 -o film.rsm");
+    ends(0, &folder, "drop film.pbm --layout 2,1,4,0 --burst 8 -o film.rx");
+    let report = ends(1, &folder, "list film.rsm film.rx --lists lists -o out.pbm");
+    assert!(report.contains("\nrow 1 panel 0: ") && report.contains("slowest            row "), "{report}");
+    assert_eq!(report.matches(" panel ").count(), 4 + 3, "{report}");
+    assert!(fs::read_to_string(folder.join("lists")).unwrap().contains("\nrow 1 panel 0 received 0 "));
+    let json = ends(1, &folder, "list film.rsm film.rx --json -o out.pbm");
+    assert_eq!((json.matches("\"row\":").count(), json.matches("\"panel\":").count()), (4 + 3, 4 + 3), "{json}");
+    fs::write(
+        folder.join("other.pbm"),
+        "P1\n16 2\n1 1 1 1 1 1 1 1\n0 0 0 0 0 0 0 0\n1 0 1 0 1 0 1 0\n0 0 0 1 1 1 0 0\n",
+    )
+    .unwrap();
+    assert!(ends(1, &folder, "check other.pbm film.rsm").contains("row 1 panel 0: another message\n"));
+    for file in ["film.rsm", "film.rx"] {
+        let shown = ends(0, &folder, &format!("show {file} --row 1"));
+        let names: Vec<&str> = shown.lines().filter(|line| line.starts_with("row ")).collect();
+        assert!(names.len() == 2 && names[0].starts_with("row 1 panel 0"), "{shown}");
+        let shown = ends(0, &folder, &format!("show {file} --row 1 --panel 1"));
+        assert!(shown.contains("\nrow 1 panel 1") && !shown.contains("panel 0"), "{shown}");
+        let line = refused(&folder, &format!("show {file} --row 2 --panel 1"));
+        assert!(line.contains("there is no row 2 panel 1: the file has 2 rows of 2 panels"), "{line}");
+    }
+    let mut bytes = fs::read(folder.join("film.rsm")).unwrap();
+    // The length of the third message: each of them has 11 bytes.
+    bytes[30 + 2 * 13 + 1] = 8;
+    fs::write(folder.join("bad"), bytes).unwrap();
+    assert!(refused(&folder, "show bad").contains("byte 56: the message of row 1 panel 0 has 8 bytes"));
+}
+
+/// Outputs are tried before the work: no worker is started, and no input is read.
+#[test]
+fn outputs_are_tried_before_the_work() {
+    let folder = case_8("tried");
+    let script = common::worker(&folder, "touch began");
+    let long = "n".repeat(250);
+    for outputs in [format!("-o {long}"), format!("-o out.pbm --lists {long}"), format!("-o out.pbm --mask {long}")] {
+        let line = refused(&folder, &format!("list film.rsm film.rx {outputs} --worker {}", script.display()));
+        assert!(line.contains(&format!("{long}: ")), "{line}");
+    }
+    assert!(!folder.join("began").exists() && !folder.join("out.pbm").exists());
+    assert!(refused(&folder, "plot none.pbm film.rx none.pbm -o picture.jpeg").contains(".png or .svg"));
+    assert!(common::partial_files(&folder).is_empty());
+}
+
+/// The mask is black in the columns of every row that was not recovered alone.
+#[test]
+fn rows_that_are_not_certain_are_masked() {
+    let folder = folder("mask");
+    fs::write(folder.join("film.pbm"), common::made_up(13, 2)).unwrap();
+    ends(0, &folder, "write film.pbm --layout 2,1,4,0 -o film.rsm");
+    let row = |bits, packed| container::Row { bits, packed };
+    let mut received = container::Received { row_bits: 8, rows: vec![row(0, vec![]); 4] };
+    let sent = container::Messages::decode(&fs::read(folder.join("film.rsm")).unwrap()).unwrap();
+    let mut list = [0; 16];
+    // What arrived of the second row's first panel is whole: the only row of its message with eight bits.
+    let found =
+        (0..=255_u8).find(|packed| dairyhour::list(&sent.messages[2], &[*packed], 8, &mut list) == Ok(1)).unwrap();
+    received.rows[2] = row(8, vec![found]);
+    fs::write(folder.join("film.rx"), received.encode()).unwrap();
+    ends(1, &folder, "list film.rsm film.rx -o out.pbm --mask mask.pbm");
+    let mask = fs::read(folder.join("mask.pbm")).unwrap();
+    assert_eq!(mask, [&b"P4\n13 2\n"[..], &[0xFF, 0xF8, 0x00, 0xF8]].concat());
 }
 
 /// `-` is standard input and output, and the report then goes to standard error.
@@ -217,7 +338,7 @@ fn standard_input_and_output() {
     let shown = film_with(&folder, "show -", &file("film.rsm"));
     assert!(text(&shown.stdout).contains("  block sums         2 0\n  chunk-string sums  2\n  checks             \n"));
     let shown = film_with(&folder, "show -", &file("film.rx"));
-    assert!(text(&shown.stdout).contains("row 0: 6 bits 3C\n"));
+    assert!(text(&shown.stdout).contains("row 0 of the line: 6 bits 3C\n"));
     assert_eq!(film_with(&folder, "check - out.pbm", &file("film.pbm")).status.code(), Some(0));
     let picture = film(&folder, "plot film.pbm film.rx out.pbm -o -").stdout;
     assert!(picture.starts_with(b"\x89PNG\r\n"));

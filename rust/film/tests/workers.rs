@@ -180,6 +180,67 @@ fn a_killed_tool_leaves_nothing_half_written() {
     assert!(common::partial_files(&folder).is_empty());
 }
 
+/// After an interrupt the rows that are done are written and the others marked, with status 130.
+#[test]
+fn an_interrupt_leaves_what_is_done() {
+    let folder = files("interrupt");
+    // This worker answers the first row by an empty list, and then nothing.
+    let script = worker(&folder, "[ -e began ] || head -c 20 /dev/zero\ntouch began\nexec cat >/dev/null");
+    let began = || folder.join("began").exists();
+    let report = interrupted(&folder, &["--worker", &script.display().to_string()], began);
+    assert!(report.contains("not listed         3 (no row fits: 1, not done: 2)\n"), "{report}");
+    // In the tool's own process a list cannot be stopped, and is left as it is.
+    endless(&folder);
+    interrupted(&folder, &["--patience", "0"], || true);
+}
+
+/// Interrupts a tool that lists, once this is so, and answers its report.
+fn interrupted(folder: &Path, words: &[&str], so: impl Fn() -> bool) -> String {
+    let outputs = ["-o", "out.pbm", "--lists", "lists", "--mask", "mask.pbm", "--jobs", "1"];
+    let mut command = Command::new(FILM);
+    command.current_dir(folder).args(["list", "film.rsm", "film.rx"]).args(outputs).args(words);
+    let child = command.stdout(Stdio::piped()).spawn().unwrap();
+    until("the work begins", so);
+    sleep(Duration::from_millis(500));
+    assert!(Command::new("kill").args(["-INT", &child.id().to_string()]).status().unwrap().success());
+    let output = child.wait_with_output().unwrap();
+    let report = common::text(&output.stdout);
+    assert_eq!(output.status.code(), Some(130), "{report}");
+    assert!(report.contains("not done: "), "{report}");
+    let lists = fs::read_to_string(folder.join("lists")).unwrap();
+    assert!(lists.contains("\nrow 2 received ") && lists.ends_with(" not done\n"), "{lists}");
+    assert!(fs::read(folder.join("mask.pbm")).unwrap().last() > Some(&0));
+    assert!(folder.join("out.pbm").exists() && common::partial_files(folder).is_empty());
+    report
+}
+
+/// The files of a film of three rows: the first is whole, and the lists of the others take longer than half a minute.
+fn endless(folder: &Path) {
+    fs::write(folder.join("film.pbm"), [&b"P4\n2040 3\n"[..], &[0xFF; 765]].concat()).unwrap();
+    ends(0, folder, "write film.pbm --layout 15,17,8,0 -o film.rsm");
+    let row = |bits, packed: Vec<u8>| container::Row { bits, packed };
+    let long = row(2028, [&[0xFF; 253][..], &[0xF0]].concat());
+    let rows = vec![row(2040, vec![0xFF; 255]), long.clone(), long];
+    fs::write(folder.join("film.rx"), container::Received { row_bits: 2040, rows }.encode()).unwrap();
+}
+
+/// The deadline ends the work in the same way, with status 1, in workers and without them.
+#[test]
+fn a_deadline_leaves_what_is_done() {
+    let folder = files("deadline");
+    endless(&folder);
+    for patience in ["60", "0"] {
+        let words =
+            format!("list film.rsm film.rx --jobs 1 --patience {patience} --deadline 2 -o out.pbm --lists lists");
+        let report = ends(1, &folder, &words);
+        assert!(report.contains("recovered alone    1\n"), "{report}");
+        assert!(report.contains("not listed         2 (not done: 2)\n"), "{report}");
+        let lists = fs::read_to_string(folder.join("lists")).unwrap();
+        assert!(lists.starts_with("row 0 received 2040 count 1\nFFFF"), "{lists}");
+        assert!(lists.ends_with("row 1 received 2028 not done\nrow 2 received 2028 not done\n"), "{lists}");
+    }
+}
+
 fn start_worker() -> Child {
     Command::new(FILM).arg("worker").stdin(Stdio::piped()).stdout(Stdio::piped()).spawn().unwrap()
 }

@@ -60,10 +60,9 @@ fn with_messages(film: &Film, name: &str, bytes: &[u8]) -> Result<Found> {
         return Err(Trouble::with(name, format!("{size}, the film has {} × {}", film.width, film.height)));
     }
     let mut rows = Vec::new();
-    let panels = head.panels as usize;
     for (row, (packed, message)) in cut::rows(film, head).iter().zip(&messages.messages).enumerate() {
         if message_of(layout_of(head.layout), packed)? != *message {
-            rows.push((format!("row {} panel {}: another message", row / panels, row % panels), 0));
+            rows.push((format!("{}: another message", head.name(row)), 0));
         }
     }
     Ok(Found { compared: plural(messages.messages.len(), "message"), rows })

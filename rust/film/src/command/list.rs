@@ -6,18 +6,20 @@ use std::path::{Path, PathBuf};
 use std::sync::Arc;
 use std::time::Instant;
 
-use container::{Messages, Received};
+use container::{Messages, Origin, Received};
 
-use super::{plural, read_film, read_messages, read_received};
+use super::{loss_of, plural, read_film, read_messages, read_received};
 use crate::args::List;
 use crate::json::Json;
 use crate::lister::{row_bytes, Lister, Next, Outcome, Rows, Silence, Task};
 use crate::lists::Lists;
 use crate::picture::Film;
 use crate::progress::Progress;
+use crate::status;
+use crate::stop::{Stop, INTERRUPTED};
 use crate::tally::Tally;
 use crate::trouble::{Result, Trouble};
-use crate::verdict::Verdict;
+use crate::verdict::{Loss, Verdict};
 use crate::{cut, files, hex, picture};
 
 /// How many rows that were not recovered alone are named in the report.
@@ -26,18 +28,25 @@ const NAMED: usize = 20;
 /// How many seconds a row may take unless it is said.
 const PATIENCE: f64 = 60.0;
 
-pub fn run(args: &List) -> Result<bool> {
+pub fn run(args: &List) -> Result<u8> {
     let sent: Option<&Path> = args.sent.as_deref();
     let inputs: Vec<&Path> = [&args.messages, &args.received].into_iter().map(PathBuf::as_path).chain(sent).collect();
-    let outputs: Vec<&Path> =
-        [Some(&args.output), args.lists.as_ref()].into_iter().flatten().map(PathBuf::as_path).collect();
+    let outputs: Vec<&Path> = [Some(&args.output), args.lists.as_ref(), args.mask.as_ref()]
+        .into_iter()
+        .flatten()
+        .map(PathBuf::as_path)
+        .collect();
     files::once(&inputs)?;
     files::apart(&inputs, &outputs)?;
     let source = Arc::new(source(args)?);
     let mut lists = args.lists.as_deref().map(Lists::new).transpose()?;
-    let (report, trouble) = list(args, &source, &mut lists)?;
+    let stop = Stop::new(args.work.deadline)?;
+    let (report, trouble) = list(args, &source, &stop, &mut lists)?;
 
     files::write(&args.output, &picture::encode(&report.film))?;
+    if let Some(path) = &args.mask {
+        files::write(path, &picture::encode(&report.mask()))?;
+    }
     lists.map_or(Ok(()), Lists::finish)?;
     let output = outputs.into_iter().find(|path| files::is_standard(path));
     match (args.say.json, args.say.quiet) {
@@ -47,12 +56,18 @@ pub fn run(args: &List) -> Result<bool> {
     }
     match trouble {
         Some(trouble) => Err(trouble),
-        None => Ok(report.tally.alone == report.tally.rows && report.missing == 0),
+        None if stop.is_interrupted() => Ok(INTERRUPTED),
+        None => Ok(status(report.tally.alone == report.tally.rows && report.missing == 0)),
     }
 }
 
 /// Lists all rows. The trouble is why rows were left out, where nothing could list them any more.
-fn list<'a>(args: &List, source: &'a Arc<Source>, lists: &mut Option<Lists>) -> Result<(Report<'a>, Option<Trouble>)> {
+fn list<'a>(
+    args: &List,
+    source: &'a Arc<Source>,
+    stop: &Stop,
+    lists: &mut Option<Lists>,
+) -> Result<(Report<'a>, Option<Trouble>)> {
     let count = source.received.rows.len();
     let mut report = Report::new(source);
     let mut take = |row: usize, listed: Listed| {
@@ -68,8 +83,13 @@ fn list<'a>(args: &List, source: &'a Arc<Source>, lists: &mut Option<Lists>) -> 
         }
     };
     let began = Instant::now();
-    let run =
-        Lister::new(&args.work, PATIENCE)?.run(source, count, &mut Progress::new(count, args.say.quiet), &mut take)?;
+    let run = Lister::new(&args.work, PATIENCE)?.run(
+        source,
+        count,
+        stop,
+        &mut Progress::new(count, args.say.quiet),
+        &mut take,
+    )?;
     let seconds = began.elapsed().as_secs_f64();
     for row in run.rest() {
         take(row, source.done(row, Outcome { answer: Err(Silence::NotDone), seconds: 0.0 }));
@@ -81,24 +101,30 @@ fn list<'a>(args: &List, source: &'a Arc<Source>, lists: &mut Option<Lists>) -> 
 /// Reads the files, and sees whether they belong together.
 fn source(args: &List) -> Result<Source> {
     let messages = read_messages(&args.messages)?;
-    let received = read_received(&args.received)?;
-    fit(&messages, &received)?;
+    let (received, origin) = read_received(&args.received)?;
+    fit(&messages, &received, origin).map_err(|what| Trouble::with(files::name(&args.received), what))?;
     let sent = args.sent.as_deref().map(|path| sent_film(&messages, path)).transpose()?;
     Ok(Source { messages, received, sent, lists: args.lists.is_some() })
 }
 
-/// Are these the received rows of the film that the messages belong to?
-fn fit(messages: &Messages, received: &Received) -> Result<()> {
+/// Are these the received rows of the film that the messages belong to? Says why not.
+fn fit(messages: &Messages, received: &Received, origin: Option<Origin>) -> std::result::Result<(), String> {
     let (rows, bits) = (messages.messages.len(), messages.head.row_bits());
     if bits != usize::from(received.row_bits) {
         let sent = received.row_bits;
-        return Err(Trouble::new(format!("the messages are for rows of {bits} bits, but rows of {sent} were sent")));
+        return Err(format!("the messages are for rows of {bits} bits, but rows of {sent} were sent"));
     }
     if rows != received.rows.len() {
         let arrived = plural(received.rows.len(), "row");
-        return Err(Trouble::new(format!("there are {}, but {arrived} arrived", plural(rows, "message"))));
+        return Err(format!("there are {}, but {arrived} arrived", plural(rows, "message")));
     }
-    Ok(())
+    match origin {
+        Some(Origin { identity, .. }) if identity != messages.identity() => {
+            let film = messages.identity();
+            Err(format!("these are rows of the film {identity:08X}, but the messages are those of the film {film:08X}"))
+        }
+        _ => Ok(()),
+    }
 }
 
 /// The film that was sent.
@@ -150,7 +176,7 @@ impl Rows for Source {
         let found = outcome.answer.as_ref().map_or(&[][..], |answer| &answer.rows);
         let found = || found.chunks_exact(row_bytes(&self.messages.messages[row]));
         let possible = || found().filter(|packed| !self.inks_pad(row, packed));
-        let verdict = Verdict::new(&outcome, possible().count());
+        let verdict = Verdict::new(&outcome, self.loss(row), possible().count());
         let listed = matches!(verdict, Verdict::Rows(_));
         let missing = |sent: &Film| {
             let sent = cut::row(sent, &self.messages.head, row);
@@ -172,20 +198,16 @@ impl Source {
         cut::inks_pad(&self.messages.head, row, packed)
     }
 
-    fn lost(&self, row: usize) -> usize {
-        usize::from(self.received.row_bits.saturating_sub(self.received.rows[row].bits))
+    fn loss(&self, row: usize) -> Loss {
+        loss_of(&self.received, row)
     }
 
     fn all_lost(&self) -> usize {
-        (0..self.received.rows.len()).map(|row| self.lost(row)).sum()
+        (0..self.received.rows.len()).map(|row| self.loss(row).lost()).sum()
     }
 
-    /// Which row of the film, and which panel where there are several.
     fn name(&self, row: usize) -> String {
-        match self.messages.head.panels as usize {
-            1 => format!("row {row}"),
-            panels => format!("row {} panel {}", row / panels, row % panels),
-        }
+        self.messages.head.name(row)
     }
 
     /// A list: a line that says which row, how many of its bits arrived and what the library answered, then its rows, each in
@@ -193,7 +215,8 @@ impl Source {
     fn text<'a>(&self, row: usize, outcome: &Outcome, found: impl Iterator<Item = &'a [u8]>) -> String {
         let count = outcome.answer.as_ref().map_or(0, |answer| answer.count);
         let bits = self.received.rows[row].bits;
-        let mut text = format!("{} received {bits} {}\n", self.name(row), Verdict::new(outcome, count).code());
+        let verdict = Verdict::new(outcome, self.loss(row), count);
+        let mut text = format!("{} received {bits} {}\n", self.name(row), verdict.code());
         for packed in found {
             hex::push(&mut text, packed);
             text.push_str(if self.inks_pad(row, packed) { " pad\n" } else { "\n" });
@@ -241,6 +264,17 @@ impl<'a> Report<'a> {
         self.open.sort_by_key(|(row, _)| *row);
     }
 
+    /// A film that is black where the rows are that were not recovered alone.
+    fn mask(&self) -> Film {
+        let head = &self.source.messages.head;
+        let black = vec![0xFF; container::bytes_for(head.row_bits())];
+        let mut mask = Film::blank(self.film.width, self.film.height);
+        for (row, _) in &self.open {
+            cut::put(&mut mask, head, *row, &black);
+        }
+        mask
+    }
+
     /// How many lists lack the row that was sent, where that is known.
     fn missing(&self) -> Option<usize> {
         self.source.sent.as_ref().map(|_| self.missing)
@@ -264,8 +298,7 @@ impl<'a> Report<'a> {
             let _ = writeln!(text, "sent but missing   {missing}");
         }
         for (row, verdict) in self.open.iter().take(NAMED) {
-            let lost = plural(self.source.lost(*row), "bit");
-            let _ = writeln!(text, "{}: {}, {lost} lost", self.source.name(*row), verdict.code());
+            let _ = writeln!(text, "{}: {}, {}", self.source.name(*row), verdict.words(), self.source.loss(*row));
         }
         if self.open.len() > NAMED {
             let _ = writeln!(text, "and {} more rows that were not recovered alone", self.open.len() - NAMED);
@@ -277,7 +310,12 @@ impl<'a> Report<'a> {
         let panels = self.source.messages.head.panels as usize;
         let name = |row: usize| vec![("row", Json::Count(row / panels)), ("panel", Json::Count(row % panels))];
         let open = |(row, verdict): &(usize, Verdict)| {
-            let more = [("lost", Json::Count(self.source.lost(*row))), ("outcome", Json::Text(verdict.code()))];
+            let loss = self.source.loss(*row);
+            let more = [
+                ("lost", Json::Count(loss.lost())),
+                ("too_many", Json::Count(loss.too_many())),
+                ("outcome", Json::Text(verdict.code())),
+            ];
             let members = name(*row).into_iter().chain(more);
             Json::Object(members.map(|(name, value)| (String::from(name), value)).collect())
         };

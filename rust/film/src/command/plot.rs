@@ -32,8 +32,9 @@ pub fn run(args: &Plot) -> Result<bool> {
     let outputs: Vec<&Path> = args.output.iter().map(PathBuf::as_path).collect();
     files::once(&inputs)?;
     files::apart(&inputs, &outputs)?;
+    outputs.iter().try_for_each(|output| format(output).map(|_| ()))?;
     let sent = read_film(&args.sent)?;
-    let received = read_received(&args.received)?;
+    let (received, _) = read_received(&args.received)?;
     let recovered = read_film(&args.recovered)?;
     let scene = Scene::new(&sent, &received, &recovered, args.width)?;
     for output in &args.output {
@@ -44,10 +45,22 @@ pub fn run(args: &Plot) -> Result<bool> {
 
 /// The bytes of the picture in the format that the ending of its name asks for.
 fn drawn(scene: &Scene, output: &Path) -> Result<Vec<u8>> {
+    match format(output)? {
+        Format::Svg => svg(scene),
+        Format::Png => png(scene),
+    }
+}
+
+enum Format {
+    Png,
+    Svg,
+}
+
+fn format(output: &Path) -> Result<Format> {
     let ending = output.extension().map_or(String::new(), |ending| ending.to_string_lossy().to_lowercase());
     match (&ending[..], files::is_standard(output)) {
-        ("svg", _) => svg(scene),
-        ("png", _) | (_, true) => png(scene),
+        ("svg", _) => Ok(Format::Svg),
+        ("png", _) | (_, true) => Ok(Format::Png),
         _ => Err(Trouble::with(output.display(), "a picture has the ending .png or .svg")),
     }
 }

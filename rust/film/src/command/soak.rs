@@ -14,15 +14,17 @@ use reference::list::comes_from;
 use reference::random::Random;
 use reference::samples::{lose, row, Kind, Losses};
 
-use super::{layout_of, message_of, plural, read_film};
+use super::{layout_of, message_of, read_film};
 use crate::args::Soak;
 use crate::json::Json;
 use crate::lister::{Answer, Lister, Next, Outcome, Rows, Silence, Task};
 use crate::picture::Film;
 use crate::progress::Progress;
+use crate::status;
+use crate::stop::{Stop, INTERRUPTED};
 use crate::tally::{time, Tally};
 use crate::trouble::Result;
-use crate::verdict::Verdict;
+use crate::verdict::{refusal, Loss, Verdict};
 use crate::{cut, files, hex};
 
 /// The layouts of made-up rows.
@@ -34,14 +36,16 @@ const PATIENCE: f64 = 1.0;
 /// How many rows that were given up are described.
 const DESCRIBED: usize = 20;
 
-pub fn run(args: &Soak) -> Result<bool> {
+pub fn run(args: &Soak) -> Result<u8> {
     let films = args.films.iter().map(|path| film(args, path)).collect::<Result<Vec<_>>>()?;
     let (first, count) = args.case.map_or((0, args.rows), |number| (number, 1));
-    let cases = Cases { seed: args.seed, most: args.most.into(), layout: args.layout, films, first };
-    let mut report = Report { describe: args.case.is_some(), ..Report::default() };
+    let cases =
+        Cases { seed: args.seed, most: args.most.into(), layout: args.layout, films, first, show: args.case.is_some() };
+    let mut report = Report::default();
     let began = Instant::now();
     let mut progress = Progress::new(count, args.say.quiet);
-    let run = Lister::new(&args.work, PATIENCE)?.run(&Arc::new(cases), count, &mut progress, |row, tried| {
+    let stop = Stop::new(args.work.deadline)?;
+    let run = Lister::new(&args.work, PATIENCE)?.run(&Arc::new(cases), count, &stop, &mut progress, |row, tried| {
         report.count(first + row, tried);
         if report.faults.is_empty() {
             Next::Go
@@ -59,7 +63,8 @@ pub fn run(args: &Soak) -> Result<bool> {
         files::complain(fault);
     }
     run.trouble.map_or(Ok(()), Err)?;
-    Ok(report.is_sound() && !(args.strict && report.tally.given_up > 0))
+    let sound = report.is_sound() && !(args.strict && report.tally.given_up > 0);
+    Ok(if sound && stop.is_interrupted() { INTERRUPTED } else { status(sound) })
 }
 
 /// A film whose rows are tried.
@@ -84,6 +89,8 @@ struct Cases {
     films: Vec<Tape>,
     /// The number of the first case.
     first: usize,
+    /// Is each case to be shown?
+    show: bool,
 }
 
 /// A row as it is sent and as it is received.
@@ -105,9 +112,10 @@ struct Tried {
     seconds: f64,
     /// The case, where the sent row is missing or a listed row is wrong.
     fault: Option<String>,
-    /// The case in a line, and with all that is needed to try it elsewhere.
-    line: String,
-    whole: String,
+    /// The case in a line, where it was given up.
+    line: Option<String>,
+    /// The case with all that is needed to try it elsewhere, where that is asked for.
+    shown: Option<String>,
 }
 
 impl Rows for Cases {
@@ -122,14 +130,22 @@ impl Rows for Cases {
         let case = self.case(self.first + row);
         let Case { layout, sent, received, message, .. } = &case;
         let answer = outcome.answer.as_ref();
-        let verdict = Verdict::new(&outcome, answer.map_or(0, |answer| answer.count));
+        let loss = Loss::new(sent.len(), received.len());
+        let verdict = Verdict::new(&outcome, loss, answer.map_or(0, |answer| answer.count));
         let what = match verdict {
             Verdict::Silent(Silence::Ended) => Some(String::from("two workers ended at this row")),
             _ => answer.ok().and_then(|answer| wrong(answer, layout, message, sent, received)),
         };
         let fault = what.map(|what| format!("{}: {what}\n{}", case.name(self.seed), case.whole()));
-        let (line, whole) = (case.line(&outcome, verdict), case.whole());
-        Tried { lost: sent.len() - received.len(), verdict, seconds: outcome.seconds, fault, line, whole }
+        let line = || case.line(&outcome, verdict, loss);
+        Tried {
+            lost: loss.lost(),
+            verdict,
+            seconds: outcome.seconds,
+            fault,
+            line: Some(verdict).filter(|verdict| *verdict == Verdict::Silent(Silence::TooLong)).map(|_| line()),
+            shown: self.show.then(|| format!("{}\n{}\n", line(), case.whole())),
+        }
     }
 }
 
@@ -158,7 +174,7 @@ impl Cases {
         for Tape { name, film, head } in &self.films {
             if number < head.rows() {
                 let sent = unpack(&cut::row(film, head, number), head.row_bits());
-                return (format!("row {number} of {name}"), layout_of(head.layout), sent);
+                return (format!("{} of {name}", head.name(number)), layout_of(head.layout), sent);
             }
             number -= head.rows();
         }
@@ -179,15 +195,11 @@ impl Case {
     }
 
     /// What it is and what came out, in a line.
-    fn line(&self, outcome: &Outcome, verdict: Verdict) -> String {
+    fn line(&self, outcome: &Outcome, verdict: Verdict, loss: Loss) -> String {
         let reference::Layout { l1, l2, nc, r } = self.layout;
-        let lost = plural(self.sent.len() - self.received.len(), "bit");
         let (from, losses) = (&self.from, self.losses);
-        let (came, took) = (verdict.code(), time(outcome.seconds));
-        format!(
-            "case {}: {from}, layout {l1},{l2},{nc},{r}, {lost} lost ({losses:?}): {came} after {took}",
-            self.number
-        )
+        let (came, took) = (verdict.words(), time(outcome.seconds));
+        format!("case {}: {from}, layout {l1},{l2},{nc},{r}, {loss} ({losses:?}): {came} after {took}", self.number)
     }
 
     /// All that is needed to try a case elsewhere.
@@ -211,7 +223,7 @@ fn wrong(
     let rows: Vec<Vec<bool>> =
         answer.rows.chunks_exact(container::bytes_for(sent.len())).map(|row| unpack(row, sent.len())).collect();
     if !matches!(answer.refusal, 0 | 9) {
-        return Some(format!("it was refused by {}", answer.refusal));
+        return Some(format!("it was {}", refusal(answer.refusal, Loss::new(sent.len(), received.len()))));
     }
     if answer.refusal == 0 && answer.count != rows.len() {
         return Some(format!("the count is {}, but there are {} rows", answer.count, rows.len()));
@@ -237,9 +249,8 @@ struct Report {
     faults: Vec<String>,
     /// The first rows that were given up.
     given_up: Vec<String>,
-    /// Describe each case.
-    describe: bool,
-    described: String,
+    /// What is shown of the cases.
+    shown: String,
 }
 
 impl Report {
@@ -247,12 +258,9 @@ impl Report {
         self.tally.count(number, tried.verdict, tried.seconds);
         *self.by_losses.entry(tried.lost).or_default() += 1;
         self.faults.extend(tried.fault);
-        if self.describe {
-            let _ = writeln!(self.described, "{}\n{}", tried.line, tried.whole);
-        }
-        if tried.verdict == Verdict::Silent(Silence::TooLong) && self.given_up.len() < DESCRIBED {
-            self.given_up.push(tried.line);
-        }
+        self.shown.extend(tried.shown);
+        let room = DESCRIBED - self.given_up.len();
+        self.given_up.extend(tried.line.into_iter().take(room));
     }
 
     /// No row is missing or wrong, and no worker broke down. A row that was given up says nothing.
@@ -266,7 +274,7 @@ impl Report {
         let given_up: String = self.given_up.iter().map(|line| format!("{line}\n")).collect();
         format!(
             "{}rows tried         {} (bits lost: rows; {})\n{}{given_up}verdict            {verdict}\n",
-            self.described,
+            self.shown,
             self.tally.rows,
             parts.join(", "),
             self.tally.text(&|number| format!("case {number}"))
@@ -291,6 +299,18 @@ impl Report {
 mod tests {
     use super::*;
 
+    /// What is kept does not grow with the rows, however many were given up.
+    #[test]
+    fn many_rows_are_counted_in_little_memory() {
+        let mut report = Report::default();
+        for number in 0..1000 {
+            let (verdict, line) = (Verdict::Silent(Silence::TooLong), Some(format!("case {number}")));
+            report.count(number, Tried { lost: 3, verdict, seconds: 1.0, fault: None, line, shown: None });
+        }
+        assert_eq!((report.tally.given_up, report.given_up.len()), (1000, DESCRIBED));
+        assert!(report.given_up[DESCRIBED - 1] == "case 19" && report.shown.is_empty() && report.is_sound());
+    }
+
     /// The library's answer for a row that lost nothing, changed in each way, is seen to be wrong.
     #[test]
     fn a_wrong_answer_is_seen() {
@@ -309,7 +329,7 @@ mod tests {
             (0, 2, &[0x39, 0x36], "out of order"),
             (0, 3, &[0x36, 0x36, 0x39], "out of order"),
             (0, 3, &[0x36, 0x37, 0x39], "does not fit"),
-            (7, 0, &[], "refused by 7"),
+            (7, 0, &[], "it was refused: more than 12 bits lost (7)"),
         ] {
             let found = verdict(refusal, count, rows).unwrap_or_default();
             assert!(found.contains(what), "{found}");
