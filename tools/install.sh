@@ -42,6 +42,7 @@ man_pages() {
     man_page film-check 'compare two films bit by bit, or a film with its messages' "$film check"
     man_page film-plot 'draw the sent, the received and the recovered film side by side' "$film plot"
     man_page film-soak 'try the library on this machine' "$film soak"
+    man_page film-row 'list one row from words on the command line' "$film row"
     man_page rowlist 'list the rows that a message and a received row allow' tools/rowlist-help.sh
 }
 

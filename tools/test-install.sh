@@ -35,7 +35,7 @@ printf 'P1\n8 1\n0 0 1 1 0 1 1 0\n' >film.pbm
 "$work/usr/bin/film" list film.rsm film.rx -o out.pbm
 "$work/usr/bin/film" check film.pbm out.pbm
 if command -v help2man >/dev/null; then
-    for page in film film-write film-drop film-list film-show film-check film-plot film-soak rowlist; do
+    for page in film film-write film-drop film-list film-show film-check film-plot film-soak film-row rowlist; do
         grep -q '^\.SH ' "$work/usr/share/man/man1/$page.1"
     done
 fi

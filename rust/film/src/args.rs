@@ -5,6 +5,7 @@ use std::path::PathBuf;
 use clap::{ArgGroup, Parser, Subcommand};
 use dairyhour::Layout;
 
+use crate::hex::{self, Bytes};
 use crate::layout;
 
 /// Keeps the rows of raster films safe on a line that drops bits.
@@ -30,6 +31,7 @@ pub enum Command {
     Check(Check),
     Plot(Plot),
     Soak(Soak),
+    Row(Row),
     /// Lists rows for another process
     #[command(hide = true)]
     Worker,
@@ -221,6 +223,33 @@ pub struct Work {
     /// What is not done after so many seconds is left and marked as not done
     #[arg(long, value_name = "SECONDS", value_parser = seconds)]
     pub deadline: Option<f64>,
+    /// The program that lists rows in place of this one
+    #[arg(long, hide = true)]
+    pub worker: Option<PathBuf>,
+}
+
+/// List one row from words on the command line
+///
+/// Prints what the program rowlist prints: a line with the word count and the number of rows, then each row on a line of its
+/// own in capital hexadecimal, in dictionary order; or the word refused and the number of the refusal, and on standard error
+/// the refusal in words. It lists as many rows as 65,536 bytes hold.
+///
+/// Exit status: 0 one row can have been sent; 1 several or none can, more than 12 bits are lost, there are more rows than a list
+/// holds, or the row was given up; 2 the words are no message and no row of it (refusals 1 to 6 and 8).
+#[derive(clap::Args)]
+#[command(after_help = format!("Example:\n  film row 52534D0001020104004080 3C 6\n\n{}", refusals()))]
+pub struct Row {
+    /// The message, in hexadecimal
+    #[arg(value_parser = hex::parse)]
+    pub message: Bytes,
+    /// What arrived of the row, packed first bit highest, in hexadecimal
+    #[arg(value_parser = hex::parse)]
+    pub row: Bytes,
+    /// How many bits arrived
+    pub bits: u16,
+    /// The row is given up if it takes longer. 0: without limit (default: 60)
+    #[arg(long, value_name = "SECONDS", value_parser = seconds)]
+    pub patience: Option<f64>,
     /// The program that lists rows in place of this one
     #[arg(long, hide = true)]
     pub worker: Option<PathBuf>,

@@ -74,10 +74,14 @@ pub fn list_here(task: &Task<'_>, list: &mut [u8]) -> Outcome {
     Outcome { answer: Ok(Answer { refusal, count, rows: list[..written].to_vec() }), seconds }
 }
 
+/// The bits of a row under the layout of a message.
+pub fn row_bits(message: &[u8]) -> usize {
+    message.iter().skip(5).take(3).map(|number| usize::from(*number)).product()
+}
+
 /// The bytes of a row under the layout of a message; 1 where there is none.
 pub fn row_bytes(message: &[u8]) -> usize {
-    let bits: usize = message.iter().skip(5).take(3).map(|number| usize::from(*number)).product();
-    container::bytes_for(bits).max(1)
+    container::bytes_for(row_bits(message)).max(1)
 }
 
 /// Rows that are to be listed. Its functions are called on the threads of a run.

@@ -49,6 +49,7 @@ fn run(command: &Command) -> Result<u8> {
         Command::Check(args) => command::check::run(args).map(status),
         Command::Plot(args) => command::plot::run(args).map(status),
         Command::Soak(args) => command::soak::run(args),
+        Command::Row(args) => command::row::run(args),
         Command::Worker => worker::serve().map(|()| 0).map_err(|error| Trouble::with("worker", error)),
     }
 }

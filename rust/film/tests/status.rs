@@ -163,6 +163,11 @@ fn bad_usage_is_status_2() {
         "soak --case 1 --rows 2",
         "show film.rsm --panel 0",
         "write film.pbm -o x.rsm --format 3",
+        "row",
+        "row 52 3",
+        "row 5 3C 6",
+        "row 52 3G 6",
+        "row 52 3C many",
     ] {
         let output = film(&folder, words);
         assert_eq!(output.status.code(), Some(2), "film {words}");
@@ -239,9 +244,9 @@ fn outputs_that_would_replace_a_file_are_status_2() {
 #[test]
 fn help_is_status_0_and_has_an_example() {
     let folder = folder("help");
-    for command in ["write", "drop", "list", "show", "check", "plot", "soak"] {
+    for command in ["write", "drop", "list", "show", "check", "plot", "soak", "row"] {
         let help = ends(0, &folder, &format!("{command} --help"));
-        let example = ["board", "--rows"].iter().any(|word| help.contains(&format!("film {command} {word}")));
+        let example = ["board", "--rows", "52534D"].iter().any(|word| help.contains(&format!("film {command} {word}")));
         assert!(example, "{help}");
     }
     assert!(ends(0, &folder, "--help").contains("Exit status: 0"));
@@ -281,6 +286,34 @@ fn rows_and_panels_have_one_name() {
     bytes[30 + 2 * 13 + 1] = 8;
     fs::write(folder.join("bad"), bytes).unwrap();
     assert!(refused(&folder, "show bad").contains("byte 56: the message of row 1 panel 0 has 8 bytes"));
+}
+
+/// One row from words on the command line, in the words of rowlist, with a status.
+#[test]
+fn one_row_from_words() {
+    let folder = folder("one-row");
+    // Marked case 8 of the scope paper, and the same row with one bit lost.
+    assert_eq!(ends(1, &folder, "row 52534D0001020104004080 3C 6"), "count 2\n36\n39\n");
+    assert_eq!(ends(0, &folder, "row 52534d0001020104004080 6C 7"), "count 1\n36\n");
+    assert_eq!(ends(0, &folder, "row 52534d0001020104004080 6C 7 --patience 0"), "count 1\n36\n");
+    let mut long = [0; dairyhour::LONGEST_MESSAGE];
+    let length = dairyhour::write(dairyhour::Layout { l1: 5, l2: 3, nc: 4, r: 0 }, &[0; 8], &mut long).unwrap();
+    let long: String = long[..length].iter().map(|byte| format!("{byte:02x}")).collect();
+    for (status, words, number, said) in [
+        (2, "52534D 3C 6", 1, "message under nine bytes, or another mark"),
+        (2, "52534D0002020104004080 3C 6", 2, "version not 1"),
+        (2, "52534D0001020104004080 3F 6", 8, "a row or string of another byte count"),
+        (1, "52534D0001020104004080 36C0 10", 7, "more bits than were sent"),
+        (1, &format!("{long} 00 3"), 7, "more than 12 bits lost"),
+    ] {
+        let output = film(&folder, &format!("row {words}"));
+        let (printed, line) = (text(&output.stdout), text(&output.stderr));
+        assert_eq!((output.status.code(), &printed[..]), (Some(status), &format!("refused {number}\n")[..]), "{words}");
+        assert!(line.starts_with(&format!("film: refused: {said}")), "{line}");
+    }
+    let hangs = common::worker(&folder, "cat >/dev/null");
+    let words = format!("row 52534D0001020104004080 3C 6 --patience 0.2 --worker {}", hangs.display());
+    assert_eq!(ends(1, &folder, &words), "given up\n");
 }
 
 /// Outputs are tried before the work: no worker is started, and no input is read.

@@ -4,6 +4,7 @@ pub mod check;
 pub mod drop;
 pub mod list;
 pub mod plot;
+pub mod row;
 pub mod show;
 pub mod soak;
 pub mod write;
