@@ -8,10 +8,10 @@ use std::time::Duration;
 use crate::trouble::Trouble;
 
 /// So many rows that are done and not yet fetched wake the one who fetches them.
-const MANY: usize = 128;
+const MANY: usize = 256;
 
-/// With so many of them, threads wait until they are fetched.
-const MOST: usize = 512;
+/// With so many bytes of them, threads wait until they are fetched.
+const MOST: usize = 16 << 20;
 
 /// How long a thread waits at most before it looks again.
 const LOOK: Duration = Duration::from_millis(50);
@@ -33,6 +33,8 @@ struct State<T> {
     again: VecDeque<usize>,
     /// Rows that are done and not yet fetched.
     done: Vec<(usize, T)>,
+    /// The bytes of these.
+    bytes: usize,
     /// How many rows are done, fetched or not.
     finished: usize,
     /// Threads at work.
@@ -54,7 +56,7 @@ impl<T> Board<T> {
     /// For so many rows and threads.
     pub fn new(count: usize, hands: usize) -> Board<T> {
         let (again, done) = (VecDeque::new(), Vec::new());
-        let state = State { next: 0, count, again, done, finished: 0, hands, held: false, trouble: None };
+        let state = State { next: 0, count, again, done, bytes: 0, finished: 0, hands, held: false, trouble: None };
         Board { state: Mutex::new(state), rows: Condvar::new(), news: Condvar::new(), stopped: AtomicBool::new(false) }
     }
 
@@ -89,17 +91,20 @@ impl<T> Board<T> {
         self.rows.notify_all();
     }
 
-    /// Rows that are done.
-    pub fn put(&self, done: Vec<(usize, T)>) {
+    /// Rows that are done, and how many bytes they take.
+    pub fn put(&self, done: Vec<(usize, T)>, bytes: usize) {
         let mut state = self.lock();
-        while state.done.len() >= MOST && !self.is_stopped() {
+        while state.bytes >= MOST && !self.is_stopped() {
             self.news.notify_one();
             state = Self::wait(&self.rows, state, LOOK);
         }
+        let before = state.done.len();
         state.finished += done.len();
+        state.bytes += bytes;
         state.done.extend(done);
         let all = state.finished == state.count;
-        if all || state.done.len() >= MANY {
+        // Once is enough: who fetches does not wait where there are many.
+        if all || (before < MANY && state.done.len() >= MANY) {
             self.news.notify_one();
         }
         if all {
@@ -123,7 +128,7 @@ impl<T> Board<T> {
             state = Self::wait(&self.news, state, time);
         }
         let done = std::mem::take(&mut state.done);
-        if done.len() >= MOST {
+        if std::mem::take(&mut state.bytes) >= MOST {
             self.rows.notify_all();
         }
         News { done, last: state.is_over() }
@@ -190,10 +195,27 @@ mod tests {
         assert_eq!(board.take(4, true), [0]);
         board.hold(false);
         assert_eq!(board.take(4, true), [2, 3, 4]);
-        board.put((0..5).map(|row| (row, "done")).collect());
+        board.put((0..5).map(|row| (row, "done")).collect(), 0);
         assert_eq!(board.take(4, true), []);
         let news = board.fetch(SOON);
         assert_eq!((news.done.len(), news.last), (5, true));
+    }
+
+    /// Who puts too much waits until it is fetched.
+    #[test]
+    fn what_is_not_fetched_is_bounded() {
+        let board: Board<()> = Board::new(9, 1);
+        std::thread::scope(|scope| {
+            let putting = scope.spawn(|| (0..9).for_each(|row| board.put(vec![(row, ())], MOST)));
+            for row in 0..9 {
+                let mut done = Vec::new();
+                while done.is_empty() {
+                    done = board.fetch(SOON).done;
+                }
+                assert_eq!(done, [(row, ())]);
+            }
+            putting.join().unwrap();
+        });
     }
 
     #[test]
@@ -201,7 +223,7 @@ mod tests {
         let board: Board<()> = Board::new(5, 2);
         board.leave(Some(Trouble::new("first")));
         assert!(!board.fetch(SOON).last);
-        board.put(vec![(0, ())]);
+        board.put(vec![(0, ())], 0);
         board.leave(Some(Trouble::new("second")));
         let news = board.fetch(SOON);
         assert_eq!((news.done.len(), news.last), (1, true));

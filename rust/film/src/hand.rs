@@ -29,8 +29,15 @@ pub fn list<R: Rows>(rows: &R, board: &Board<R::Done>) {
     let mut list = vec![0; LONGEST_LIST];
     while let [row] = board.take(1, true)[..] {
         let outcome = list_here(&rows.task(row), &mut list);
-        board.put(vec![(row, rows.done(row, outcome))]);
+        put(rows, board, vec![(row, outcome)]);
     }
+}
+
+/// Puts what came out of rows on the board.
+fn put<R: Rows>(rows: &R, board: &Board<R::Done>, outcomes: Vec<(usize, Outcome)>) {
+    let done: Vec<_> = outcomes.into_iter().map(|(row, outcome)| (row, rows.done(row, outcome))).collect();
+    let bytes = done.iter().map(|(_, done)| rows.bytes(done)).sum();
+    board.put(done, bytes);
 }
 
 /// A row that a worker was asked for.
@@ -121,13 +128,13 @@ impl<'a, R: Rows> Hand<'a, R> {
     /// Counts answers, and asks for more rows at a time if they came quickly.
     fn answered(&mut self, answers: Vec<Outcome>) {
         let quick = answers.iter().all(|outcome| outcome.seconds < QUICK);
-        let mut done = Vec::new();
+        let mut outcomes = Vec::new();
         for outcome in answers {
             if let Some(Asked { row, moved: false, .. }) = self.asked.pop_front() {
-                done.push((row, self.rows.done(row, outcome)));
+                outcomes.push((row, outcome));
             }
         }
-        self.board.put(done);
+        put(self.rows, self.board, outcomes);
         self.began = Instant::now();
         self.room = if quick { MOST.min(2 * self.room) } else { 1 };
         // The worker is at rows that others are asked for: there is better work for a new one.
@@ -168,7 +175,7 @@ impl<'a, R: Rows> Hand<'a, R> {
         self.move_rows(1);
         if let Some(Asked { row, .. }) = self.asked.pop_front() {
             let outcome = Outcome { answer: Err(silence), seconds: time.as_secs_f64() };
-            self.board.put(vec![(row, self.rows.done(row, outcome))]);
+            put(self.rows, self.board, vec![(row, outcome)]);
         }
         self.dismiss();
     }

@@ -92,6 +92,9 @@ pub trait Rows: Send + Sync + 'static {
     fn task(&self, row: usize) -> Task<'_>;
 
     fn done(&self, row: usize, outcome: Outcome) -> Self::Done;
+
+    /// How many bytes it takes, about.
+    fn bytes(&self, done: &Self::Done) -> usize;
 }
 
 /// What a run is to do after a row.

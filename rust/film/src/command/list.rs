@@ -2,6 +2,7 @@
 
 use std::borrow::Cow;
 use std::fmt::Write as _;
+use std::mem;
 use std::path::{Path, PathBuf};
 use std::sync::Arc;
 use std::time::Instant;
@@ -190,6 +191,10 @@ impl Rows for Source {
             missing: self.sent.as_ref().map_or(false, missing),
             text: if self.lists { self.text(row, &outcome, found()) } else { String::new() },
         }
+    }
+
+    fn bytes(&self, done: &Listed) -> usize {
+        mem::size_of::<Listed>() + done.first.as_ref().map_or(0, Vec::len) + done.text.len()
     }
 }
 

@@ -31,6 +31,10 @@ impl Rows for One {
     fn done(&self, _: usize, outcome: Outcome) -> Outcome {
         outcome
     }
+
+    fn bytes(&self, done: &Outcome) -> usize {
+        done.answer.as_ref().map_or(0, |answer| answer.rows.len())
+    }
 }
 
 /// Status 0 where one row can have been sent, 1 where none or several can or that is not known, and 2 where the words are no

@@ -3,6 +3,7 @@
 use std::borrow::Cow;
 use std::collections::BTreeMap;
 use std::fmt::Write as _;
+use std::mem;
 use std::path::Path;
 use std::sync::Arc;
 use std::time::Instant;
@@ -146,6 +147,10 @@ impl Rows for Cases {
             line: Some(verdict).filter(|verdict| *verdict == Verdict::Silent(Silence::TooLong)).map(|_| line()),
             shown: self.show.then(|| format!("{}\n{}\n", line(), case.whole())),
         }
+    }
+
+    fn bytes(&self, _: &Tried) -> usize {
+        mem::size_of::<Tried>()
     }
 }
 
