@@ -109,7 +109,7 @@ fn bad_received_rows() {
         (5, 0, "bad: byte 4: version 0"),
         (6, 0xFF, "bad: byte 6: rows of"),
         (11, 4, "bad: byte"),
-        (21, 0xFF, "bad: byte 21: a bit beyond the 58 bits of row 0 is 1"),
+        (21, 0xFF, "bad: byte 21: a bit beyond the 58 bits of row 0 of the line is 1"),
     ] {
         let mut bytes = good.clone();
         bytes[place] = byte;

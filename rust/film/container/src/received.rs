@@ -93,12 +93,14 @@ fn decode_origin(cursor: &mut Cursor<'_>, rows: usize) -> Result<Origin, Fault> 
 }
 
 fn decode_row(cursor: &mut Cursor<'_>, row: u32) -> Result<Row, Fault> {
-    let bits = cursor.number16(&format!("the number of bits of row {row}"))?;
-    let packed = cursor.take(bytes_for(usize::from(bits)), &format!("row {row}"))?.to_vec();
+    // Only a row with which something is wrong is named.
+    let named = |fault: Fault| Fault::new(fault.byte, format!("{} row {row} of the line", fault.what));
+    let bits = cursor.number16("the number of bits of").map_err(named)?;
+    let packed = cursor.take(bytes_for(usize::from(bits)), "the bits of").map_err(named)?.to_vec();
     let spare = 0xFF_u8.checked_shr(u32::from(bits % 8)).filter(|_| bits % 8 != 0).unwrap_or(0);
     match packed.last() {
         Some(last) if last & spare != 0 => {
-            Err(Fault::new(cursor.at() - 1, format!("a bit beyond the {bits} bits of row {row} is 1")))
+            Err(Fault::new(cursor.at() - 1, format!("a bit beyond the {bits} bits of row {row} of the line is 1")))
         }
         _ => Ok(Row { bits, packed }),
     }
@@ -132,7 +134,7 @@ mod tests {
     fn each_bad_byte_is_named() {
         let mut spare = example();
         spare.rows[0].packed[0] |= 1;
-        assert_eq!(refused(&spare.encode()), Fault::new(14, "a bit beyond the 6 bits of row 0 is 1"));
+        assert_eq!(refused(&spare.encode()), Fault::new(14, "a bit beyond the 6 bits of row 0 of the line is 1"));
         let wide = Received { row_bits: 2041, ..example() };
         assert_eq!(refused(&wide.encode()).byte, 6);
         let bare = Received { row_bits: 0, ..example() };

@@ -57,7 +57,7 @@ pub fn run(args: &List) -> Result<u8> {
     }
     match trouble {
         Some(trouble) => Err(trouble),
-        None if stop.is_interrupted() => Ok(INTERRUPTED),
+        None if stop.is_interrupted() && report.tally.not_done > 0 => Ok(INTERRUPTED),
         None => Ok(status(report.tally.alone == report.tally.rows && report.missing == 0)),
     }
 }
