@@ -50,11 +50,8 @@ pub struct Write {
     /// The file of messages to write
     #[arg(short, long, value_name = "FILM.rsm")]
     pub output: PathBuf,
-    /// How rows are cut: l1,l2,nc,r (default: chosen by the width, with 12 checks or more where it allows)
-    #[arg(long, value_parser = layout::parse)]
-    pub layout: Option<Layout>,
     #[command(flatten)]
-    pub version: Version,
+    pub line: Sending,
     #[command(flatten)]
     pub say: Say,
 }
@@ -80,11 +77,8 @@ pub struct Drop {
     /// Each row loses so many bits side by side
     #[arg(long, value_name = "BITS")]
     pub burst: Option<usize>,
-    /// How rows are cut: l1,l2,nc,r (default: as `film write` chooses)
-    #[arg(long, value_parser = layout::parse)]
-    pub layout: Option<Layout>,
     #[command(flatten)]
-    pub version: Version,
+    pub line: Sending,
     #[command(flatten)]
     pub say: Say,
 }
@@ -255,8 +249,12 @@ pub struct Row {
     pub worker: Option<PathBuf>,
 }
 
+/// How a film is sent.
 #[derive(clap::Args)]
-pub struct Version {
+pub struct Sending {
+    /// How rows are cut: l1,l2,nc,r (default: chosen by the width, with 12 checks or more where it allows)
+    #[arg(long, value_parser = layout::parse)]
+    pub layout: Option<Layout>,
     /// The version of the file: 2 names the film, 1 is for programs that do not know 2
     #[arg(long, value_name = "VERSION", default_value_t = 2, value_parser = clap::value_parser!(u8).range(1..=2))]
     pub format: u8,

@@ -20,13 +20,12 @@ pub fn run(args: &Drop) -> Result<bool> {
     };
     files::apart(&[&args.film], &[&args.output])?;
     let film = read_film(&args.film)?;
-    let head = cut::head(&film, args.layout)?;
+    let head = cut::head(&film, args.line.layout)?;
     let bits = head.row_bits();
     let sent = cut::rows(&film, &head);
     let rows = sent.iter().enumerate().map(|(row, packed)| line.send(packed, bits, args.seed, row)).collect();
     let received = Received { row_bits: bits as u16, rows };
-    let file =
-        if args.version.format == 1 { received.encode() } else { received.encode_identified(origin(head, &sent)?) };
+    let file = if args.line.format == 1 { received.encode() } else { received.encode_identified(origin(head, &sent)?) };
     files::write(&args.output, &file)?;
     match (args.say.json, args.say.quiet) {
         (true, _) => files::say(&format!("{}\n", json(&received)), Some(&args.output))?,
