@@ -10,6 +10,7 @@ mod json;
 mod layout;
 mod line;
 mod lister;
+mod pbm;
 mod picture;
 mod tally;
 mod trouble;

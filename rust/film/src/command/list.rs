@@ -13,7 +13,7 @@ use crate::lister::{row_bytes, Lister, Outcome, Task};
 use crate::tally::Tally;
 use crate::trouble::{Result, Trouble};
 use crate::worker::Silence;
-use crate::{cut, files, picture};
+use crate::{cut, files, pbm, picture};
 
 /// How many rows that were not recovered alone are named in the report.
 const NAMED: usize = 20;
@@ -44,7 +44,7 @@ pub fn run(args: &List) -> Result<bool> {
     if let Some(path) = &args.lists {
         files::write(path, done.lists().as_bytes())?;
     }
-    files::write(&args.output, &picture::encode(&done.film()))?;
+    files::write(&args.output, &pbm::encode(&done.film()))?;
     let output = outputs.into_iter().find(|path| files::is_standard(path));
     match (args.say.json, args.say.quiet) {
         (true, _) => files::say(&format!("{}\n", done.json(&tally)), output)?,
