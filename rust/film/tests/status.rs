@@ -200,6 +200,31 @@ fn standard_input_and_output() {
     assert!(picture.starts_with(b"\x89PNG\r\n"));
 }
 
+/// The system's names of standard input and output are `-` too: only the file goes there, into a pipe as into a file.
+#[test]
+fn the_systems_names_of_standard_input_and_output() {
+    let folder = case_8("system-names");
+    let file = |name: &str| fs::read(folder.join(name)).unwrap();
+    for name in ["/dev/stdout", "/dev/fd/1", "/proc/self/fd/1"] {
+        let words = format!("write film.pbm --layout 2,1,4,0 -o {name}");
+        let output = film(&folder, &words);
+        assert_eq!(output.stdout, file("film.rsm"), "{name}");
+        assert!(text(&output.stderr).contains("layout     2,1,4,0"), "{name}");
+        let into = fs::File::create(folder.join("into")).unwrap();
+        let mut command = std::process::Command::new(common::FILM);
+        command.current_dir(&folder).args(words.split_whitespace()).stdout(into);
+        assert!(command.output().unwrap().status.success());
+        assert_eq!(file("into"), file("film.rsm"), "{name}");
+    }
+    let line = refused(&folder, "list film.rsm film.rx -o - --lists /dev/stdout");
+    assert!(line.contains("two outputs cannot go to the same file"), "{line}");
+    assert!(refused(&folder, "list - /dev/stdin -o x.pbm").contains("only one"));
+    let output = film_with(&folder, "write /dev/stdin --layout 2,1,4,0 --quiet -o /dev/stdout", &file("film.pbm"));
+    assert_eq!((output.stdout, output.stderr), (file("film.rsm"), vec![]));
+    let line = text(&film_with(&folder, "write /dev/fd/0 -o x.rsm", b"P1 1 1 2").stderr);
+    assert_eq!(line, "film: standard input: byte 7: '2' where 0 or 1 should be\n");
+}
+
 #[test]
 fn pictures_by_their_ending() {
     let folder = case_8("pictures");

@@ -45,7 +45,7 @@ pub fn run(args: &List) -> Result<bool> {
         files::write(path, done.lists().as_bytes())?;
     }
     files::write(&args.output, &pbm::encode(&done.film()))?;
-    let output = outputs.into_iter().find(|path| files::is_standard(path));
+    let output = outputs.into_iter().find(|path| files::is_output(path));
     match (args.say.json, args.say.quiet) {
         (true, _) => files::say(&format!("{}\n", done.json(&tally)), output)?,
         (false, false) => files::say(&done.text(&tally), output)?,

@@ -45,7 +45,7 @@ pub fn run(args: &Plot) -> Result<bool> {
 /// The bytes of the picture in the format that the ending of its name asks for.
 fn drawn(scene: &Scene, output: &Path) -> Result<Vec<u8>> {
     let ending = output.extension().map_or(String::new(), |ending| ending.to_string_lossy().to_lowercase());
-    match (&ending[..], files::is_standard(output)) {
+    match (&ending[..], files::is_output(output)) {
         ("svg", _) => svg(scene),
         ("png", _) | (_, true) => png(scene),
         _ => Err(Trouble::with(output.display(), "a picture has the ending .png or .svg")),
