@@ -11,7 +11,8 @@ use crate::layout;
 ///
 /// Beside each row of a film goes a short message over a second, checked line. From the messages and the short rows that
 /// arrive, `film list` works out every row that can have been sent, with a library whose answers are proved to be
-/// complete. Films are PBM files; a file named - is standard input or output. Rows, panels and columns count from 0.
+/// complete. Films are PBM files, and are also read from PNG and TIFF of one bit; a file named - is standard input or
+/// output. Rows, panels and columns count from 0.
 ///
 /// Exit status: 0 done; 1 a row was not recovered alone, or a check found a difference; 2 bad usage or a bad file.
 #[derive(Parser)]
@@ -43,7 +44,7 @@ pub enum Command {
 #[derive(clap::Args)]
 #[command(after_help = "Example:\n  film write board.pbm -o board.rsm")]
 pub struct Write {
-    /// The film (PBM)
+    /// The film (PBM, or PNG or TIFF of one bit)
     pub film: PathBuf,
     /// The file of messages to write
     #[arg(short, long, value_name = "FILM.rsm")]
@@ -62,7 +63,7 @@ pub struct Write {
 #[command(after_help = "Example:\n  film drop board.pbm --seed 1 --rate 0.001 -o board.rx")]
 #[command(group(ArgGroup::new("line").required(true).args(["rate", "burst"])))]
 pub struct Drop {
-    /// The film (PBM)
+    /// The film (PBM, or PNG or TIFF of one bit)
     pub film: PathBuf,
     /// The file of received rows to write
     #[arg(short, long, value_name = "FILM.rx")]
@@ -127,7 +128,7 @@ pub struct Show {
 #[derive(clap::Args)]
 #[command(after_help = "Examples:\n  film check board.pbm recovered.pbm\n  film check board.pbm board.rsm")]
 pub struct Check {
-    /// The film (PBM)
+    /// The film (PBM, or PNG or TIFF of one bit)
     pub film: PathBuf,
     /// Another film, or a file of messages
     pub other: PathBuf,
@@ -144,13 +145,13 @@ pub struct Check {
 #[derive(clap::Args)]
 #[command(after_help = "Example:\n  film plot board.pbm board.rx recovered.pbm -o board.png -o board.svg")]
 pub struct Plot {
-    /// The film that was sent (PBM)
+    /// The film that was sent
     #[arg(value_name = "SENT.pbm")]
     pub sent: PathBuf,
     /// The received rows
     #[arg(value_name = "FILM.rx")]
     pub received: PathBuf,
-    /// The film that was recovered (PBM)
+    /// The film that was recovered
     #[arg(value_name = "RECOVERED.pbm")]
     pub recovered: PathBuf,
     /// The picture to write, PNG or SVG by its ending, - for PNG; may be given more than once
@@ -170,7 +171,7 @@ pub struct Plot {
 #[derive(clap::Args)]
 #[command(after_help = "Example:\n  film soak --rows 10000 --seed 7 board.pbm")]
 pub struct Soak {
-    /// Films whose rows are tried beside the made-up ones (PBM)
+    /// Films whose rows are tried beside the made-up ones
     pub films: Vec<PathBuf>,
     /// How many rows are tried
     #[arg(long, default_value_t = 1000)]

@@ -6,6 +6,8 @@ mod args;
 mod command;
 mod cut;
 mod files;
+mod from_png;
+mod from_tiff;
 mod json;
 mod layout;
 mod line;

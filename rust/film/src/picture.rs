@@ -1,9 +1,9 @@
 //! A film as a picture of bits, 1 for black.
 
-use container::bytes_for;
+use container::{bytes_for, MESSAGES_MARK, RECEIVED_MARK};
 
-use crate::pbm;
 use crate::trouble::{Result, Trouble};
+use crate::{from_png, from_tiff, pbm};
 
 /// Rows of bits, each packed first bit highest, spare bits 0.
 #[derive(Clone, Debug, PartialEq, Eq)]
@@ -55,10 +55,36 @@ pub fn bit(packed: &[u8], place: usize) -> bool {
     packed[place / 8] >> (7 - place % 8) & 1 == 1
 }
 
-/// Reads a film from a PBM file, plain or raw.
+/// Files that are no films, by how they start, as they are named where one is given.
+const NO_FILMS: [(&[u8], &str); 13] = [
+    (b"P2", "a PGM of greys"),
+    (b"P5", "a PGM of greys"),
+    (b"P3", "a PPM of colours"),
+    (b"P6", "a PPM of colours"),
+    (b"P7", "a PAM"),
+    (b"\xFF\xD8", "a JPEG"),
+    (b"GIF8", "a GIF"),
+    (b"BM", "a BMP"),
+    (b"%PDF", "a PDF"),
+    (b"%!PS", "PostScript"),
+    (b"<svg", "an SVG"),
+    (&MESSAGES_MARK, "a file of messages"),
+    (&RECEIVED_MARK, "a file of received rows"),
+];
+
+/// Reads a film from a file of any kind that films come in, known by its first bytes.
 pub fn decode(name: &str, bytes: &[u8]) -> Result<Film> {
     if bytes.starts_with(pbm::PLAIN) || bytes.starts_with(pbm::RAW) {
         return pbm::decode(bytes).map_err(|fault| Trouble::with(name, fault));
     }
-    Err(Trouble::with(name, "byte 0: this is no PBM film, which starts with P1 or P4"))
+    let read = if bytes.starts_with(from_png::MARK) {
+        from_png::decode(bytes)
+    } else if from_tiff::MARKS.iter().any(|mark| bytes.starts_with(mark)) {
+        from_tiff::decode(bytes)
+    } else {
+        let found = NO_FILMS.iter().find(|(mark, _)| bytes.starts_with(mark));
+        let what = found.map_or("something else", |(_, what)| what);
+        Err(format!("byte 0: this is {what}, and a film is PBM (P1 or P4), or PNG or TIFF of one bit"))
+    };
+    read.map_err(|what| Trouble::with(name, what))
 }
