@@ -140,8 +140,9 @@ pub struct Check {
 ///
 /// In the received film a red mark stands where bits are missing: at the end of the run that lost one, since a loss inside
 /// a run looks the same at each of its places. What is short of a row is pale red. In the recovered film each bit that
-/// is not as it was sent is red. A row that was not listed is white there, so it looks recovered where a blank row was
-/// sent; the report of `film list` says which rows were not listed.
+/// is not as it was sent is red, and rows that were not listed are pale yellow. Without --lists these are the rows that
+/// cannot have been listed, since what arrived does not come from them; so the number of listed rows is the greatest
+/// possible one.
 #[derive(clap::Args)]
 #[command(after_help = "Example:\n  film plot board.pbm board.rx recovered.pbm -o board.png -o board.svg")]
 pub struct Plot {
@@ -154,6 +155,9 @@ pub struct Plot {
     /// The film that was recovered
     #[arg(value_name = "RECOVERED.pbm")]
     pub recovered: PathBuf,
+    /// The lists that `film list --lists` wrote: says which rows were listed
+    #[arg(long, value_name = "FILE")]
+    pub lists: Option<PathBuf>,
     /// The picture to write, PNG or SVG by its ending, - for PNG; may be given more than once
     #[arg(short, long, value_name = "PICTURE", required = true)]
     pub output: Vec<PathBuf>,

@@ -126,7 +126,7 @@ fn files_that_do_not_go_together_are_status_2() {
     assert!(refused(&folder, "check other.pbm film.rsm").contains("8 × 1"));
     assert!(refused(&folder, "plot other.pbm film.rx other.pbm -o x.png").contains("but 1 arrived"));
     fs::write(folder.join("tall.pbm"), [&b"P4\n1 2100000\n"[..], &[0; 2_100_000]].concat()).unwrap();
-    assert!(refused(&folder, "plot tall.pbm film.rx tall.pbm -o x.png").contains("88 × 16800052 pixels"));
+    assert!(refused(&folder, "plot tall.pbm film.rx tall.pbm -o x.png").contains("88 × 16800076 pixels"));
 }
 
 /// An output that is another one or an input is refused, however it is spelled, and every file stays as it was.
@@ -233,4 +233,39 @@ fn pictures_by_their_ending() {
     assert!(fs::read(folder.join("picture.png")).unwrap().starts_with(b"\x89PNG\r\n"));
     let svg = fs::read_to_string(folder.join("picture.SVG")).unwrap();
     assert!(svg.contains("<svg") && svg.contains("data:image/png;base64,") && svg.contains("received: 2 bits lost"));
+}
+
+/// A picture says how many rows were listed: as the lists say, or without them at most so many.
+#[test]
+fn pictures_say_how_many_rows_were_listed() {
+    let folder = folder("pictures-listed");
+    fs::write(folder.join("film.pbm"), "P1\n60 3\n".to_string() + &"0".repeat(60) + &"01".repeat(60)).unwrap();
+    ends(0, &folder, "write film.pbm -o film.rsm");
+    ends(0, &folder, "drop film.pbm --burst 1 -o film.rx");
+    ends(0, &folder, "list film.rsm film.rx --lists lists.txt -o out.pbm");
+    let lists = fs::read_to_string(folder.join("lists.txt")).unwrap();
+    // As if the first row, which is blank, and the second had not been listed, which the film shows of the second alone.
+    let lists = lists.replacen("count 1\n0000000000000000\n", "given up\n", 1).replacen(
+        "count 1\n5555555555555550\n",
+        "refused 9\n",
+        1,
+    );
+    fs::write(folder.join("lists.txt"), lists).unwrap();
+    fs::write(folder.join("out.pbm"), "P1\n60 3\n".to_string() + &"0".repeat(120) + &"01".repeat(30)).unwrap();
+    for (words, said) in [("", ">\nlisted: at most 2 of 3 rows\n"), ("--lists lists.txt", ">\nlisted: 1 of 3 rows\n")] {
+        ends(0, &folder, &format!("plot film.pbm film.rx out.pbm {words} -o picture.svg"));
+        let svg = fs::read_to_string(folder.join("picture.svg")).unwrap();
+        assert!(svg.contains(said) && svg.contains("recovered: 2 of 3 rows equal"), "{words}: {svg}");
+    }
+    fs::write(folder.join("two.txt"), "row 0 received 59 count 0\nrow 1 received 59 count 0\n").unwrap();
+    let line = refused(&folder, "plot film.pbm film.rx out.pbm --lists two.txt -o x.png");
+    assert!(line.contains("two.txt: these are the lists of 2 rows, but 3 arrived"), "{line}");
+}
+
+/// No command needs the libraries of fonts, which a plotter room's machine may lack.
+#[test]
+fn no_font_library_is_linked() {
+    let program = text(&fs::read(common::FILM).unwrap());
+    assert!(program.contains("libc.so.6"));
+    assert!(!program.contains("libfontconfig.so") && !program.contains("libfreetype.so"));
 }
