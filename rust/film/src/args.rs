@@ -16,7 +16,10 @@ use crate::layout;
 ///
 /// Exit status: 0 done; 1 a row was not recovered alone, or a check found a difference; 2 bad usage or a bad file.
 #[derive(Parser)]
-#[command(name = "film", version, propagate_version = true, disable_help_subcommand = true)]
+#[command(name = "film", version, propagate_version = true)]
+#[command(
+    after_help = "Examples:\n  film write board.pbm -o board.rsm\n  film list board.rsm board.rx -o recovered.pbm"
+)]
 pub struct Args {
     #[command(subcommand)]
     pub command: Command,
@@ -42,7 +45,7 @@ pub enum Command {
 /// than a row can be (2,040) is cut into panels side by side, and each row of a panel is a row of the line. The file of
 /// messages says so, and `film list` takes the pad off again.
 #[derive(clap::Args)]
-#[command(after_help = "Example:\n  film write board.pbm -o board.rsm")]
+#[command(after_help = "Examples:\n  film write board.pbm -o board.rsm")]
 pub struct Write {
     /// The film (PBM, or PNG or TIFF of one bit)
     pub film: PathBuf,
@@ -60,7 +63,7 @@ pub struct Write {
 ///
 /// The rows are cut as `film write` cuts them: give the same --layout to both. The same seed drops the same bits.
 #[derive(clap::Args)]
-#[command(after_help = "Example:\n  film drop board.pbm --seed 1 --rate 0.001 -o board.rx")]
+#[command(after_help = "Examples:\n  film drop board.pbm --seed 1 --rate 0.001 -o board.rx")]
 #[command(group(ArgGroup::new("line").required(true).args(["rate", "burst"])))]
 pub struct Drop {
     /// The film (PBM, or PNG or TIFF of one bit)
@@ -89,7 +92,7 @@ pub struct Drop {
 /// The film that is written has the only row of each list, or the first of several; a row that is not listed is left
 /// white. The report counts them and names each row that was not recovered alone; then the exit status is 1.
 #[derive(clap::Args)]
-#[command(after_help = "Example:\n  film list board.rsm board.rx -o recovered.pbm")]
+#[command(after_help = "Examples:\n  film list board.rsm board.rx -o recovered.pbm")]
 pub struct List {
     /// The messages, as `film write` writes them
     #[arg(value_name = "FILM.rsm")]
@@ -114,7 +117,7 @@ pub struct List {
 
 /// Show what a file of messages or of received rows says
 #[derive(clap::Args)]
-#[command(after_help = "Example:\n  film show board.rsm --row 17")]
+#[command(after_help = "Examples:\n  film show board.rsm --row 17")]
 pub struct Show {
     /// A file of messages or of received rows
     #[arg(value_name = "FILE")]
@@ -144,7 +147,7 @@ pub struct Check {
 /// cannot have been listed, since what arrived does not come from them; so the number of listed rows is the greatest
 /// possible one.
 #[derive(clap::Args)]
-#[command(after_help = "Example:\n  film plot board.pbm board.rx recovered.pbm -o board.png -o board.svg")]
+#[command(after_help = "Examples:\n  film plot board.pbm board.rx recovered.pbm -o board.png -o board.svg")]
 pub struct Plot {
     /// The film that was sent
     #[arg(value_name = "SENT.pbm")]
@@ -173,7 +176,7 @@ pub struct Plot {
 /// independent implementation says so. At the first row that is missing or wrong it stops and prints the case. The exit
 /// status is 1 for such a row, and also where a row was given up.
 #[derive(clap::Args)]
-#[command(after_help = "Example:\n  film soak --rows 10000 --seed 7 board.pbm")]
+#[command(after_help = "Examples:\n  film soak --rows 10000 --seed 7 board.pbm")]
 pub struct Soak {
     /// Films whose rows are tried beside the made-up ones
     pub films: Vec<PathBuf>,
