@@ -9,6 +9,7 @@ mod files;
 mod from_png;
 mod from_tiff;
 mod glyphs;
+mod histogram;
 mod json;
 mod layout;
 mod line;

@@ -4,12 +4,12 @@ use std::collections::BTreeMap;
 
 use container::Received;
 
-use super::read_film;
+use super::{plural, read_film};
 use crate::args::Drop;
 use crate::json::{object, Json};
 use crate::line::Line;
 use crate::trouble::{Result, Trouble};
-use crate::{cut, files};
+use crate::{cut, files, histogram};
 
 pub fn run(args: &Drop) -> Result<bool> {
     let line = match (args.rate, args.burst) {
@@ -47,13 +47,12 @@ fn total(received: &Received) -> usize {
 }
 
 pub fn text(received: &Received) -> String {
-    let parts: Vec<String> = losses(received).iter().map(|(lost, rows)| format!("{lost}: {rows}")).collect();
     format!(
-        "rows       {} of {} bits\nbits lost  {} (bits lost: rows; {})\n",
+        "rows       {} of {}\nbits lost  {}{}\n",
         received.rows.len(),
-        received.row_bits,
+        plural(received.row_bits.into(), "bit"),
         total(received),
-        parts.join(", ")
+        histogram::words("bits lost: rows", &losses(received))
     )
 }
 
