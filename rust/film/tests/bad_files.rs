@@ -76,8 +76,8 @@ fn damaged_and_cut_files() {
         let good = fs::read(folder.join(name)).unwrap();
         let end = good.len();
         for (bytes, said) in [
-            (good[..end - 1].to_vec(), format!("byte {}: the file ends, 1 bytes short of the checksum", end - 1)),
-            (good[..3].to_vec(), String::from("byte 3: the file ends, 1 bytes short of the mark")),
+            (good[..end - 1].to_vec(), format!("byte {}: the file ends, 1 byte short of the checksum", end - 1)),
+            (good[..3].to_vec(), String::from("byte 3: the file ends, 1 byte short of the mark")),
             (vec![], String::from("byte 0: the file ends")),
             ([&good[..], b"\n"].concat(), format!("byte {end}: the file should end here")),
             ([&good[..end - 1], &[good[end - 1] ^ 1]].concat(), format!("byte {}: the checksum is", end - 4)),

@@ -174,7 +174,7 @@ impl Done<'_> {
             let _ = writeln!(text, "{}: {}, {lost} lost", self.name(*row), self.verdict(*row));
         }
         if open.len() > NAMED {
-            let _ = writeln!(text, "and {} more rows that were not recovered alone", open.len() - NAMED);
+            let _ = writeln!(text, "and {} not recovered alone", plural(open.len() - NAMED, "more row"));
         }
         text
     }

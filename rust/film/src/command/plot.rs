@@ -56,7 +56,8 @@ fn read_listed(path: &Path, received: &Received) -> Result<Vec<bool>> {
         |line: &str| line.split(' ').skip_while(|word| *word != "count").nth(1).map_or(false, |rows| rows != "0");
     let listed: Vec<bool> = text.lines().filter(|line| line.starts_with("row ")).map(is_listed).collect();
     if listed.len() != received.rows.len() {
-        let what = format!("these are the lists of {} rows, but {} arrived", listed.len(), received.rows.len());
+        let rows = plural(listed.len(), "row");
+        let what = format!("these are the lists of {rows}, but {} arrived", received.rows.len());
         return Err(Trouble::with(files::name(path), what));
     }
     Ok(listed)
@@ -214,11 +215,9 @@ impl<'a> Arrived<'a> {
         let bits = usize::from(received.row_bits);
         let panels = (sent.width + bits - 1) / bits;
         if panels * sent.height != received.rows.len() {
-            let due = panels * sent.height;
-            return Err(Trouble::new(format!(
-                "the film has {due} rows of {bits} bits, but {} arrived",
-                received.rows.len()
-            )));
+            let due = plural(panels * sent.height, "row");
+            let arrived = received.rows.len();
+            return Err(Trouble::new(format!("the film has {due} of {bits} bits, but {arrived} arrived")));
         }
         Ok(Arrived { sent, received, panels })
     }
