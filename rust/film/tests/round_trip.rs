@@ -89,13 +89,13 @@ fn differences_are_found() {
     fs::write(folder.join("one.pbm"), "P1\n8 2\n0 0 1 1 0 1 1 0\n1 1 1 1 0 0 0 0\n").unwrap();
     fs::write(folder.join("two.pbm"), "P1\n8 2\n0 0 1 1 1 0 0 1\n1 1 1 1 0 0 0 0\n").unwrap();
     let report = ends(1, &folder, "check one.pbm two.pbm");
-    assert_eq!(report, "row 0: 4 bits differ, first at column 4\n1 row of 2 rows of 8 bits differ\n");
+    assert_eq!(report, "row 0: 4 bits differ, first at column 4\n1 row of 2 rows of 8 bits differs\n");
     let report = ends(1, &folder, "check one.pbm two.pbm --json");
     assert!(report.contains("\"different_rows\":1,\"different_bits\":4,"), "{report}");
     ends(0, &folder, "write one.pbm --layout 2,1,4,1 -o one.rsm");
     ends(0, &folder, "check one.pbm one.rsm --quiet");
     let report = ends(1, &folder, "check two.pbm one.rsm");
-    assert_eq!(report, "row 0 panel 0: another message\n1 row of 2 messages differ\n");
+    assert_eq!(report, "row 0 panel 0: another message\n1 row of 2 messages differs\n");
 }
 
 /// A film that comes as PNG or TIFF is the same film.

@@ -108,6 +108,20 @@ fn bad_usage_is_status_2() {
     assert!(fs::read_dir(&folder).unwrap().all(|entry| !entry.unwrap().file_name().to_string_lossy().starts_with('x')));
 }
 
+/// A film of another size is not the same: that is a difference, and no bad file.
+#[test]
+fn other_sizes_are_status_1() {
+    let folder = case_8("sizes");
+    fs::write(folder.join("other.pbm"), common::made_up(8, 2)).unwrap();
+    let said = "the sizes differ: the film has 8 × 1, the other 8 × 2\n";
+    assert_eq!(ends(1, &folder, "check film.pbm other.pbm"), said);
+    let said = "the sizes differ: the film has 8 × 2, the other 8 × 1\n";
+    assert_eq!(ends(1, &folder, "check other.pbm film.rsm"), said);
+    let report = ends(1, &folder, "check film.pbm other.pbm --json");
+    assert!(report.contains("\"same\":false,\"different_sizes\":[\"8 × 1\",\"8 × 2\"],"), "{report}");
+    assert!(ends(0, &folder, "check film.pbm film.pbm --json").contains("\"same\":true,\"different_sizes\":[],"));
+}
+
 #[test]
 fn files_that_do_not_go_together_are_status_2() {
     let folder = case_8("together");
@@ -122,8 +136,6 @@ fn files_that_do_not_go_together_are_status_2() {
     ends(0, &folder, "drop film.pbm --layout 1,1,4,0 --burst 1 -o four.rx");
     assert!(refused(&folder, "list film.rsm four.rx -o x.pbm").contains("rows of 8 bits, but rows of 4 were sent"));
     assert!(refused(&folder, "list film.rsm film.rx --sent other.pbm -o x.pbm").contains("8 × 2"));
-    assert!(refused(&folder, "check film.pbm other.pbm").contains("8 × 2"));
-    assert!(refused(&folder, "check other.pbm film.rsm").contains("8 × 1"));
     assert!(refused(&folder, "plot other.pbm film.rx other.pbm -o x.png").contains("but 1 arrived"));
     fs::write(folder.join("tall.pbm"), [&b"P4\n1 2100000\n"[..], &[0; 2_100_000]].concat()).unwrap();
     assert!(refused(&folder, "plot tall.pbm film.rx tall.pbm -o x.png").contains("88 × 16800076 pixels"));

@@ -50,7 +50,7 @@ fn a_row_that_takes_too_long_is_given_up() {
     assert!(report.contains("row 0: given up, 1 bit lost\n"), "{report}");
     assert!(folder.join("pid").exists() && !lives(&folder.join("pid")));
     let differ = ends(1, &folder, "check film.pbm out.pbm");
-    assert!(differ.ends_with("1 row of 3 rows of 60 bits differ\n"), "{differ}");
+    assert!(differ.ends_with("1 row of 3 rows of 60 bits differs\n"), "{differ}");
 }
 
 #[test]
