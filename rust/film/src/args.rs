@@ -1,8 +1,9 @@
 //! The commands and their options.
 
+use std::ops::RangeInclusive;
 use std::path::PathBuf;
 
-use clap::{ArgGroup, Parser, Subcommand};
+use clap::{ArgGroup, CommandFactory, FromArgMatches, Parser, Subcommand};
 use dairyhour::Layout;
 
 use crate::layout;
@@ -23,6 +24,28 @@ use crate::layout;
 pub struct Args {
     #[command(subcommand)]
     pub command: Command,
+}
+
+/// The command that was given. Help and bad usage end the program.
+pub fn parse() -> Command {
+    let found = Args::from_arg_matches(&commands().get_matches());
+    found.unwrap_or_else(|error| error.exit()).command
+}
+
+/// The commands. A negative number behind an option is its value, so that it is told what the option wants, and not how to
+/// give a word that starts with a dash.
+fn commands() -> clap::Command {
+    let names = |command: &clap::Command| -> Vec<String> {
+        command.get_subcommands().map(|command| command.get_name().to_string()).collect()
+    };
+    let with_numbers = |command: clap::Command| {
+        let options: Vec<_> = command.get_opts().map(|option| option.get_id().clone()).collect();
+        options
+            .into_iter()
+            .fold(command, |command, id| command.mut_arg(id, |option| option.allow_negative_numbers(true)))
+    };
+    let all = Args::command();
+    names(&all).into_iter().fold(all, |all, name| all.mut_subcommand(name, with_numbers))
 }
 
 #[derive(Subcommand)]
@@ -53,7 +76,7 @@ pub struct Write {
     #[arg(short, long, value_name = "FILM.rsm")]
     pub output: PathBuf,
     /// How rows are cut: l1,l2,nc,r (default: chosen by the width, with 12 checks or more where it allows)
-    #[arg(long, value_parser = layout::parse)]
+    #[arg(long, value_parser = layout::parse, allow_hyphen_values = true)]
     pub layout: Option<Layout>,
     #[command(flatten)]
     pub say: Say,
@@ -72,16 +95,16 @@ pub struct Drop {
     #[arg(short, long, value_name = "FILM.rx")]
     pub output: PathBuf,
     /// What decides which bits are dropped
-    #[arg(long, default_value_t = 1)]
+    #[arg(long, default_value_t = 1, value_parser = count::<u64>)]
     pub seed: u64,
     /// The chance of each bit to be dropped, from 0 to 1
     #[arg(long, value_parser = chance)]
     pub rate: Option<f64>,
     /// Each row loses so many bits side by side
-    #[arg(long, value_name = "BITS")]
+    #[arg(long, value_name = "BITS", value_parser = count::<usize>)]
     pub burst: Option<usize>,
     /// How rows are cut: l1,l2,nc,r (default: as `film write` chooses)
-    #[arg(long, value_parser = layout::parse)]
+    #[arg(long, value_parser = layout::parse, allow_hyphen_values = true)]
     pub layout: Option<Layout>,
     #[command(flatten)]
     pub say: Say,
@@ -123,7 +146,7 @@ pub struct Show {
     #[arg(value_name = "FILE")]
     pub file: PathBuf,
     /// Only this row of the line
-    #[arg(long, value_name = "ROW")]
+    #[arg(long, value_name = "ROW", value_parser = count::<usize>)]
     pub row: Option<usize>,
 }
 
@@ -165,7 +188,7 @@ pub struct Plot {
     #[arg(short, long, value_name = "PICTURE", required = true)]
     pub output: Vec<PathBuf>,
     /// The most pixels that a film is wide in the picture
-    #[arg(long, value_name = "PIXELS", default_value_t = 680, value_parser = clap::value_parser!(u32).range(50..=10_000))]
+    #[arg(long, value_name = "PIXELS", default_value_t = 680, value_parser = |text: &str| whole::<u32>(text, 50..=10_000))]
     pub width: u32,
 }
 
@@ -181,16 +204,16 @@ pub struct Soak {
     /// Films whose rows are tried beside the made-up ones
     pub films: Vec<PathBuf>,
     /// How many rows are tried
-    #[arg(long, default_value_t = 1000)]
+    #[arg(long, default_value_t = 1000, value_parser = count::<usize>)]
     pub rows: usize,
     /// What decides which rows and losses are tried
-    #[arg(long, default_value_t = 1)]
+    #[arg(long, default_value_t = 1, value_parser = count::<u64>)]
     pub seed: u64,
     /// The most bits that a row loses
-    #[arg(long, value_name = "BITS", default_value_t = 12, value_parser = clap::value_parser!(u16).range(0..=12))]
+    #[arg(long, value_name = "BITS", default_value_t = 12, value_parser = |text: &str| whole::<u16>(text, 0..=12))]
     pub most: u16,
     /// How rows are cut: l1,l2,nc,r (default: several for made-up rows; for films as `film write` chooses)
-    #[arg(long, value_parser = layout::parse)]
+    #[arg(long, value_parser = layout::parse, allow_hyphen_values = true)]
     pub layout: Option<Layout>,
     #[command(flatten)]
     pub work: Work,
@@ -201,7 +224,7 @@ pub struct Soak {
 #[derive(clap::Args)]
 pub struct Work {
     /// Threads, 1 to 256 (default: one for each processor)
-    #[arg(long, value_name = "N", value_parser = clap::value_parser!(u16).range(1..=256))]
+    #[arg(long, value_name = "N", value_parser = |text: &str| whole::<u16>(text, 1..=256))]
     pub jobs: Option<u16>,
     /// A row that takes longer is given up and reported; its work is stopped. 0: without limit
     #[arg(long, value_name = "SECONDS", default_value_t = 60.0, value_parser = seconds)]
@@ -213,12 +236,26 @@ pub struct Work {
 
 #[derive(clap::Args)]
 pub struct Say {
-    /// Say nothing but errors; the exit status tells what came out
+    /// Say nothing but errors, and the report if --json asks for it; the exit status tells what came out
     #[arg(short, long)]
     pub quiet: bool,
-    /// Report as JSON
+    /// Report as JSON, for programs; --quiet leaves this report as it is
     #[arg(long)]
     pub json: bool,
+}
+
+/// A whole number of a range.
+fn whole<T: TryFrom<u64>>(text: &str, range: RangeInclusive<u64>) -> Result<T, String> {
+    let number = text.parse().ok().filter(|number| range.contains(number));
+    number.and_then(|number| T::try_from(number).ok()).ok_or_else(|| match range.into_inner() {
+        (0, u64::MAX) => String::from("a whole number is wanted, 0 or more"),
+        (from, to) => format!("a whole number from {from} to {to} is wanted"),
+    })
+}
+
+/// A whole number.
+fn count<T: TryFrom<u64>>(text: &str) -> Result<T, String> {
+    whole(text, 0..=u64::MAX)
 }
 
 fn chance(text: &str) -> Result<f64, String> {
@@ -238,10 +275,9 @@ fn seconds(text: &str) -> Result<f64, String> {
 #[cfg(test)]
 mod tests {
     use super::*;
-    use clap::CommandFactory;
 
     #[test]
     fn the_commands_are_well_formed() {
-        Args::command().debug_assert();
+        commands().debug_assert();
     }
 }

@@ -23,13 +23,11 @@ mod worker;
 
 use std::process::ExitCode;
 
-use clap::Parser;
-
-use args::{Args, Command};
+use args::Command;
 use trouble::{Result, Trouble};
 
 fn main() -> ExitCode {
-    match run(&Args::parse().command) {
+    match run(&args::parse()) {
         Ok(true) => ExitCode::SUCCESS,
         Ok(false) => ExitCode::from(1),
         Err(trouble) => {

@@ -108,6 +108,53 @@ fn bad_usage_is_status_2() {
     assert!(fs::read_dir(&folder).unwrap().all(|entry| !entry.unwrap().file_name().to_string_lossy().starts_with('x')));
 }
 
+/// A number that an option does not take is told what the option wants, also a negative one.
+#[test]
+fn options_say_what_they_want() {
+    let folder = case_8("wanted");
+    let list = "list film.rsm film.rx -o x.pbm";
+    for (words, said) in [
+        (format!("{list} --patience -1"), "'-1' for '--patience <SECONDS>': a number of seconds is wanted, 0 or more"),
+        (format!("{list} --jobs -1"), "'-1' for '--jobs <N>': a whole number from 1 to 256 is wanted"),
+        (format!("{list} --jobs 0"), "'0' for '--jobs <N>': a whole number from 1 to 256 is wanted"),
+        (String::from("drop film.pbm --rate -0.1 -o x"), "'-0.1' for '--rate <RATE>': a number from 0 to 1 is wanted"),
+        (
+            String::from("drop film.pbm --burst -3 -o x"),
+            "'-3' for '--burst <BITS>': a whole number is wanted, 0 or more",
+        ),
+        (
+            String::from("drop film.pbm --burst 1 --seed 1.5 -o x"),
+            "'1.5' for '--seed <SEED>': a whole number is wanted",
+        ),
+        (String::from("show film.rsm --row -1"), "'-1' for '--row <ROW>': a whole number is wanted, 0 or more"),
+        (String::from("soak --most 13"), "'13' for '--most <BITS>': a whole number from 0 to 12 is wanted"),
+        (String::from("soak --rows -1"), "'-1' for '--rows <ROWS>': a whole number is wanted, 0 or more"),
+        (String::from("write film.pbm -o x --layout -1,2,3,4"), "'-1,2,3,4' for '--layout <LAYOUT>': four numbers"),
+    ] {
+        let output = film(&folder, &words);
+        let line = text(&output.stderr);
+        assert!(output.status.code() == Some(2) && line.contains(said) && !line.contains("-- -"), "{words}: {line}");
+    }
+}
+
+/// With both, the report is printed as JSON and nothing else is said.
+#[test]
+fn quiet_json_is_the_report_alone() {
+    let folder = case_8("quiet-json");
+    for (status, words) in [
+        (0, "write film.pbm --layout 2,1,4,0 -o w.rsm"),
+        (0, "drop film.pbm --burst 1 -o d.rx"),
+        (1, "list film.rsm film.rx -o out.pbm"),
+        (0, "check film.pbm film.rsm"),
+        (0, "soak --rows 3 --most 1"),
+    ] {
+        let output = film(&folder, &format!("{words} --quiet --json"));
+        let report = text(&output.stdout);
+        assert_eq!((output.status.code(), text(&output.stderr)), (Some(status), String::new()), "{words}");
+        assert!(report.starts_with('{') && report.ends_with("}\n") && report.lines().count() == 1, "{words}: {report}");
+    }
+}
+
 /// A film of another size is not the same: that is a difference, and no bad file.
 #[test]
 fn other_sizes_are_status_1() {
@@ -120,6 +167,17 @@ fn other_sizes_are_status_1() {
     let report = ends(1, &folder, "check film.pbm other.pbm --json");
     assert!(report.contains("\"same\":false,\"different_sizes\":[\"8 × 1\",\"8 × 2\"],"), "{report}");
     assert!(ends(0, &folder, "check film.pbm film.pbm --json").contains("\"same\":true,\"different_sizes\":[],"));
+}
+
+/// A line that loses much of long rows has hundreds of different losses; the report has the first of them.
+#[test]
+fn long_histograms_are_cut() {
+    let folder = folder("histograms");
+    fs::write(folder.join("film.pbm"), common::made_up(2040, 60)).unwrap();
+    let report = ends(0, &folder, "drop film.pbm --rate 0.5 -o film.rx");
+    assert!(report.lines().all(|line| line.len() < 250) && report.contains(" others: "), "{report}");
+    let report = ends(0, &folder, "drop film.pbm --rate 0.5 --json -o film.rx");
+    assert!(report.matches(':').count() > 24, "{report}");
 }
 
 #[test]
@@ -183,6 +241,8 @@ fn help_is_status_0_and_has_an_example() {
         assert!(help.contains(&format!("film {command} board")) || help.contains("film soak --rows"), "{help}");
     }
     assert!(ends(0, &folder, "--help").contains("Exit status: 0"));
+    assert_eq!(ends(0, &folder, "help"), ends(0, &folder, "--help"));
+    assert_eq!(ends(0, &folder, "help list"), ends(0, &folder, "list --help"));
     assert!(ends(0, &folder, "--version").starts_with("film "));
 }
 
