@@ -88,7 +88,9 @@ fn hand_on(before: &Metadata, path: &Path, file: &File) -> io::Result<()> {
     let given = is_given(&file.metadata()?)
         || give(path, &format!("{}:{}", before.uid(), before.gid()))
         || give(path, &format!(":{}", before.gid())) && is_given(&file.metadata()?);
-    file.set_permissions(Permissions::from_mode(before.mode() & if given { MODE } else { RIGHTS }))
+    // Where a disk has no modes, or other ones, the file is saved all the same.
+    let _ = file.set_permissions(Permissions::from_mode(before.mode() & if given { MODE } else { RIGHTS }));
+    Ok(())
 }
 
 /// Gives a file to an owner and a group, by number; answers whether that could be done. The oldest Rust that this is for
