@@ -7,6 +7,8 @@ Lists every row that is consistent with a message and a received row. Reads stan
 the length of the message (2 bytes, high first), the message, the number m of received bits (2 bytes, high first), and the
 received row in the remaining bytes, packed first bit highest.
 
+It takes no options, and no word behind its name is looked at: rowlist --help, too, waits for such input.
+
 Prints a line with the word count and the number of rows, then each row on a line of its own in capital hexadecimal, in
 dictionary order. Where the input is refused, prints one line, the word refused and the number of the refusal. It lists at most
 as many rows as 4,096 bytes hold; where there are more, it is refused by 9.
@@ -25,7 +27,7 @@ Refusals, by their number:
 What it puts out for the bytes that it has read is proved to be what is written here, as the library is proved, for any
 bytes. Reading and writing themselves rest on the C library's read and write, of which it is assumed that they do their part.
 
-Example:
+Examples:
   printf '\000\013RSM\000\001\002\001\004\000\100\200\000\006\074' | rowlist
 
 prints the lines count 2, 36 and 39.

@@ -3,17 +3,19 @@
 use std::collections::BTreeMap;
 use std::fs::File;
 use std::io::{self, Seek, Write};
-use std::path::{Path, PathBuf};
+use std::path::Path;
 
 use crate::files;
 use crate::trouble::{Result, Trouble};
 
+/// Stands behind a row of a list that the pad rules out.
+pub const PAD: &str = " pad";
+
 /// With so many bytes of lists that wait for a row before them, no new rows are begun.
 const MOST: usize = 64 << 20;
 
-/// Lists go to a file that has no name yet, and under their own name when all are there; what is no file gets them as they come.
+/// Lists go to a file that has no name yet, and under a name when all are there; what is no file gets them as they come.
 pub struct Lists {
-    path: PathBuf,
     to: To,
     /// The row whose list is written next.
     next: usize,
@@ -31,7 +33,7 @@ enum To {
 impl Lists {
     pub fn new(path: &Path) -> Result<Lists> {
         let trouble = |error| Trouble::with(path.display(), error);
-        let to = if files::is_standard(path) {
+        let to = if files::is_output(path) {
             To::Stream(Box::new(io::stdout()))
         } else {
             match container::nameless(path).map_err(trouble)? {
@@ -39,7 +41,7 @@ impl Lists {
                 None => To::Stream(Box::new(container::stream(path).map_err(trouble)?)),
             }
         };
-        Ok(Lists { path: path.to_path_buf(), to, next: 0, waiting: BTreeMap::new(), bytes: 0, failed: None })
+        Ok(Lists { to, next: 0, waiting: BTreeMap::new(), bytes: 0, failed: None })
     }
 
     /// The list of a row.
@@ -64,18 +66,47 @@ impl Lists {
         self.bytes >= MOST
     }
 
-    /// All lists are there.
-    pub fn finish(self) -> Result<()> {
-        let trouble = |error| Trouble::with(self.path.display(), error);
+    /// All lists are there, and stand under this name from now on.
+    pub fn finish(self, path: &Path) -> Result<()> {
+        let trouble = |error| Trouble::with(path.display(), error);
         if let Some(error) = self.failed {
             return Err(trouble(error));
         }
         match self.to {
             To::Nameless(file) => {
                 let mut file = file.into_inner().map_err(|error| trouble(error.into_error()))?;
-                file.rewind().and_then(|()| container::save_from(&self.path, &mut file)).map_err(trouble)
+                file.rewind().and_then(|()| container::save_from(path, &mut file)).map_err(trouble)
             }
             To::Stream(mut stream) => stream.flush().map_err(trouble),
         }
+    }
+}
+
+/// The text of the lists, read again: of which rows of the line at least one row can have been sent. Rows that the pad rules
+/// out do not count, and neither do the first rows of a list that was refused as too long.
+pub fn listed(text: &str) -> Vec<bool> {
+    let mut rows = Vec::new();
+    let mut counts = false;
+    for line in text.lines() {
+        if line.starts_with("row ") {
+            counts = line.split(' ').any(|word| word == "count");
+            rows.push(false);
+        } else if let Some(listed) = rows.last_mut() {
+            *listed |= counts && !line.ends_with(PAD);
+        }
+    }
+    rows
+}
+
+#[cfg(test)]
+mod tests {
+    use super::*;
+
+    #[test]
+    fn what_is_listed() {
+        let text = "row 0 panel 0 received 6 count 2\n03 pad\n04\nrow 0 panel 1 received 6 count 1\n05 pad\n\
+                    row 1 panel 0 received 6 refused 9\n03\nrow 1 panel 1 received 6 count 0\n\
+                    row 2 panel 0 received 6 not done\nrow 2 panel 1 received 6 count 1\n04\n";
+        assert_eq!(listed(text), [true, false, false, false, false, true]);
     }
 }

@@ -7,15 +7,21 @@ mod board;
 mod command;
 mod cut;
 mod files;
+mod from_png;
+mod from_tiff;
+mod glyphs;
 mod hand;
 mod hex;
+mod histogram;
 mod json;
 mod layout;
 mod line;
 mod lister;
 mod lists;
+mod pbm;
 mod picture;
 mod progress;
+mod scale;
 mod stop;
 mod tally;
 mod trouble;
@@ -24,13 +30,11 @@ mod worker;
 
 use std::process::ExitCode;
 
-use clap::Parser;
-
-use args::{Args, Command};
+use args::Command;
 use trouble::{Result, Trouble};
 
 fn main() -> ExitCode {
-    match run(&Args::parse().command) {
+    match run(&args::parse()) {
         Ok(status) => ExitCode::from(status),
         Err(trouble) => {
             files::complain(&format!("film: {trouble}"));

@@ -2,6 +2,7 @@
 
 use std::collections::BTreeMap;
 
+use crate::histogram;
 use crate::json::{object, Json};
 use crate::lister::Silence;
 use crate::verdict::Verdict;
@@ -73,7 +74,7 @@ impl Tally {
             format!(
                 "several rows       {}{}",
                 self.several.values().sum::<usize>(),
-                pairs("size: lists", &self.several)
+                histogram::words("size: lists", &self.several)
             ),
             format!("not listed         {}{}", self.not_listed(), self.reasons()),
         ];
@@ -131,15 +132,6 @@ impl Tally {
             _ => Vec::new(),
         }
     }
-}
-
-/// ` (what; 2: 3, 5: 1)`, or nothing where there are none.
-fn pairs<K: std::fmt::Display>(what: &str, counts: &BTreeMap<K, usize>) -> String {
-    if counts.is_empty() {
-        return String::new();
-    }
-    let parts: Vec<String> = counts.iter().map(|(key, count)| format!("{key}: {count}")).collect();
-    format!(" ({what}; {})", parts.join(", "))
 }
 
 fn counts<K: std::fmt::Display>(counts: &BTreeMap<K, usize>) -> Json {

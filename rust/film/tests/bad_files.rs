@@ -86,8 +86,8 @@ fn damaged_and_cut_files() {
         let good = fs::read(folder.join(name)).unwrap();
         let end = good.len();
         for (bytes, said) in [
-            (good[..end - 1].to_vec(), format!("byte {}: the file ends, 1 bytes short of the checksum", end - 1)),
-            (good[..3].to_vec(), String::from("byte 3: the file ends, 1 bytes short of the mark")),
+            (good[..end - 1].to_vec(), format!("byte {}: the file ends, 1 byte short of the checksum", end - 1)),
+            (good[..3].to_vec(), String::from("byte 3: the file ends, 1 byte short of the mark")),
             (vec![], String::from("byte 0: the file ends")),
             ([&good[..], b"\n"].concat(), format!("byte {end}: the file should end here")),
             ([&good[..end - 1], &[good[end - 1] ^ 1]].concat(), format!("byte {}: the checksum is", end - 4)),
@@ -132,4 +132,27 @@ fn bad_films() {
         }
     }
     nothing_is_written(&folder);
+}
+
+/// A plain film with a digit too many, or one that is none, is refused by its byte, and comments among its digits and
+/// behind the size of a raw film are passed over.
+#[test]
+fn films_as_netpbm_reads_them() {
+    let folder = folder("netpbm");
+    for (bytes, said) in [
+        (
+            &b"P1\n4 2\n0 1 1 0 1\n1 0 0 1\n"[..],
+            "film: bad: byte 23: the film ends before this, but the file goes on\n",
+        ),
+        (b"P1\n4 2\n0 1 2 0\n1 0 0 1\n", "film: bad: byte 11: '2' where 0 or 1 should be\n"),
+        (b"P1\n4 2\n0 1 1 0\n1 0 0\n", "film: bad: byte 21: the file ends within the film\n"),
+        (b"P4\n4 2\n\x60\x90\0", "film: bad: byte 9: the film ends before this, but the file goes on\n"),
+    ] {
+        fs::write(folder.join("bad"), bytes).unwrap();
+        assert_eq!(refused(&folder, "write bad -o out"), said);
+    }
+    nothing_is_written(&folder);
+    fs::write(folder.join("plain.pbm"), "P1\n4 2\n0 1 # the first row: 0110\n1 0 10#01\n01\n").unwrap();
+    fs::write(folder.join("raw.pbm"), b"P4\n4 2# four columns\n\x60\x90").unwrap();
+    ends(0, &folder, "check plain.pbm raw.pbm");
 }

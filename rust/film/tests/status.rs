@@ -104,10 +104,7 @@ fn rows_that_are_too_long_are_said_to_be() {
     let report = ends(1, &folder, "list film.rsm film.rx --json -o out.pbm");
     assert!(report.contains("\"lost\":0,\"too_many\":2,\"outcome\":\"refused 7\""), "{report}");
     let shown = ends(0, &folder, "show film.rx");
-    assert!(
-        shown.contains("bits lost  0 (bits lost: rows; )\nbits too many  2 (bits too many: rows; 2: 1)\n"),
-        "{shown}"
-    );
+    assert!(shown.contains("bits lost  0\nbits too many  2 (bits too many: rows; 2: 1)\n"), "{shown}");
 }
 
 /// The refusals stand with their numbers and words in the README, in the help that the man page is made of, and in the
@@ -176,6 +173,86 @@ fn bad_usage_is_status_2() {
     assert!(fs::read_dir(&folder).unwrap().all(|entry| !entry.unwrap().file_name().to_string_lossy().starts_with('x')));
 }
 
+/// A number that an option does not take is told what the option wants, also a negative one.
+#[test]
+fn options_say_what_they_want() {
+    let folder = case_8("wanted");
+    let list = "list film.rsm film.rx -o x.pbm";
+    for (words, said) in [
+        (format!("{list} --patience -1"), "'-1' for '--patience <SECONDS>': a number of seconds is wanted, 0 or more"),
+        (format!("{list} --jobs -1"), "'-1' for '--jobs <N>': a whole number from 1 to 256 is wanted"),
+        (format!("{list} --jobs 0"), "'0' for '--jobs <N>': a whole number from 1 to 256 is wanted"),
+        (String::from("drop film.pbm --rate -0.1 -o x"), "'-0.1' for '--rate <RATE>': a number from 0 to 1 is wanted"),
+        (
+            String::from("drop film.pbm --burst -3 -o x"),
+            "'-3' for '--burst <BITS>': a whole number is wanted, 0 or more",
+        ),
+        (
+            String::from("drop film.pbm --burst 1 --seed 1.5 -o x"),
+            "'1.5' for '--seed <SEED>': a whole number is wanted",
+        ),
+        (String::from("show film.rsm --row -1"), "'-1' for '--row <ROW>': a whole number is wanted, 0 or more"),
+        (String::from("soak --most 13"), "'13' for '--most <BITS>': a whole number from 0 to 12 is wanted"),
+        (
+            String::from("show film.rsm --row 0 --panel x"),
+            "'x' for '--panel <PANEL>': a whole number is wanted, 0 or more",
+        ),
+        (String::from("write film.pbm -o x --format 3"), "'3' for '--format <VERSION>': a whole number from 1 to 2"),
+        (String::from("row 52 3C -1"), "'-1' for '<BITS>': a whole number from 0 to 65535 is wanted"),
+        (format!("{list} --deadline -1"), "'-1' for '--deadline <SECONDS>': a number of seconds is wanted, 0 or more"),
+        (String::from("soak --case -1"), "'-1' for '--case <NUMBER>': a whole number is wanted, 0 or more"),
+        (String::from("soak --rows -1"), "'-1' for '--rows <ROWS>': a whole number is wanted, 0 or more"),
+        (String::from("write film.pbm -o x --layout -1,2,3,4"), "'-1,2,3,4' for '--layout <LAYOUT>': four numbers"),
+    ] {
+        let output = film(&folder, &words);
+        let line = text(&output.stderr);
+        assert!(output.status.code() == Some(2) && line.contains(said) && !line.contains("-- -"), "{words}: {line}");
+    }
+}
+
+/// With both, the report is printed as JSON and nothing else is said.
+#[test]
+fn quiet_json_is_the_report_alone() {
+    let folder = case_8("quiet-json");
+    for (status, words) in [
+        (0, "write film.pbm --layout 2,1,4,0 -o w.rsm"),
+        (0, "drop film.pbm --burst 1 -o d.rx"),
+        (1, "list film.rsm film.rx -o out.pbm"),
+        (0, "check film.pbm film.rsm"),
+        (0, "soak --rows 3 --most 1"),
+    ] {
+        let output = film(&folder, &format!("{words} --quiet --json"));
+        let report = text(&output.stdout);
+        assert_eq!((output.status.code(), text(&output.stderr)), (Some(status), String::new()), "{words}");
+        assert!(report.starts_with('{') && report.ends_with("}\n") && report.lines().count() == 1, "{words}: {report}");
+    }
+}
+
+/// A film of another size is not the same: that is a difference, and no bad file.
+#[test]
+fn other_sizes_are_status_1() {
+    let folder = case_8("sizes");
+    fs::write(folder.join("other.pbm"), common::made_up(8, 2)).unwrap();
+    let said = "the sizes differ: the film has 8 × 1, the other 8 × 2\n";
+    assert_eq!(ends(1, &folder, "check film.pbm other.pbm"), said);
+    let said = "the sizes differ: the film has 8 × 2, the other 8 × 1\n";
+    assert_eq!(ends(1, &folder, "check other.pbm film.rsm"), said);
+    let report = ends(1, &folder, "check film.pbm other.pbm --json");
+    assert!(report.contains("\"same\":false,\"different_sizes\":[\"8 × 1\",\"8 × 2\"],"), "{report}");
+    assert!(ends(0, &folder, "check film.pbm film.pbm --json").contains("\"same\":true,\"different_sizes\":[],"));
+}
+
+/// A line that loses much of long rows has hundreds of different losses; the report has the first of them.
+#[test]
+fn long_histograms_are_cut() {
+    let folder = folder("histograms");
+    fs::write(folder.join("film.pbm"), common::made_up(2040, 60)).unwrap();
+    let report = ends(0, &folder, "drop film.pbm --rate 0.5 -o film.rx");
+    assert!(report.lines().all(|line| line.len() < 250) && report.contains(" others: "), "{report}");
+    let report = ends(0, &folder, "drop film.pbm --rate 0.5 --json -o film.rx");
+    assert!(report.matches(':').count() > 24, "{report}");
+}
+
 #[test]
 fn files_that_do_not_go_together_are_status_2() {
     let folder = case_8("together");
@@ -200,11 +277,9 @@ fn files_that_do_not_go_together_are_status_2() {
     ends(0, &folder, "drop film.pbm --layout 1,1,4,0 --burst 1 -o four.rx");
     assert!(refused(&folder, "list film.rsm four.rx -o x.pbm").contains("rows of 8 bits, but rows of 4 were sent"));
     assert!(refused(&folder, "list film.rsm film.rx --sent other.pbm -o x.pbm").contains("8 × 2"));
-    assert!(refused(&folder, "check film.pbm other.pbm").contains("8 × 2"));
-    assert!(refused(&folder, "check other.pbm film.rsm").contains("8 × 1"));
     assert!(refused(&folder, "plot other.pbm film.rx other.pbm -o x.png").contains("but 1 arrived"));
     fs::write(folder.join("tall.pbm"), [&b"P4\n1 2100000\n"[..], &[0; 2_100_000]].concat()).unwrap();
-    assert!(refused(&folder, "plot tall.pbm film.rx tall.pbm -o x.png").contains("88 × 16800052 pixels"));
+    assert!(refused(&folder, "plot tall.pbm film.rx tall.pbm -o x.png").contains("88 × 16800076 pixels"));
 }
 
 /// An output that is another one or an input is refused, however it is spelled, and every file stays as it was.
@@ -214,6 +289,7 @@ fn outputs_that_would_replace_a_file_are_status_2() {
     ends(1, &folder, "list film.rsm film.rx -o out.pbm");
     symlink("film.rsm", folder.join("link.rsm")).unwrap();
     symlink("none.txt", folder.join("nowhere")).unwrap();
+    fs::copy(folder.join("film.pbm"), folder.join("sent.unfinished")).unwrap();
     let all = || ["film.pbm", "film.rsm", "film.rx", "out.pbm"].map(|name| fs::read(folder.join(name)).unwrap());
     let before = all();
     for words in [
@@ -221,6 +297,7 @@ fn outputs_that_would_replace_a_file_are_status_2() {
         "list film.rsm film.rx -o same --lists same",
         "list film.rsm film.rx -o same --lists ../apart/same",
         "list film.rsm film.rx -o nowhere --lists none.txt",
+        "list film.rsm film.rx -o same --lists same.unfinished",
         "plot film.pbm film.rx out.pbm -o same.png -o ./same.png",
     ] {
         assert!(refused(&folder, words).contains("two outputs cannot go to the same file"));
@@ -232,12 +309,13 @@ fn outputs_that_would_replace_a_file_are_status_2() {
         "list film.rsm film.rx -o link.rsm",
         "list film.rsm film.rx -o new.pbm --lists film.rsm",
         "list film.rsm film.rx --sent film.pbm -o film.pbm",
+        "list film.rsm film.rx --sent sent.unfinished -o sent",
         "plot film.pbm film.rx out.pbm -o out.pbm",
     ] {
         assert!(refused(&folder, words).contains("an output cannot replace an input"));
     }
     assert!(all() == before);
-    assert!(["same", "same.png", "new.pbm", "none.txt"].iter().all(|name| !folder.join(name).exists()));
+    assert!(["same", "same.png", "new.pbm", "none.txt", "sent"].iter().all(|name| !folder.join(name).exists()));
     ends(1, &folder, "list film.rsm film.rx -o /dev/null --lists /dev/null");
 }
 
@@ -249,7 +327,10 @@ fn help_is_status_0_and_has_an_example() {
         let example = ["board", "--rows", "52534D"].iter().any(|word| help.contains(&format!("film {command} {word}")));
         assert!(example, "{help}");
     }
-    assert!(ends(0, &folder, "--help").contains("Exit status: 0"));
+    let help = ends(0, &folder, "--help");
+    assert!(help.contains("Exit status: 0") && help.contains("130 interrupted"), "{help}");
+    assert_eq!(ends(0, &folder, "help"), ends(0, &folder, "--help"));
+    assert_eq!(ends(0, &folder, "help list"), ends(0, &folder, "list --help"));
     assert!(ends(0, &folder, "--version").starts_with("film "));
 }
 
@@ -377,6 +458,31 @@ fn standard_input_and_output() {
     assert!(picture.starts_with(b"\x89PNG\r\n"));
 }
 
+/// The system's names of standard input and output are `-` too: only the file goes there, into a pipe as into a file.
+#[test]
+fn the_systems_names_of_standard_input_and_output() {
+    let folder = case_8("system-names");
+    let file = |name: &str| fs::read(folder.join(name)).unwrap();
+    for name in ["/dev/stdout", "/dev/fd/1", "/proc/self/fd/1"] {
+        let words = format!("write film.pbm --layout 2,1,4,0 -o {name}");
+        let output = film(&folder, &words);
+        assert_eq!(output.stdout, file("film.rsm"), "{name}");
+        assert!(text(&output.stderr).contains("layout     2,1,4,0"), "{name}");
+        let into = fs::File::create(folder.join("into")).unwrap();
+        let mut command = std::process::Command::new(common::FILM);
+        command.current_dir(&folder).args(words.split_whitespace()).stdout(into);
+        assert!(command.output().unwrap().status.success());
+        assert_eq!(file("into"), file("film.rsm"), "{name}");
+    }
+    let line = refused(&folder, "list film.rsm film.rx -o - --lists /dev/stdout");
+    assert!(line.contains("two outputs cannot go to the same file"), "{line}");
+    assert!(refused(&folder, "list - /dev/stdin -o x.pbm").contains("only one"));
+    let output = film_with(&folder, "write /dev/stdin --layout 2,1,4,0 --quiet -o /dev/stdout", &file("film.pbm"));
+    assert_eq!((output.stdout, output.stderr), (file("film.rsm"), vec![]));
+    let line = text(&film_with(&folder, "write /dev/fd/0 -o x.rsm", b"P1 1 1 2").stderr);
+    assert_eq!(line, "film: standard input: byte 7: '2' where 0 or 1 should be\n");
+}
+
 #[test]
 fn pictures_by_their_ending() {
     let folder = case_8("pictures");
@@ -385,4 +491,45 @@ fn pictures_by_their_ending() {
     assert!(fs::read(folder.join("picture.png")).unwrap().starts_with(b"\x89PNG\r\n"));
     let svg = fs::read_to_string(folder.join("picture.SVG")).unwrap();
     assert!(svg.contains("<svg") && svg.contains("data:image/png;base64,") && svg.contains("received: 2 bits lost"));
+}
+
+/// A picture says how many rows were listed: as the lists say, or without them at most so many.
+#[test]
+fn pictures_say_how_many_rows_were_listed() {
+    let folder = folder("pictures-listed");
+    fs::write(folder.join("film.pbm"), "P1\n60 3\n".to_string() + &"0".repeat(60) + &"01".repeat(60)).unwrap();
+    ends(0, &folder, "write film.pbm -o film.rsm");
+    ends(0, &folder, "drop film.pbm --burst 1 -o film.rx");
+    ends(0, &folder, "list film.rsm film.rx --lists lists.txt -o out.pbm");
+    let lists = fs::read_to_string(folder.join("lists.txt")).unwrap();
+    // As if the first row, which is blank, and the second had not been listed, which the film shows of the second alone.
+    let lists = lists.replacen("count 1\n0000000000000000\n", "given up\n", 1).replacen(
+        "count 1\n5555555555555550\n",
+        "refused 9\n",
+        1,
+    );
+    fs::write(folder.join("lists.txt"), lists).unwrap();
+    fs::write(folder.join("out.pbm"), "P1\n60 3\n".to_string() + &"0".repeat(120) + &"01".repeat(30)).unwrap();
+    for (words, said) in [("", ">\nlisted: at most 2 of 3 rows\n"), ("--lists lists.txt", ">\nlisted: 1 of 3 rows\n")] {
+        ends(0, &folder, &format!("plot film.pbm film.rx out.pbm {words} -o picture.svg"));
+        let svg = fs::read_to_string(folder.join("picture.svg")).unwrap();
+        assert!(svg.contains(said) && svg.contains("recovered: 2 of 3 rows equal"), "{words}: {svg}");
+    }
+    // A list of which the pad rules out all rows is as one of none.
+    let ruled_out =
+        "row 0 received 59 count 1\n0000000000000001 pad\n".to_string() + &"row 1 received 59 count 1\n00\n".repeat(2);
+    fs::write(folder.join("pad.txt"), ruled_out).unwrap();
+    ends(0, &folder, "plot film.pbm film.rx out.pbm --lists pad.txt -o picture.svg");
+    assert!(fs::read_to_string(folder.join("picture.svg")).unwrap().contains(">\nlisted: 2 of 3 rows\n"));
+    fs::write(folder.join("two.txt"), "row 0 received 59 count 0\nrow 1 received 59 count 0\n").unwrap();
+    let line = refused(&folder, "plot film.pbm film.rx out.pbm --lists two.txt -o x.png");
+    assert!(line.contains("two.txt: these are the lists of 2 rows, but 3 arrived"), "{line}");
+}
+
+/// No command needs the libraries of fonts, which a plotter room's machine may lack.
+#[test]
+fn no_font_library_is_linked() {
+    let program = text(&fs::read(common::FILM).unwrap());
+    assert!(program.contains("libc.so.6"));
+    assert!(!program.contains("libfontconfig.so") && !program.contains("libfreetype.so"));
 }

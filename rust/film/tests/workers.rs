@@ -21,6 +21,11 @@ fn files(name: &str) -> PathBuf {
     folder
 }
 
+/// The bytes that a worker is asked for a row of such a film with.
+fn question(folder: &Path) -> usize {
+    4 + container::Messages::decode(&fs::read(folder.join("film.rsm")).unwrap()).unwrap().messages[0].len() + 8
+}
+
 /// Waits until something is so, at most half a minute.
 fn until(what: &str, so: impl Fn() -> bool) {
     let began = Instant::now();
@@ -51,7 +56,7 @@ fn a_row_that_takes_too_long_is_given_up() {
     assert!(report.contains("row 0: given up, 1 bit lost\n"), "{report}");
     assert!(folder.join("pid").exists() && !lives(&folder.join("pid")));
     let differ = ends(1, &folder, "check film.pbm out.pbm");
-    assert!(differ.ends_with("1 row of 3 rows of 60 bits differ\n"), "{differ}");
+    assert!(differ.ends_with("1 row of 3 rows of 60 bits differs\n"), "{differ}");
 }
 
 /// A worker that ends is started again and its row repeated; a row at which two end is reported, and costs no other.
@@ -74,7 +79,7 @@ fn a_worker_that_ends_is_started_again() {
 #[test]
 fn workers_that_cannot_be_started() {
     let folder = files("not-started");
-    let line = common::refused(&folder, "list film.rsm film.rx --worker ./none -o none.pbm");
+    let line = common::refused(&folder, "list film.rsm film.rx --quiet --worker ./none -o none.pbm");
     assert!(line.contains("./none: a worker cannot be started: ") && !folder.join("none.pbm").exists(), "{line}");
     let script = worker(&folder, "rm \"$0\"\nhead -c 20 /dev/zero\nhead -c 1 >/dev/null");
     let words = format!("list film.rsm film.rx --jobs 1 --lists lists --worker {} -o out.pbm", script.display());
@@ -83,8 +88,9 @@ fn workers_that_cannot_be_started() {
     assert_eq!(output.status.code(), Some(2), "{said}");
     assert!(said.starts_with("film: ") && said.contains("worker.sh: a worker cannot be started: "), "{said}");
     assert!(report.contains("not listed         3 (no row fits: 1, not done: 2)\n"), "{report}");
-    assert!(folder.join("out.pbm").exists());
-    let lists = fs::read_to_string(folder.join("lists")).unwrap();
+    assert!(report.contains("\nunfinished         out.pbm.unfinished, lists.unfinished\n"), "{report}");
+    assert!(folder.join("out.pbm.unfinished").exists() && !folder.join("out.pbm").exists());
+    let lists = fs::read_to_string(folder.join("lists.unfinished")).unwrap();
     assert_eq!(lists, "row 0 received 59 count 0\nrow 1 received 59 not done\nrow 2 received 59 not done\n");
 }
 
@@ -110,14 +116,15 @@ fn threads_that_cannot_be_started() {
     assert!(said.starts_with("film: no thread can be started: ") && said.lines().count() == 1, "{said}");
 }
 
-/// Rows go to a worker several at a time: this one answers the first, and then only two together.
+/// Rows go to a worker several at a time: this one answers the first, and then only two together. On a busy machine the second
+/// of these may be asked for again.
 #[test]
 fn a_worker_is_asked_for_rows_ahead() {
     let folder = files("ahead");
-    let length = container::Messages::decode(&fs::read(folder.join("film.rsm")).unwrap()).unwrap().messages[0].len();
-    let question = 4 + length + 8;
+    let question = question(&folder);
     let script = format!(
-        "head -c {question} >/dev/null\nhead -c 20 /dev/zero\nhead -c {} >/dev/null\nhead -c 40 /dev/zero\ncat >/dev/null",
+        "head -c {question} >/dev/null\nhead -c 20 /dev/zero\nhead -c {} >/dev/null\nhead -c 40 /dev/zero\n\
+         while [ $(head -c {question} | wc -c) -gt 0 ]; do head -c 20 /dev/zero; done",
         2 * question
     );
     let words = format!("list film.rsm film.rx --jobs 1 --worker {} -o out.pbm", worker(&folder, &script).display());
@@ -184,11 +191,20 @@ fn a_killed_tool_leaves_nothing_half_written() {
 #[test]
 fn an_interrupt_leaves_what_is_done() {
     let folder = files("interrupt");
-    // This worker answers the first row by an empty list, and then nothing.
-    let script = worker(&folder, "[ -e began ] || head -c 20 /dev/zero\ntouch began\nexec cat >/dev/null");
+    // This worker answers the first row by an empty list, and then nothing. That it is asked for another row says that the
+    // answer has arrived.
+    let script = format!(
+        "head -c {} >/dev/null\nhead -c 20 /dev/zero\nhead -c 1 >/dev/null\ntouch began\nexec cat >/dev/null",
+        question(&folder)
+    );
     let began = || folder.join("began").exists();
-    let report = interrupted(&folder, &["--worker", &script.display().to_string()], began);
+    let words = ["--worker", &worker(&folder, &script).display().to_string()];
+    fs::write(folder.join("out.pbm"), "as it was").unwrap();
+    let report = interrupted(&folder, &words, began);
     assert!(report.contains("not listed         3 (no row fits: 1, not done: 2)\n"), "{report}");
+    let files = "out.pbm.unfinished, lists.unfinished, mask.pbm.unfinished";
+    assert!(report.contains(&format!("\nunfinished         {files}\n")), "{report}");
+    assert_eq!(fs::read(folder.join("out.pbm")).unwrap(), b"as it was");
     // In the tool's own process a list cannot be stopped, and is left as it is.
     endless(&folder);
     interrupted(&folder, &["--patience", "0"], || true);
@@ -200,18 +216,23 @@ fn interrupted(folder: &Path, words: &[&str], so: impl Fn() -> bool) -> String {
     let mut command = Command::new(FILM);
     command.current_dir(folder).args(["list", "film.rsm", "film.rx"]).args(outputs).args(words);
     let child = command.stdout(Stdio::piped()).spawn().unwrap();
-    until("the work begins", so);
-    sleep(Duration::from_millis(500));
+    until("the work begins", || lists(child.id()) && so());
     assert!(Command::new("kill").args(["-INT", &child.id().to_string()]).status().unwrap().success());
     let output = child.wait_with_output().unwrap();
     let report = common::text(&output.stdout);
     assert_eq!(output.status.code(), Some(130), "{report}");
     assert!(report.contains("not done: "), "{report}");
-    let lists = fs::read_to_string(folder.join("lists")).unwrap();
+    let lists = fs::read_to_string(folder.join("lists.unfinished")).unwrap();
     assert!(lists.contains("\nrow 2 received ") && lists.ends_with(" not done\n"), "{lists}");
-    assert!(fs::read(folder.join("mask.pbm")).unwrap().last() > Some(&0));
-    assert!(folder.join("out.pbm").exists() && common::partial_files(folder).is_empty());
+    assert!(fs::read(folder.join("mask.pbm.unfinished")).unwrap().last() > Some(&0));
+    assert!(folder.join("out.pbm.unfinished").exists() && common::partial_files(folder).is_empty());
+    assert!(!folder.join("lists").exists() && !folder.join("mask.pbm").exists());
     report
+}
+
+/// Has this process begun to list? It starts its threads when it has read its files and takes interrupts.
+fn lists(pid: u32) -> bool {
+    fs::read_dir(format!("/proc/{pid}/task")).map_or(0, Iterator::count) > 1
 }
 
 /// The files of a film of three rows: the first is whole, and the lists of the others take longer than half a minute.
@@ -224,7 +245,8 @@ fn endless(folder: &Path) {
     fs::write(folder.join("film.rx"), container::Received { row_bits: 2040, rows }.encode()).unwrap();
 }
 
-/// The deadline ends the work in the same way, with status 1, in workers and without them.
+/// The deadline ends the work in the same way, in workers and without them. It was asked for, as patience is: the status is 1,
+/// and the files have their names.
 #[test]
 fn a_deadline_leaves_what_is_done() {
     let folder = files("deadline");

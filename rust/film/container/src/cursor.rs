@@ -51,7 +51,7 @@ impl<'a> Cursor<'a> {
             }
             None => {
                 let missing = count - (self.bytes.len() - self.at);
-                Err(Fault::new(self.bytes.len(), format!("the file ends, {missing} bytes short of {what}")))
+                Err(Fault::new(self.bytes.len(), format!("the file ends, {} short of {what}", bytes(missing))))
             }
         }
     }
@@ -77,9 +77,14 @@ impl<'a> Cursor<'a> {
         }
         match self.bytes.len() - self.at {
             0 => Ok(()),
-            more => Err(Fault::new(self.at, format!("the file should end here, but goes on for {more} bytes"))),
+            more => Err(Fault::new(self.at, format!("the file should end here, but goes on for {}", bytes(more)))),
         }
     }
+}
+
+/// So many bytes, in words.
+fn bytes(count: usize) -> String {
+    format!("{count} byte{}", if count == 1 { "" } else { "s" })
 }
 
 /// Appends the checksum of all bytes so far.

@@ -4,13 +4,13 @@ use std::collections::BTreeMap;
 
 use container::{Head, Messages, Origin, Received};
 
-use super::{layout_of, loss_of, message_of, read_film};
+use super::{layout_of, loss_of, message_of, plural, read_film};
 use crate::args::Drop;
 use crate::json::{object, Json};
 use crate::line::Line;
 use crate::trouble::{Result, Trouble};
 use crate::verdict::Loss;
-use crate::{cut, files};
+use crate::{cut, files, histogram};
 
 pub fn run(args: &Drop) -> Result<bool> {
     let line = match (args.rate, args.burst) {
@@ -61,13 +61,12 @@ fn total(rows: &BTreeMap<usize, usize>) -> usize {
 
 pub fn text(received: &Received) -> String {
     let line = |name: &str, rows: &BTreeMap<usize, usize>| {
-        let parts: Vec<String> = rows.iter().map(|(bits, rows)| format!("{bits}: {rows}")).collect();
-        format!("{name}  {} ({name}: rows; {})\n", total(rows), parts.join(", "))
+        format!("{name}  {}{}\n", total(rows), histogram::words(&format!("{name}: rows"), rows))
     };
     let too_many = rows_by(received, |loss| Some(loss.too_many()).filter(|bits| *bits > 0));
     let more = if too_many.is_empty() { String::new() } else { line("bits too many", &too_many) };
     let lost = line("bits lost", &by_losses(received));
-    format!("rows       {} of {} bits\n{lost}{more}", received.rows.len(), received.row_bits)
+    format!("rows       {} of {}\n{lost}{more}", received.rows.len(), plural(received.row_bits.into(), "bit"))
 }
 
 fn json(received: &Received) -> Json {

@@ -13,7 +13,7 @@ use super::{loss_of, plural, read_film, read_messages, read_received};
 use crate::args::List;
 use crate::json::Json;
 use crate::lister::{row_bytes, Lister, Next, Outcome, Rows, Silence, Task};
-use crate::lists::Lists;
+use crate::lists::{Lists, PAD};
 use crate::picture::Film;
 use crate::progress::Progress;
 use crate::status;
@@ -21,7 +21,7 @@ use crate::stop::{Stop, INTERRUPTED};
 use crate::tally::Tally;
 use crate::trouble::{Result, Trouble};
 use crate::verdict::{Loss, Verdict};
-use crate::{cut, files, hex, picture};
+use crate::{cut, files, hex, pbm};
 
 /// How many rows that were not recovered alone are named in the report.
 const NAMED: usize = 20;
@@ -38,18 +38,20 @@ pub fn run(args: &List) -> Result<u8> {
         .map(PathBuf::as_path)
         .collect();
     files::once(&inputs)?;
-    files::apart(&inputs, &outputs)?;
+    let names = outputs.iter().flat_map(|path| [Some(path.to_path_buf()), files::unfinished(path)]);
+    let names: Vec<PathBuf> = names.flatten().collect();
+    files::apart(&inputs, &names.iter().map(PathBuf::as_path).collect::<Vec<_>>())?;
     let source = Arc::new(source(args)?);
     let mut lists = args.lists.as_deref().map(Lists::new).transpose()?;
     let stop = Stop::new(args.work.deadline)?;
-    let (report, trouble) = list(args, &source, &stop, &mut lists)?;
+    let (mut report, trouble) = list(args, &source, &stop, &mut lists)?;
 
-    files::write(&args.output, &picture::encode(&report.film))?;
-    if let Some(path) = &args.mask {
-        files::write(path, &picture::encode(&report.mask()))?;
+    let interrupted = stop.is_interrupted() && report.tally.not_done > 0;
+    if interrupted || trouble.is_some() {
+        report.unfinished = outputs.iter().filter_map(|path| files::unfinished(path)).collect();
     }
-    lists.map_or(Ok(()), Lists::finish)?;
-    let output = outputs.into_iter().find(|path| files::is_standard(path));
+    write(args, &report, lists)?;
+    let output = outputs.into_iter().find(|path| files::is_output(path));
     match (args.say.json, args.say.quiet) {
         (true, _) => files::say(&format!("{}\n", report.json()), output)?,
         (false, false) => files::say(&report.text(), output)?,
@@ -57,9 +59,25 @@ pub fn run(args: &List) -> Result<u8> {
     }
     match trouble {
         Some(trouble) => Err(trouble),
-        None if stop.is_interrupted() && report.tally.not_done > 0 => Ok(INTERRUPTED),
+        None if interrupted => Ok(INTERRUPTED),
         None => Ok(status(report.tally.alone == report.tally.rows && report.missing == 0)),
     }
+}
+
+/// Writes all files, the film last: where it stands, the others do. Those of a run that was cut short stand beside the names
+/// that were asked for, so that what stands under these is finished.
+fn write(args: &List, report: &Report<'_>, lists: Option<Lists>) -> Result<()> {
+    let name = |path: &Path| {
+        let unfinished = files::unfinished(path).filter(|name| report.unfinished.contains(name));
+        unfinished.unwrap_or_else(|| path.to_path_buf())
+    };
+    if let (Some(path), Some(lists)) = (&args.lists, lists) {
+        lists.finish(&name(path))?;
+    }
+    if let Some(path) = &args.mask {
+        files::write(&name(path), &pbm::encode(&report.mask()))?;
+    }
+    files::write(&name(&args.output), &pbm::encode(&report.film))
 }
 
 /// Lists all rows. The trouble is why rows were left out, where nothing could list them any more.
@@ -224,7 +242,8 @@ impl Source {
         let mut text = format!("{} received {bits} {}\n", self.name(row), verdict.code());
         for packed in found {
             hex::push(&mut text, packed);
-            text.push_str(if self.inks_pad(row, packed) { " pad\n" } else { "\n" });
+            text.push_str(if self.inks_pad(row, packed) { PAD } else { "" });
+            text.push('\n');
         }
         text
     }
@@ -240,13 +259,16 @@ struct Report<'a> {
     open: Vec<(usize, Verdict)>,
     missing: usize,
     ruled_out: usize,
+    /// The files of a run that was cut short.
+    unfinished: Vec<PathBuf>,
 }
 
 impl<'a> Report<'a> {
     fn new(source: &'a Source) -> Report<'a> {
         let head = &source.messages.head;
         let film = Film::blank(head.width as usize, head.height as usize);
-        Report { source, tally: Tally::default(), film, open: Vec::new(), missing: 0, ruled_out: 0 }
+        let (open, unfinished) = (Vec::new(), Vec::new());
+        Report { source, tally: Tally::default(), film, open, missing: 0, ruled_out: 0, unfinished }
     }
 
     /// Counts a row, and answers the text of its list.
@@ -285,13 +307,17 @@ impl<'a> Report<'a> {
         self.source.sent.as_ref().map(|_| self.missing)
     }
 
+    fn unfinished(&self) -> Vec<String> {
+        self.unfinished.iter().map(|path| path.display().to_string()).collect()
+    }
+
     fn text(&self) -> String {
         let head = &self.source.messages.head;
         let [l1, l2, nc, r] = head.layout;
         let mut text = format!(
-            "rows               {} of {} bits, layout {l1},{l2},{nc},{r}\nbits lost          {}\n{}",
+            "rows               {} of {}, layout {l1},{l2},{nc},{r}\nbits lost          {}\n{}",
             self.tally.rows,
-            head.row_bits(),
+            plural(head.row_bits(), "bit"),
             self.source.all_lost(),
             self.tally.text(&|row| self.source.name(row))
         );
@@ -302,11 +328,15 @@ impl<'a> Report<'a> {
         if let Some(missing) = self.missing() {
             let _ = writeln!(text, "sent but missing   {missing}");
         }
+        if !self.unfinished.is_empty() {
+            let _ = writeln!(text, "unfinished         {}", self.unfinished().join(", "));
+        }
         for (row, verdict) in self.open.iter().take(NAMED) {
             let _ = writeln!(text, "{}: {}, {}", self.source.name(*row), verdict.words(), self.source.loss(*row));
         }
         if self.open.len() > NAMED {
-            let _ = writeln!(text, "and {} more rows that were not recovered alone", self.open.len() - NAMED);
+            let more = plural(self.open.len() - NAMED, "more row");
+            let _ = writeln!(text, "and {more} not recovered alone");
         }
         text
     }
@@ -334,6 +364,8 @@ impl<'a> Report<'a> {
         if let Some(missing) = self.missing() {
             members.push((String::from("missing"), Json::Count(missing)));
         }
+        let unfinished = self.unfinished().into_iter().map(Json::Text).collect();
+        members.push((String::from("unfinished"), Json::List(unfinished)));
         members.push((String::from("open"), Json::List(self.open.iter().map(open).collect())));
         Json::Object(members)
     }
