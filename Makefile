@@ -1,6 +1,6 @@
 # What can be made here. The Rattle crates stand in crates/, the Rust side in rust/.
 .DEFAULT_GOAL := help
-.PHONY: help demo test bench bench-report lint install
+.PHONY: help demo test bench bench-report lint install uninstall
 
 # Where 'make install' puts things; DESTDIR stands before it, for those who make packages.
 PREFIX ?= /usr/local
@@ -18,6 +18,7 @@ help:
 	@echo 'make bench-report NAME=.. [BEFORE=..]   make docs/BENCHMARKS.md and its pictures of stored figures'
 	@echo 'make lint    check the layout of all sources, and the Rust side with clippy'
 	@echo 'make install PREFIX=..   put library, header, pkg-config file, film, rowlist and man pages in place'
+	@echo 'make uninstall PREFIX=..   take them away again'
 
 demo:
 	@tools/demo.sh
@@ -39,4 +40,7 @@ lint:
 	@tools/film-cargo.sh clippy --release --workspace --all-targets -- -D warnings
 
 install:
-	@tools/install.sh '$(PREFIX)' '$(DESTDIR)'
+	@tools/install.sh install '$(PREFIX)' '$(DESTDIR)'
+
+uninstall:
+	@tools/install.sh uninstall '$(PREFIX)' '$(DESTDIR)'

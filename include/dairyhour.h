@@ -205,9 +205,13 @@ dh_answer dh_mend(size_t w, size_t sum, const uint8_t *bits, size_t bits_len, ui
  * Layout 2, 1, 4, 0, block sums 2 and 0 and chunk-string sum 2 (the message 52 53 4D 00 01 02 01 04 00 40 80) with
  * the six bits 001111 (3C) give the value 2 and the bytes 36 39; with out_len 1 they give refusal 9 and the byte 36.
  *
- * A call uses less than 512 KB of the calling thread's stack: some 455 KB with 255 blocks of one chunk, 280 KB with
- * 127 blocks of two, and about 160 KB or less with fifteen blocks or fewer, as measured. The proofs do not cover
- * stack space.
+ * A call takes at most this much of the calling thread's stack, by the blocks of the layout; what the start of the
+ * thread takes is counted, and at least one sixteenth is left over. As measured: the proofs do not cover stack space.
+ *
+ *     l1 at most   stack
+ *             15     208 KB
+ *            127     336 KB
+ *            255     544 KB
  */
 dh_answer dh_list(const uint8_t *msg, size_t msg_len, const uint8_t *row, size_t row_len, size_t m, uint8_t *out,
                   size_t out_len);

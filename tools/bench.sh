@@ -8,7 +8,8 @@ bench=rust/target/release/bench
 stored=docs/benchmarks
 
 build() {
-    rt staticlib dairyhour && cargo build --manifest-path rust/Cargo.toml --release --offline --locked --quiet --package bench
+    rt staticlib dairyhour && cargo build --manifest-path rust/Cargo.toml --release --offline --locked --quiet --package bench &&
+        tools/film-cargo.sh build --release --quiet
 }
 
 # Most of the time goes to lists; writing, reading and mending take about a minute in addition.
@@ -19,6 +20,7 @@ run() {
         "$bench" calls out="$folder" &&
         "$bench" list minutes=$((minutes - setups)) out="$folder" &&
         "$bench" setups minutes="$setups" out="$folder" &&
+        "$bench" tool film=rust/film/target/release/film out="$folder" &&
         echo "The figures are in $folder; 'make bench-report NAME=$1' makes docs/BENCHMARKS.md of them."
 }
 

@@ -22,11 +22,12 @@ mkdir -p "$out"
 
 run "$film" write "$board" -o "$out/board.rsm" || exit 1
 run "$film" drop "$board" --seed 1 --rate 0.004 -o "$out/board.rx" || exit 1
-run "$film" list "$out/board.rsm" "$out/board.rx" --sent "$board" --patience 20 -o "$out/recovered.pbm" | tee "$out/report.txt"
+run "$film" list "$out/board.rsm" "$out/board.rx" --sent "$board" --patience 20 -o "$out/recovered.pbm" --lists "$out/lists.txt" |
+    tee "$out/report.txt"
 [ "${PIPESTATUS[0]}" -le 1 ] || exit 1
 run "$film" check "$board" "$out/recovered.pbm"
 [ $? -le 1 ] || exit 1
-run "$film" plot "$board" "$out/board.rx" "$out/recovered.pbm" -o "$out/board.png" -o "$out/board.svg" || exit 1
+run "$film" plot "$board" "$out/board.rx" "$out/recovered.pbm" --lists "$out/lists.txt" -o "$out/board.png" -o "$out/board.svg" || exit 1
 
 # A number of the report, by the words in front of it.
 number() {

@@ -9,7 +9,8 @@ debian=/usr/share/cargo/registry
 # Is a version of each crate that is asked for there?
 have_packages() {
     local crate
-    for crate in clap-4 clap_derive-4 image-0.24 indicatif-0.17 plotters-0.3 png-0.17 rayon-1; do
+    for crate in clap-4 clap_derive-4 flate2-1 image-0.24 indicatif-0.17 plotters-0.3 plotters-bitmap-0.3 png-0.17 signal-hook-0.3 \
+        tiff-0.7 weezl-0.1; do
         compgen -G "$debian/$crate.*" >/dev/null || return 1
     done
 }

@@ -3,8 +3,8 @@
 # are missing on this machine, for everything that 'make test' does (tools/packages.sh missing).
 set -u
 
-crates=(librust-clap-dev librust-clap-derive-dev librust-image-dev librust-indicatif-dev librust-plotters-dev librust-png-dev
-    librust-rayon-dev)
+crates=(librust-clap-dev librust-clap-derive-dev librust-flate2-dev librust-image-dev librust-indicatif-dev
+    librust-plotters-bitmap-dev librust-plotters-dev librust-png-dev librust-signal-hook-dev librust-tiff-dev librust-weezl-dev)
 
 missing() {
     local package

@@ -1,12 +1,19 @@
 #!/usr/bin/env bash
-# Proves the library and builds target/staticlib/libdairyhour.a; with the word rowlist also the program target/bin/rowlist.
-# Shows one line a crate, its name and the seconds it took. What the prover says goes to target/prove.log.
+# Proves the library and builds target/staticlib/libdairyhour.a, and the program target/bin/rowlist.
+# Shows one line a crate, its name and the seconds it took. What the prover says goes to target/prove.log. Where both stand as they
+# were proved and built, from the sources as they are, nothing is done, and the toolchain is not asked for.
 set -u
 
 cd "$(dirname "${BASH_SOURCE[0]}")/.." || exit 1
 mkdir -p target
 log=target/prove.log
-: >"$log"
+proved=target/proved.sum
+built=(target/staticlib/libdairyhour.a target/bin/rowlist)
+
+# The sums of all sources.
+sources() {
+    find crates crates.txt -type f -exec sha256sum {} + | sort -k 2
+}
 
 # Shows a line for each crate that rt reports as done.
 lines() {
@@ -40,12 +47,21 @@ prove() {
     exit 1
 }
 
+before=$(sources)
+if { echo "$before" && sha256sum "${built[@]}"; } 2>/dev/null | cmp -s - "$proved"; then
+    echo "The library and rowlist are proved and built from these sources already."
+    exit 0
+fi
 command -v rt >/dev/null || {
-    echo "There is no rt: the Rattle toolchain has to be installed first." >&2
+    echo "There is no rt on the path: the Rattle toolchain has to be installed first." >&2
     exit 1
 }
+rm -f "$proved"
+: >"$log"
 echo "Proving the library (the prover's own words go to $log):"
 again=
 prove staticlib dairyhour
 again=yes
-[ "${1:-}" != rowlist ] || prove check rowlist
+prove check rowlist
+# What was changed meanwhile is not proved.
+[ "$(sources)" != "$before" ] || { echo "$before" && sha256sum "${built[@]}"; } >"$proved"

@@ -1,6 +1,6 @@
 //! The benchmark. `bench calls` times writing, reading and mending, `bench list` listing, and `bench setups` makes the
-//! source's Table II, each beside other implementations in one run and on the same inputs; `bench machine` stores
-//! what they ran on, and `bench report` makes a page of what they stored.
+//! source's Table II, each beside other implementations in one run and on the same inputs; `bench tool` times the tool
+//! `film` on a whole film; `bench machine` stores what they ran on, and `bench report` makes a page of what they stored.
 #![forbid(unsafe_code)]
 
 mod budget;
@@ -14,6 +14,7 @@ mod report;
 mod rows;
 mod setups;
 mod targets;
+mod tool;
 mod words;
 mod worker;
 
@@ -27,6 +28,7 @@ fn main() {
         "calls" => calls::run(rest),
         "list" => lists::run(rest),
         "setups" => setups::run(rest),
+        "tool" => tool::run(rest),
         "machine" if rest.len() == 1 => machine::store(Path::new(&rest[0])).map_err(|error| error.to_string()),
         "report" => report::run(rest),
         worker::WORD => {
@@ -42,6 +44,6 @@ fn main() {
 }
 
 fn usage() -> String {
-    let all = [calls::USAGE, lists::USAGE, setups::USAGE, "bench machine FOLDER", report::USAGE];
+    let all = [calls::USAGE, lists::USAGE, setups::USAGE, tool::USAGE, "bench machine FOLDER", report::USAGE];
     format!("usage:\n{}", all.join("\n"))
 }

@@ -4,7 +4,7 @@ use std::fs;
 use std::io;
 use std::path::{Path, PathBuf};
 
-use bench::results::{read, Call, Cell, Fact, Key, Setup, Time, SMALL};
+use bench::results::{read, Call, Cell, Fact, Key, Record, Setup, Time, Tool, SMALL};
 use bench::text::{digits, microseconds, time};
 
 use crate::cases::{Place, LOSSES, ROWS};
@@ -32,6 +32,7 @@ struct Stored {
     again: Vec<Cell>,
     setups: Vec<Setup>,
     calls: Vec<Call>,
+    tool: Vec<Tool>,
 }
 
 impl Stored {
@@ -43,6 +44,7 @@ impl Stored {
             again: read(&folder.join(AGAIN))?,
             setups: read(folder)?,
             calls: read(folder)?,
+            tool: read(folder)?,
         })
     }
 
@@ -99,7 +101,9 @@ pub fn run(words: &[String]) -> Result<(), String> {
 fn page(choice: &Choice) -> String {
     let now = &choice.now;
     let parts = [intro(choice), machine(now), targets(now), listing(choice), small(now), table_two(now), calls(now)];
-    parts.join("\n")
+    // Versions before 0.11.0 have not timed the tool.
+    let tool = Some(tool(now)).filter(|_| !now.tool.is_empty());
+    parts.into_iter().chain(tool).collect::<Vec<_>>().join("\n")
 }
 
 /// A table of Markdown.
@@ -331,6 +335,14 @@ fn setup_line(setup: &Setup) -> Vec<String> {
     line.extend([largest.to_string(), longer.to_string()]);
     line.push(format!("{:.0}", *longer as f64 * each * PUBLISHED_TRIALS as f64));
     line
+}
+
+fn tool(now: &Stored) -> String {
+    let words = "## The tool on a whole film
+
+`film list` of a real film whose rows lost one bit each, in the tool's own process (`--patience 0`) and in workers, as it is unless told otherwise: the
+middle turn of several, and the part of all threads' time that goes to the library.";
+    format!("{words}\n\n{}", table(Tool::HEAD, &now.tool.iter().map(Tool::fields).collect::<Vec<_>>()))
 }
 
 fn calls(now: &Stored) -> String {

@@ -297,6 +297,49 @@ impl Record for Fact {
     }
 }
 
+/// How the tool lists a whole film.
+#[derive(Clone, Debug, PartialEq)]
+pub struct Tool {
+    /// Where rows are listed.
+    pub way: String,
+    /// The rows of the film, their bits, how many of them each row lost, and the threads.
+    pub rows: usize,
+    pub bits: usize,
+    pub lost: usize,
+    pub jobs: usize,
+    /// Rows a second.
+    pub rate: f64,
+    /// The part of all threads' time that is spent in the library.
+    pub share: f64,
+}
+
+impl Record for Tool {
+    const FILE: &'static str = "tool.tsv";
+    const HEAD: &'static [&'static str] =
+        &["listed in", "rows", "bits", "bits lost", "threads", "rows a second", "in the library"];
+
+    fn fields(&self) -> Vec<String> {
+        let numbers = [self.rows, self.bits, self.lost, self.jobs].map(|number| number.to_string());
+        let mut fields = vec![self.way.clone()];
+        fields.extend(numbers);
+        fields.extend([format!("{:.0}", self.rate), format!("{:.2}", self.share)]);
+        fields
+    }
+
+    fn from_fields(fields: &[&str]) -> Option<Tool> {
+        let [way, rows, bits, lost, jobs, rate, share] = *<&[&str; 7]>::try_from(fields).ok()?;
+        Some(Tool {
+            way: way.into(),
+            rows: rows.parse().ok()?,
+            bits: bits.parse().ok()?,
+            lost: lost.parse().ok()?,
+            jobs: jobs.parse().ok()?,
+            rate: rate.parse().ok()?,
+            share: share.parse().ok()?,
+        })
+    }
+}
+
 #[cfg(test)]
 mod tests {
     use super::*;
@@ -316,6 +359,9 @@ mod tests {
         let lister = "steps".into();
         let setups = vec![Setup { setup: 1, lister, trials: 9, rows: 10, largest: 2, longer: 1, time: 12.25 }];
         assert_eq!(parse(&text(&setups)), Ok(setups));
+        let way = "workers".into();
+        let tools = vec![Tool { way, rows: 20_000, bits: 2040, lost: 1, jobs: 2, rate: 50_000.0, share: 0.75 }];
+        assert_eq!(parse(&text(&tools)), Ok(tools));
         let names = ["5 3 4 4", "read", "blank", "peer"].map(String::from);
         let [layout, operation, rows, other] = names;
         let call = Call { layout, operation, rows, other, times: [1.0, 0.5, 2.0, 9.25, 0.5, 0.25] };

@@ -33,8 +33,8 @@ pub enum Refusal {
 }
 
 impl Refusal {
-    /// The refusal that a number stands for. 0 stands for none, so it is never given here.
-    pub(crate) fn from_number(number: u32) -> Refusal {
+    /// The refusal that a number stands for. 0 stands for none, and is not to be given here.
+    pub fn from_number(number: u32) -> Refusal {
         match number {
             1 => Refusal::NoMessage,
             2 => Refusal::Version,
@@ -68,7 +68,7 @@ impl Refusal {
     }
 
     /// The table's column "When".
-    fn when(self) -> &'static str {
+    pub fn when(self) -> &'static str {
         match self {
             Refusal::NoMessage => "message under nine bytes, or another mark",
             Refusal::Version => "version not 1",
@@ -87,7 +87,7 @@ impl Refusal {
 
 impl fmt::Display for Refusal {
     fn fmt(&self, f: &mut fmt::Formatter<'_>) -> fmt::Result {
-        write!(f, "refused {}: {}", self.number(), self.when())
+        write!(f, "refused: {} ({})", self.when(), self.number())
     }
 }
 
@@ -109,7 +109,7 @@ mod tests {
 
     #[test]
     fn says_why() {
-        assert_eq!(Refusal::Version.to_string(), "refused 2: version not 1");
-        assert_eq!(Refusal::Unknown(99).to_string(), "refused 99: for a reason that this wrapper does not know");
+        assert_eq!(Refusal::Version.to_string(), "refused: version not 1 (2)");
+        assert_eq!(Refusal::Unknown(99).to_string(), "refused: for a reason that this wrapper does not know (99)");
     }
 }

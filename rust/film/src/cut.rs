@@ -16,8 +16,13 @@ pub fn head(film: &Film, given: Option<Layout>) -> Result<Head> {
 
 /// The rows of the line, packed: for each row of the film its panels from left to right.
 pub fn rows(film: &Film, head: &Head) -> Vec<Vec<u8>> {
+    (0..head.rows()).map(|number| row(film, head, number)).collect()
+}
+
+/// One row of the line, packed.
+pub fn row(film: &Film, head: &Head, number: usize) -> Vec<u8> {
     let panels = head.panels as usize;
-    (0..head.rows()).map(|row| panel(film.row(row / panels), film.width, row % panels, head.row_bits())).collect()
+    panel(film.row(number / panels), film.width, number % panels, head.row_bits())
 }
 
 /// Panel `number` of a row of the film, `bits` wide; beyond the film's width stand zeros.
@@ -31,18 +36,18 @@ fn panel(row: &[u8], width: usize, number: usize, bits: usize) -> Vec<u8> {
     packed
 }
 
-/// The film of these rows, one for each row of the line; a row that is not there stays white.
-pub fn join(head: &Head, rows: &[Option<&[u8]>]) -> Film {
-    let mut film = Film::blank(head.width as usize, head.height as usize);
+/// Puts a row of the line into a film in which its place is white.
+pub fn put(film: &mut Film, head: &Head, row: usize, packed: &[u8]) {
     let panels = head.panels as usize;
-    for (number, row) in rows.iter().enumerate() {
-        let first = number % panels * head.row_bits();
-        let columns = head.row_bits().min(film.width - first);
-        for place in (0..columns).filter(|place| row.map_or(false, |row| bit(row, *place))) {
-            film.blacken(number / panels, first + place);
-        }
-    }
-    film
+    let first = row % panels * head.row_bits();
+    film.put(row / panels, first, packed, head.row_bits().min(film.width - first));
+}
+
+/// Has this row of the line ink in the pad? Such a row cannot have been sent, as the pad is white.
+pub fn inks_pad(head: &Head, row: usize, packed: &[u8]) -> bool {
+    let last = (row + 1) % head.panels as usize == 0;
+    let white = head.row_bits() - usize::from(head.pad);
+    last && (white..head.row_bits()).any(|place| bit(packed, place))
 }
 
 #[cfg(test)]
@@ -59,10 +64,24 @@ mod tests {
             let head = Head::new(width as u32, 3, layout).unwrap();
             let rows = rows(&film, &head);
             assert_eq!(rows.len(), head.rows());
-            let all: Vec<_> = rows.iter().map(|row| Some(&row[..])).collect();
-            assert_eq!(join(&head, &all), film);
-            let none = vec![None; rows.len()];
-            assert_eq!(join(&head, &none), Film::blank(width, 3));
+            let mut joined = Film::blank(width, 3);
+            for (number, row) in rows.iter().enumerate() {
+                put(&mut joined, &head, number, row);
+            }
+            assert_eq!(joined, film);
         }
+    }
+
+    #[test]
+    fn ink_in_the_pad_is_seen() {
+        // Two panels of 8 columns, of which the last three are no part of the film.
+        let head = Head::new(13, 2, [2, 1, 4, 0]).unwrap();
+        for (row, packed, inked) in
+            [(0, 0xFF, false), (1, 0xF8, false), (1, 0x04, true), (1, 0x01, true), (2, 0x01, false), (3, 0x02, true)]
+        {
+            assert_eq!(inks_pad(&head, row, &[packed]), inked, "{row} {packed:02X}");
+        }
+        let whole = Head::new(16, 1, [2, 1, 4, 0]).unwrap();
+        assert!(!inks_pad(&whole, 1, &[0xFF]));
     }
 }

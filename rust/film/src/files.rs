@@ -1,18 +1,31 @@
-//! Input and output by name, `-` for standard input and output.
+//! Input and output by name, `-` for standard input and output, which the system's own names for them stand for too.
 
 use std::io::{self, Read, Write};
 use std::path::{Path, PathBuf};
 
 use crate::trouble::{Result, Trouble};
 
-/// Is this standard input or output?
-pub fn is_standard(path: &Path) -> bool {
-    path.as_os_str() == "-"
+/// Other names of standard input and output.
+const INPUTS: [&str; 3] = ["/dev/stdin", "/dev/fd/0", "/proc/self/fd/0"];
+const OUTPUTS: [&str; 3] = ["/dev/stdout", "/dev/fd/1", "/proc/self/fd/1"];
+
+/// Is this standard input?
+pub fn is_input(path: &Path) -> bool {
+    is_one_of(path, INPUTS)
 }
 
-/// How a file is called in what is said about it.
+/// Is this standard output? A report then goes elsewhere.
+pub fn is_output(path: &Path) -> bool {
+    is_one_of(path, OUTPUTS)
+}
+
+fn is_one_of(path: &Path, names: [&str; 3]) -> bool {
+    path.as_os_str() == "-" || names.iter().any(|name| path == Path::new(name))
+}
+
+/// How an input is called in what is said about it.
 pub fn name(path: &Path) -> String {
-    if is_standard(path) {
+    if is_input(path) {
         String::from("standard input")
     } else {
         path.display().to_string()
@@ -21,33 +34,46 @@ pub fn name(path: &Path) -> String {
 
 /// Standard input can be read once only.
 pub fn once(paths: &[&Path]) -> Result<()> {
-    match paths.iter().filter(|path| is_standard(path)).count() {
+    match paths.iter().filter(|path| is_input(path)).count() {
         0 | 1 => Ok(()),
         _ => Err(Trouble::new("only one of the files can be standard input")),
     }
 }
 
-/// No output may be an input, which it would replace, or another output. Devices and pipes may stand for several.
+/// No output may be an input, which it would replace, or another output, and a file is made for each to see that it can be.
+/// Devices and pipes may stand for several.
 pub fn apart(inputs: &[&Path], outputs: &[&Path]) -> Result<()> {
-    let named = inputs.iter().filter(|path| !is_standard(path));
-    let read: Vec<PathBuf> = named.filter_map(|path| file(path).ok()?).collect();
+    let named = inputs.iter().filter(|path| !is_input(path));
+    let read: Vec<PathBuf> = named.filter_map(|path| container::replaced(path).ok()?).collect();
     let mut written = Vec::new();
     for path in outputs {
         let trouble = |what: &str| Trouble::with(path.display(), what);
-        match file(path).map_err(|error| Trouble::with(path.display(), error))? {
+        let refused = |error| Trouble::with(path.display(), error);
+        match file(path).map_err(refused)? {
             Some(file) if read.contains(&file) => return Err(trouble("an output cannot replace an input")),
             Some(file) if written.contains(&file) => return Err(trouble("two outputs cannot go to the same file")),
             Some(file) => written.push(file),
             None => {}
         }
+        if !is_output(path) {
+            container::nameless(path).map_err(refused)?;
+        }
     }
     Ok(())
 }
 
-/// The file that a name stands for, if it is one; standard output counts as one.
+/// Where what a run that was cut short has of an output is written: beside its name. None where that stands for no file.
+pub fn unfinished(path: &Path) -> Option<PathBuf> {
+    let is_file = !is_output(path) && matches!(container::replaced(path), Ok(Some(_)));
+    let mut name = path.as_os_str().to_os_string();
+    name.push(".unfinished");
+    is_file.then(|| PathBuf::from(name))
+}
+
+/// The file that an output stands for, if it is one; standard output counts as one.
 fn file(path: &Path) -> io::Result<Option<PathBuf>> {
-    if is_standard(path) {
-        return Ok(Some(path.to_path_buf()));
+    if is_output(path) {
+        return Ok(Some(PathBuf::from("-")));
     }
     container::replaced(path)
 }
@@ -55,7 +81,7 @@ fn file(path: &Path) -> io::Result<Option<PathBuf>> {
 /// All bytes of a file.
 pub fn read(path: &Path) -> Result<Vec<u8>> {
     let mut bytes = Vec::new();
-    let done = if is_standard(path) {
+    let done = if is_input(path) {
         io::stdin().lock().read_to_end(&mut bytes).map(|_| ())
     } else {
         std::fs::read(path).map(|found| bytes = found)
@@ -66,7 +92,7 @@ pub fn read(path: &Path) -> Result<Vec<u8>> {
 
 /// Writes a whole file, or leaves what stood under its name.
 pub fn write(path: &Path, bytes: &[u8]) -> Result<()> {
-    if is_standard(path) {
+    if is_output(path) {
         return out(bytes);
     }
     container::save(path, bytes).map_err(|error| Trouble::with(path.display(), error))
@@ -82,7 +108,7 @@ fn out(bytes: &[u8]) -> Result<()> {
 /// enough and closed the pipe is no trouble.
 pub fn say(text: &str, output: Option<&Path>) -> Result<()> {
     let done = match output {
-        Some(path) if is_standard(path) => io::stderr().lock().write_all(text.as_bytes()),
+        Some(path) if is_output(path) => io::stderr().lock().write_all(text.as_bytes()),
         _ => {
             let mut out = io::stdout().lock();
             out.write_all(text.as_bytes()).and_then(|()| out.flush())

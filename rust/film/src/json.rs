@@ -1,8 +1,9 @@
-//! Reports as JSON: numbers, strings, lists and objects, written in the order in which they are given.
+//! Reports as JSON: flags, numbers, strings, lists and objects, written in the order in which they are given.
 
 use std::fmt::{self, Display, Write};
 
 pub enum Json {
+    Flag(bool),
     Number(f64),
     Count(usize),
     Text(String),
@@ -21,6 +22,7 @@ impl Display for Json {
             // A number that is none, as a rate over no time may be, has no form in JSON.
             Json::Number(number) if !number.is_finite() => f.write_str("null"),
             Json::Number(number) => write!(f, "{number}"),
+            Json::Flag(flag) => write!(f, "{flag}"),
             Json::Count(number) => write!(f, "{number}"),
             Json::Text(text) => quoted(f, text),
             Json::List(items) => {
@@ -61,8 +63,8 @@ mod tests {
 
     #[test]
     fn as_text() {
-        let list = Json::List(vec![Json::Count(1), Json::Number(0.5), Json::Number(f64::NAN)]);
+        let list = Json::List(vec![Json::Count(1), Json::Number(0.5), Json::Number(f64::NAN), Json::Flag(true)]);
         let json = object([("a \"b\"", list), ("c", Json::Text(String::from("d\\\n")))]);
-        assert_eq!(json.to_string(), r#"{"a \"b\"":[1,0.5,null],"c":"d\\\u000a"}"#);
+        assert_eq!(json.to_string(), r#"{"a \"b\"":[1,0.5,null,true],"c":"d\\\u000a"}"#);
     }
 }

@@ -2,9 +2,10 @@
 
 use std::collections::BTreeMap;
 
+use crate::histogram;
 use crate::json::{object, Json};
-use crate::lister::Outcome;
-use crate::worker::Silence;
+use crate::lister::Silence;
+use crate::verdict::Verdict;
 
 /// How many of the slowest rows are named.
 const SLOWEST: usize = 3;
@@ -18,38 +19,42 @@ pub struct Tally {
     pub several: BTreeMap<usize, usize>,
     /// Lists without a row.
     pub none: usize,
-    /// Refused rows, by the number of the refusal.
+    /// Refused rows, by the number of the refusal, and by what is said of it.
     pub refused: BTreeMap<u32, usize>,
+    refused_words: BTreeMap<String, usize>,
     pub given_up: usize,
-    /// Rows whose worker ended without an answer.
+    /// Rows at which two workers ended without an answer.
     pub ended: usize,
+    /// Rows that were not reached.
+    pub not_done: usize,
     /// The time that all of it took.
     pub seconds: f64,
+    /// The time that the rows themselves took, one after the other.
+    pub listing: f64,
     /// The slowest rows, the slowest first.
     pub slowest: Vec<(usize, f64)>,
 }
 
 impl Tally {
-    pub fn new<'a>(outcomes: impl Iterator<Item = (usize, &'a Outcome)>, seconds: f64) -> Tally {
-        let mut tally = Tally { seconds, ..Tally::default() };
-        for (row, outcome) in outcomes {
-            tally.count(outcome);
-            tally.slowest.push((row, outcome.seconds));
-            tally.slowest.sort_by(|a, b| b.1.total_cmp(&a.1));
-            tally.slowest.truncate(SLOWEST);
-        }
-        tally
-    }
-
-    fn count(&mut self, outcome: &Outcome) {
+    pub fn count(&mut self, row: usize, verdict: Verdict, seconds: f64) {
         self.rows += 1;
-        match &outcome.answer {
-            Ok(answer) if answer.refusal != 0 => *self.refused.entry(answer.refusal).or_default() += 1,
-            Ok(answer) if answer.count == 0 => self.none += 1,
-            Ok(answer) if answer.count == 1 => self.alone += 1,
-            Ok(answer) => *self.several.entry(answer.count).or_default() += 1,
-            Err(Silence::TooLong) => self.given_up += 1,
-            Err(Silence::Ended) => self.ended += 1,
+        match verdict {
+            Verdict::Rows(0) => self.none += 1,
+            Verdict::Rows(1) => self.alone += 1,
+            Verdict::Rows(count) => *self.several.entry(count).or_default() += 1,
+            Verdict::Refused(number, _) => {
+                *self.refused.entry(number).or_default() += 1;
+                *self.refused_words.entry(verdict.words()).or_default() += 1;
+            }
+            Verdict::Silent(Silence::TooLong) => self.given_up += 1,
+            Verdict::Silent(Silence::Ended) => self.ended += 1,
+            Verdict::Silent(Silence::NotDone) => self.not_done += 1,
+        }
+        if verdict != Verdict::Silent(Silence::NotDone) {
+            self.listing += seconds;
+            self.slowest.push((row, seconds));
+            self.slowest.sort_by(|a, b| b.1.total_cmp(&a.1));
+            self.slowest.truncate(SLOWEST);
         }
     }
 
@@ -62,18 +67,19 @@ impl Tally {
         self.rows as f64 / self.seconds.max(1e-9)
     }
 
-    pub fn text(&self) -> String {
+    /// The counts as text; rows are called as `name` says.
+    pub fn text(&self, name: &dyn Fn(usize) -> String) -> String {
         let mut lines = vec![
             format!("recovered alone    {}", self.alone),
             format!(
                 "several rows       {}{}",
                 self.several.values().sum::<usize>(),
-                pairs("size: lists", &self.several)
+                histogram::words("size: lists", &self.several)
             ),
             format!("not listed         {}{}", self.not_listed(), self.reasons()),
         ];
         let slowest: Vec<String> =
-            self.slowest.iter().map(|(row, seconds)| format!("row {row} with {}", time(*seconds))).collect();
+            self.slowest.iter().map(|(row, seconds)| format!("{} with {}", name(*row), time(*seconds))).collect();
         lines.push(format!("time               {}, {:.0} rows a second", time(self.seconds), self.rows_a_second()));
         lines.push(format!("slowest            {}", slowest.join(", ")));
         lines.join("\n") + "\n"
@@ -90,8 +96,9 @@ impl Tally {
         part(self.none, String::from("no row fits"));
         part(self.given_up, String::from("given up"));
         part(self.ended, String::from("worker ended"));
-        for (number, count) in &self.refused {
-            part(*count, format!("refused by {number}"));
+        part(self.not_done, String::from("not done"));
+        for (words, count) in &self.refused_words {
+            part(*count, words.clone());
         }
         if parts.is_empty() {
             String::new()
@@ -100,9 +107,12 @@ impl Tally {
         }
     }
 
-    pub fn json(&self) -> Vec<(String, Json)> {
-        let slowest =
-            |(row, seconds): &(usize, f64)| object([("row", Json::Count(*row)), ("seconds", Json::Number(*seconds))]);
+    /// The counts for programs; rows are called as `name` says.
+    pub fn json(&self, name: &dyn Fn(usize) -> Vec<(&'static str, Json)>) -> Vec<(String, Json)> {
+        let slowest = |(row, seconds): &(usize, f64)| {
+            let members = name(*row).into_iter().chain([("seconds", Json::Number(*seconds))]);
+            Json::Object(members.map(|(name, value)| (String::from(name), value)).collect())
+        };
         let json = object([
             ("alone", Json::Count(self.alone)),
             ("several", counts(&self.several)),
@@ -111,7 +121,9 @@ impl Tally {
             ("refused", counts(&self.refused)),
             ("given_up", Json::Count(self.given_up)),
             ("worker_ended", Json::Count(self.ended)),
+            ("not_done", Json::Count(self.not_done)),
             ("seconds", Json::Number(self.seconds)),
+            ("listing_seconds", Json::Number(self.listing)),
             ("rows_a_second", Json::Number(self.rows_a_second())),
             ("slowest", Json::List(self.slowest.iter().map(slowest).collect())),
         ]);
@@ -120,15 +132,6 @@ impl Tally {
             _ => Vec::new(),
         }
     }
-}
-
-/// ` (what; 2: 3, 5: 1)`, or nothing where there are none.
-fn pairs<K: std::fmt::Display>(what: &str, counts: &BTreeMap<K, usize>) -> String {
-    if counts.is_empty() {
-        return String::new();
-    }
-    let parts: Vec<String> = counts.iter().map(|(key, count)| format!("{key}: {count}")).collect();
-    format!(" ({what}; {})", parts.join(", "))
 }
 
 fn counts<K: std::fmt::Display>(counts: &BTreeMap<K, usize>) -> Json {
@@ -149,29 +152,35 @@ pub fn time(seconds: f64) -> String {
 #[cfg(test)]
 mod tests {
     use super::*;
-    use crate::lister::Answer;
+    use crate::verdict::Loss;
 
     #[test]
     fn each_kind_is_counted() {
-        let outcome =
-            |refusal, count, seconds| Outcome { answer: Ok(Answer { refusal, count, rows: vec![] }), seconds };
-        let silent = |silence| Outcome { answer: Err(silence), seconds: 2.0 };
-        let outcomes = [
-            outcome(0, 1, 0.5),
-            outcome(0, 1, 0.1),
-            outcome(0, 3, 0.2),
-            outcome(0, 0, 0.2),
-            outcome(9, 0, 1.5),
-            silent(Silence::TooLong),
-            silent(Silence::Ended),
-        ];
-        let tally = Tally::new(outcomes.iter().enumerate(), 4.0);
-        assert_eq!((tally.rows, tally.alone, tally.not_listed()), (7, 2, 4));
+        let mut tally = Tally::default();
+        for (row, (verdict, seconds)) in [
+            (Verdict::Rows(1), 0.5),
+            (Verdict::Rows(1), 0.1),
+            (Verdict::Rows(3), 0.2),
+            (Verdict::Rows(0), 0.2),
+            (Verdict::Refused(9, Loss::Lost(4)), 1.5),
+            (Verdict::Silent(Silence::TooLong), 2.0),
+            (Verdict::Silent(Silence::Ended), 2.0),
+            (Verdict::Silent(Silence::NotDone), 9.0),
+        ]
+        .into_iter()
+        .enumerate()
+        {
+            tally.count(row, verdict, seconds);
+        }
+        assert_eq!((tally.rows, tally.alone, tally.not_listed()), (8, 2, 5));
         assert_eq!(tally.several, BTreeMap::from([(3, 1)]));
         assert_eq!(tally.slowest, [(5, 2.0), (6, 2.0), (4, 1.5)]);
-        let text = tally.text();
+        let text = tally.text(&|row| format!("row {row}"));
+        assert!(text.contains("slowest            row 5 with 2.0 s, row 6 with 2.0 s, row 4 with 1.5 s"), "{text}");
         assert!(text.contains("several rows       1 (size: lists; 3: 1)"), "{text}");
-        let reasons = "not listed         4 (no row fits: 1, given up: 1, worker ended: 1, refused by 9: 1)";
-        assert!(text.contains(reasons), "{text}");
+        let silent = "no row fits: 1, given up: 1, worker ended: 1, not done: 1";
+        let reasons = format!("not listed         5 ({silent}, refused: more rows than a list holds (9): 1)\n");
+        assert!(text.contains(&reasons), "{text}");
+        assert_eq!(tally.listing, 6.5);
     }
 }

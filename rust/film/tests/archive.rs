@@ -28,7 +28,7 @@ fn same(name: &str, ending: &str, found: &Path) {
 fn the_messages_are_the_stored_ones() {
     let folder = folder("archive-messages");
     for (name, file, layout) in STORED {
-        let words = format!("write {} {layout} -o {name}.rsm", board(file).display());
+        let words = format!("write {} {layout} --format 1 -o {name}.rsm", board(file).display());
         assert!(film(&folder, &words).status.success());
         same(name, "rsm", &folder.join(format!("{name}.rsm")));
     }

@@ -89,11 +89,49 @@ fn differences_are_found() {
     fs::write(folder.join("one.pbm"), "P1\n8 2\n0 0 1 1 0 1 1 0\n1 1 1 1 0 0 0 0\n").unwrap();
     fs::write(folder.join("two.pbm"), "P1\n8 2\n0 0 1 1 1 0 0 1\n1 1 1 1 0 0 0 0\n").unwrap();
     let report = ends(1, &folder, "check one.pbm two.pbm");
-    assert_eq!(report, "row 0: 4 bits differ, first at column 4\n1 row of 2 rows of 8 bits differ\n");
+    assert_eq!(report, "row 0: 4 bits differ, first at column 4\n1 row of 2 rows of 8 bits differs\n");
     let report = ends(1, &folder, "check one.pbm two.pbm --json");
     assert!(report.contains("\"different_rows\":1,\"different_bits\":4,"), "{report}");
     ends(0, &folder, "write one.pbm --layout 2,1,4,1 -o one.rsm");
     ends(0, &folder, "check one.pbm one.rsm --quiet");
     let report = ends(1, &folder, "check two.pbm one.rsm");
-    assert_eq!(report, "row 0 panel 0: another message\n1 row of 2 messages differ\n");
+    assert_eq!(report, "row 0: another message\n1 row of 2 messages differs\n");
+}
+
+/// A film that comes as PNG or TIFF is the same film.
+#[test]
+fn films_from_other_files() {
+    let folder = folder("other-files");
+    fs::write(folder.join("film.pbm"), "P1\n9 2\n1 0 0 0 0 0 0 0 1\n0 1 0 0 0 0 0 0 0\n").unwrap();
+    let mut bytes = Vec::new();
+    let mut encoder = png::Encoder::new(&mut bytes, 9, 2);
+    encoder.set_depth(png::BitDepth::One);
+    encoder.write_header().unwrap().write_image_data(&[0x7F, 0x7F, 0xBF, 0xFF]).unwrap();
+    fs::write(folder.join("film.png"), bytes).unwrap();
+    // The tags of the width, the height, that 0 is white, where the only strip is, and its length; then the strip.
+    let tags = [(256, 9), (257, 2), (262, 0), (273, 74), (279, 4)];
+    let mut bytes = [&b"II*\0\x08\0\0\0"[..], &[tags.len() as u8, 0]].concat();
+    for (tag, value) in tags {
+        bytes.extend([&u16::to_le_bytes(tag)[..], &[3, 0, 1, 0, 0, 0, value, 0, 0, 0]].concat());
+    }
+    bytes.extend([0, 0, 0, 0, 0x80, 0x80, 0x40, 0]);
+    fs::write(folder.join("film.tif"), bytes).unwrap();
+    ends(0, &folder, "write film.pbm -o film.rsm");
+    for name in ["film.png", "film.tif"] {
+        ends(0, &folder, &format!("check film.pbm {name}"));
+        ends(0, &folder, &format!("check {name} film.rsm"));
+        ends(0, &folder, &format!("write {name} -o other.rsm"));
+        assert_eq!(fs::read(folder.join("film.rsm")).unwrap(), fs::read(folder.join("other.rsm")).unwrap(), "{name}");
+    }
+    for (bytes, what) in [
+        (&b"P5 1 1 255\n0"[..], "a PGM of greys"),
+        (b"\xFF\xD8\xFF\xE0", "a JPEG"),
+        (b"GIF89a", "a GIF"),
+        (b"DHRX\0\x01", "a file of received rows"),
+        (b"word", "something else"),
+    ] {
+        fs::write(folder.join("other"), bytes).unwrap();
+        let line = common::refused(&folder, "write other -o x.rsm");
+        assert!(line.starts_with(&format!("film: other: byte 0: this is {what}, and a film is PBM")), "{line}");
+    }
 }

@@ -9,6 +9,7 @@
 mod agree;
 mod lent;
 mod received;
+pub mod stack;
 
 pub use agree::{agree_list, agree_mend, agree_read, agree_write};
 pub use lent::{Cell, Lent, Noise};

@@ -1,46 +1,38 @@
-//! Listing needs no more stack than the header says, at the deepest layouts and with the most losses.
+//! Listing takes no more stack than the table in the header says, with a margin, the start of a thread counted.
 
-use std::thread;
+use std::process::Command;
 
-use reference::bits::{bytes_for, pack};
-use reference::list::MOST_LOSSES;
-use reference::random::Random;
-use reference::samples::{row, Kind};
-use reference::Layout;
-use tester::Received;
+use tester::stack::{table, Case, Line};
 
-const STACK_BYTES: usize = 512 * 1024;
-
-/// Lists on a thread with a small stack, what is left of a row beside its message, and answers the rows that were
-/// listed.
-fn list_on_a_small_stack(layout: &Layout, received: &Received) -> Vec<Vec<u8>> {
-    let Received { message, row, m, .. } = received.clone();
-    let row_bytes = bytes_for(layout.row_bits());
-    let listing = move || {
-        let mut out = vec![0; 16 * row_bytes];
-        let count = dairyhour::list(&message, &row, m, &mut out);
-        count.map(|count| out.chunks(row_bytes).take(count).map(<[u8]>::to_vec).collect())
-    };
-    let thread = thread::Builder::new().stack_size(STACK_BYTES).spawn(listing).expect("a thread");
-    let listed: Result<Vec<Vec<u8>>, _> = thread.join().expect("the list is answered");
-    listed.unwrap_or_else(|refusal| panic!("{received}: {refusal}"))
-}
-
-/// The last twelve bits are lost, so all blocks and all chunks but the last are read, and the losses placed, at the
-/// bottom of the search.
-fn the_row_is_listed(l1: usize, l2: usize) {
-    let layout = Layout::new(l1, l2, 8, 16);
-    let sent = row(Kind::Random, layout.row_bits(), &mut Random::new(101));
-    let received = Received::own(&layout, &sent, &sent[..sent.len() - MOST_LOSSES]);
-    assert!(list_on_a_small_stack(&layout, &received).contains(&pack(&sent)), "{received}");
+/// Lists in a process of its own, so that a stack that is too small shows as a failed test.
+fn is_listed_on(case: Case, bytes: usize) -> bool {
+    let mut command = Command::new(env!("CARGO_BIN_EXE_stack"));
+    command.arg("list").args(case.words()).arg(bytes.to_string());
+    command.output().expect("the program stack").status.success()
 }
 
 #[test]
-fn at_255_blocks() {
-    the_row_is_listed(255, 1);
+fn the_header_has_the_table() {
+    let lines = table();
+    assert!(lines.windows(2).all(|pair| pair[0].blocks < pair[1].blocks && pair[0].kb < pair[1].kb), "{lines:?}");
+    // No layout has more blocks.
+    assert_eq!(lines.last().map(|line| line.blocks), Some(255));
+    assert_eq!([100, 467].map(Line::to_state), [128, 544]);
 }
 
 #[test]
-fn at_255_chunk_strings() {
-    the_row_is_listed(1, 255);
+fn lists_take_less_stack_than_the_header_says() {
+    for line in table() {
+        for case in line.cases() {
+            let bytes = line.without_margin();
+            assert!(is_listed_on(case, bytes), "{case:?} is not listed on {bytes} bytes; run `stack measure`");
+        }
+    }
+}
+
+/// That a stack is too small is seen.
+#[test]
+fn a_small_stack_is_too_small() {
+    let deepest = table().into_iter().flat_map(Line::cases).last().expect("a case");
+    assert!(!is_listed_on(deepest, 16 * 1024));
 }

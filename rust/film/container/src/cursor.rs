@@ -2,7 +2,7 @@
 
 use crate::crc::crc32;
 use crate::fault::Fault;
-use crate::VERSION;
+use crate::{IDENTIFIED, VERSION};
 
 /// The bytes of the checksum at the end.
 const CHECKSUM: usize = 4;
@@ -10,22 +10,31 @@ const CHECKSUM: usize = 4;
 pub struct Cursor<'a> {
     bytes: &'a [u8],
     at: usize,
+    /// Does the file name its film?
+    identified: bool,
 }
 
 impl<'a> Cursor<'a> {
-    /// Starts behind the mark and the version, which must be these.
+    /// Starts behind the mark, which must be this, and the version, which must be known.
     pub fn open(bytes: &'a [u8], mark: [u8; 4], what: &str) -> Result<Cursor<'a>, Fault> {
-        let mut cursor = Cursor { bytes, at: 0 };
+        let mut cursor = Cursor { bytes, at: 0, identified: false };
         let found = cursor.take(4, "the mark")?;
         if let Some(place) = (0..4).find(|place| found[*place] != mark[*place]) {
             let name = String::from_utf8_lossy(&mark);
             return Err(Fault::new(place, format!("this is no file of {what}, which starts with the mark {name}")));
         }
         let version = cursor.number16("the version")?;
-        if version != VERSION {
-            return Err(Fault::new(4, format!("version {version}, but only version {VERSION} is known")));
+        if version != VERSION && version != IDENTIFIED {
+            let known = format!("only versions {VERSION} and {IDENTIFIED} are known");
+            return Err(Fault::new(4, format!("version {version}, but {known}")));
         }
+        cursor.identified = version == IDENTIFIED;
         Ok(cursor)
+    }
+
+    /// Is this a file of the version that names its film?
+    pub fn identified(&self) -> bool {
+        self.identified
     }
 
     /// The byte that is read next.
@@ -42,7 +51,7 @@ impl<'a> Cursor<'a> {
             }
             None => {
                 let missing = count - (self.bytes.len() - self.at);
-                Err(Fault::new(self.bytes.len(), format!("the file ends, {missing} bytes short of {what}")))
+                Err(Fault::new(self.bytes.len(), format!("the file ends, {} short of {what}", bytes(missing))))
             }
         }
     }
@@ -68,9 +77,14 @@ impl<'a> Cursor<'a> {
         }
         match self.bytes.len() - self.at {
             0 => Ok(()),
-            more => Err(Fault::new(self.at, format!("the file should end here, but goes on for {more} bytes"))),
+            more => Err(Fault::new(self.at, format!("the file should end here, but goes on for {}", bytes(more)))),
         }
     }
+}
+
+/// So many bytes, in words.
+fn bytes(count: usize) -> String {
+    format!("{count} byte{}", if count == 1 { "" } else { "s" })
 }
 
 /// Appends the checksum of all bytes so far.

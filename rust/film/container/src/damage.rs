@@ -15,5 +15,5 @@ pub fn is_refused(file: &[u8], refused: impl Fn(&[u8]) -> Fault) {
         }
     }
     let longer = [file, &[0]].concat();
-    assert_eq!(refused(&longer), Fault::new(file.len(), "the file should end here, but goes on for 1 bytes"));
+    assert_eq!(refused(&longer), Fault::new(file.len(), "the file should end here, but goes on for 1 byte"));
 }

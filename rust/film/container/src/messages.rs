@@ -1,8 +1,9 @@
 //! The side messages of one film.
 
+use crate::crc::crc32_of;
 use crate::cursor::{seal, Cursor};
 use crate::fault::Fault;
-use crate::{MESSAGES_MARK, VERSION};
+use crate::{row_name, IDENTIFIED, MESSAGES_MARK, VERSION};
 
 /// The bytes in front of the first message.
 const HEAD: usize = 30;
@@ -40,6 +41,11 @@ impl Head {
         fit.then_some(head)
     }
 
+    /// What a row of the line is called: by its row of the film, and its panel where there are several.
+    pub fn name(&self, row: usize) -> String {
+        row_name(row, self.panels as usize)
+    }
+
     /// n, the bits of a row of the line.
     pub fn row_bits(&self) -> usize {
         row_bits(self.layout).map_or(0, usize::from)
@@ -65,13 +71,29 @@ pub struct Messages {
 }
 
 impl Messages {
-    /// The bytes of the file. Meant for messages that `decode` takes back: as many as the head says, each of them a
-    /// message of the head's layout.
+    /// The bytes of the file of version 1. Meant for messages that `decode` takes back: as many as the head says, each of
+    /// them a message of the head's layout.
     pub fn encode(&self) -> Vec<u8> {
+        seal(self.encode_as(VERSION))
+    }
+
+    /// The bytes of the file of version 2, which names the film.
+    pub fn encode_identified(&self) -> Vec<u8> {
+        let mut bytes = self.encode_as(IDENTIFIED);
+        bytes.extend(self.identity().to_be_bytes());
+        seal(bytes)
+    }
+
+    /// What tells this film from others: the checksum of all messages.
+    pub fn identity(&self) -> u32 {
+        crc32_of(self.messages.iter().map(Vec::as_slice))
+    }
+
+    fn encode_as(&self, version: u16) -> Vec<u8> {
         let head = &self.head;
         let mut bytes = Vec::new();
         bytes.extend(MESSAGES_MARK);
-        bytes.extend(VERSION.to_be_bytes());
+        bytes.extend(version.to_be_bytes());
         bytes.extend(head.width.to_be_bytes());
         bytes.extend(head.height.to_be_bytes());
         bytes.extend(head.layout);
@@ -83,7 +105,7 @@ impl Messages {
             bytes.extend((message.len() as u16).to_be_bytes());
             bytes.extend(message);
         }
-        seal(bytes)
+        bytes
     }
 
     /// Reads a file. Each message is held to its own mark, version and layout; whether its sums are in range is left to
@@ -93,10 +115,23 @@ impl Messages {
         let head = decode_head(&mut cursor)?;
         let mut messages = Vec::new();
         for row in 0..head.rows() {
-            messages.push(decode_message(&mut cursor, row, head.layout)?);
+            messages.push(decode_message(&mut cursor, &head, row)?);
+        }
+        let file = Messages { head, messages };
+        if cursor.identified() {
+            file.expect_identity(&mut cursor)?;
         }
         cursor.close()?;
-        Ok(Messages { head, messages })
+        Ok(file)
+    }
+
+    fn expect_identity(&self, cursor: &mut Cursor<'_>) -> Result<(), Fault> {
+        let place = cursor.at();
+        let (found, due) = (cursor.number32("the identity of the film")?, self.identity());
+        if found == due {
+            return Ok(());
+        }
+        Err(Fault::new(place, format!("the identity of the film is {found:08X}, but its messages give {due:08X}")))
     }
 
     /// The byte of the file at which message `row` starts, behind its length.
@@ -142,23 +177,26 @@ fn expect(cursor: &mut Cursor<'_>, bytes: usize, what: &str, due: u64) -> Result
     Err(Fault::new(place, format!("{what} is {found}, but the size of the film and the layout give {due}")))
 }
 
-fn decode_message(cursor: &mut Cursor<'_>, row: usize, layout: [u8; 4]) -> Result<Vec<u8>, Fault> {
-    let what = format!("message {row}");
+fn decode_message(cursor: &mut Cursor<'_>, head: &Head, row: usize) -> Result<Vec<u8>, Fault> {
+    // Only a message with which something is wrong is named.
+    let what = || format!("the message of {}", head.name(row));
+    let named = |fault: Fault| Fault::new(fault.byte, format!("{} {}", fault.what, head.name(row)));
     let place = cursor.at();
-    let length = usize::from(cursor.number16(&format!("the length of {what}"))?);
+    let length = usize::from(cursor.number16("the length of the message of").map_err(named)?);
     if !(MESSAGE_HEAD..=LONGEST_MESSAGE).contains(&length) {
-        let what = format!("{what} has {length} bytes, but a message has {MESSAGE_HEAD} to {LONGEST_MESSAGE}");
+        let what = format!("{} has {length} bytes, but a message has {MESSAGE_HEAD} to {LONGEST_MESSAGE}", what());
         return Err(Fault::new(place, what));
     }
     let start = cursor.at();
-    let message = cursor.take(length, &what)?;
+    let message = cursor.take(length, "the message of").map_err(named)?;
+    let layout = head.layout;
     let [l1, l2, nc, r] = layout;
     let due = [b'R', b'S', b'M', 0, 1, l1, l2, nc, r];
     match (0..MESSAGE_HEAD).find(|at| message[*at] != due[*at]) {
         None => Ok(message.to_vec()),
-        Some(at) if at < 3 => Err(Fault::new(start + at, format!("{what} does not start with the mark RSM"))),
-        Some(at) if at < 5 => Err(Fault::new(start + at, format!("{what} is not of version 1"))),
-        Some(at) => Err(Fault::new(start + at, format!("{what} has another layout than the film, {layout:?}"))),
+        Some(at) if at < 3 => Err(Fault::new(start + at, format!("{} does not start with the mark RSM", what()))),
+        Some(at) if at < 5 => Err(Fault::new(start + at, format!("{} is not of version 1", what()))),
+        Some(at) => Err(Fault::new(start + at, format!("{} has another layout than the film, {layout:?}", what()))),
     }
 }
 
@@ -194,6 +232,33 @@ mod tests {
         assert_eq!(example().place(1), 30 + 13 + 2);
     }
 
+    /// Version 2 is version 1 with another number, and the checksum of all messages at the end.
+    #[test]
+    fn films_are_identified() {
+        let (old, file) = (example().encode(), example().encode_identified());
+        assert_eq!(file[6..old.len() - 4], old[6..old.len() - 4]);
+        assert_eq!(file[4..6], [0, 2]);
+        let all: Vec<u8> = example().messages.concat();
+        assert_eq!(file[old.len() - 4..old.len()], crate::crc32(&all).to_be_bytes());
+        assert_eq!(Messages::decode(&file), Ok(example()));
+        damage::is_refused(&file, refused);
+        let mut other = file[..file.len() - 4].to_vec();
+        other[old.len() - 1] ^= 1;
+        let fault = refused(&seal(other));
+        assert_eq!(fault.byte, old.len() - 4);
+        assert!(fault.what.starts_with("the identity of the film is "), "{fault}");
+    }
+
+    #[test]
+    fn rows_and_panels_are_named() {
+        let names = |width| {
+            let head = Head::new(width, 2, [2, 1, 4, 0]).unwrap();
+            (0..head.rows()).map(|row| head.name(row)).collect::<Vec<_>>()
+        };
+        assert_eq!(names(8), ["row 0", "row 1"]);
+        assert_eq!(names(9), ["row 0 panel 0", "row 0 panel 1", "row 1 panel 0", "row 1 panel 1"]);
+    }
+
     #[test]
     fn panels_and_pad() {
         let head = Head::new(5000, 3, [15, 17, 8, 16]).unwrap();
@@ -211,7 +276,8 @@ mod tests {
     fn each_bad_byte_is_named() {
         for (place, bytes, byte, what) in [
             (0, &b"DHRX"[..], 2, "no file of the messages"),
-            (4, &[0, 2], 4, "version 2"),
+            (4, &[0, 3], 4, "version 3, but only versions 1 and 2 are known"),
+            (4, &[0, 2], 56, "the identity of the film is"),
             (6, &[0; 4], 6, "the width is 0"),
             (10, &[0; 4], 10, "the height is 0"),
             (14, &[2, 0, 4, 0], 14, "no row has the layout"),
@@ -230,11 +296,11 @@ mod tests {
     #[test]
     fn each_bad_message_is_named() {
         for (place, bytes, byte, what) in [
-            (30, &[0, 8][..], 30, "message 0 has 8 bytes"),
-            (43, &[0, 155], 43, "message 1 has 155 bytes"),
-            (47, &[0], 47, "message 1 does not start with the mark"),
-            (49, &[0], 49, "message 1 is not of version 1"),
-            (52, &[3], 52, "message 1 has another layout"),
+            (30, &[0, 8][..], 30, "the message of row 0 has 8 bytes"),
+            (43, &[0, 155], 43, "the message of row 1 has 155 bytes"),
+            (47, &[0], 47, "the message of row 1 does not start with the mark"),
+            (49, &[0], 49, "the message of row 1 is not of version 1"),
+            (52, &[3], 52, "the message of row 1 has another layout"),
         ] {
             let fault = refused(&with(place, bytes));
             assert!(fault.what.contains(what), "{fault}");

@@ -6,7 +6,7 @@ use super::{decode_messages, layout_of, message_of, plural, read_film};
 use crate::args::Check;
 use crate::json::{object, Json};
 use crate::picture::{self, Film};
-use crate::trouble::{Result, Trouble};
+use crate::trouble::Result;
 use crate::{cut, files};
 
 pub fn run(args: &Check) -> Result<bool> {
@@ -17,70 +17,97 @@ pub fn run(args: &Check) -> Result<bool> {
     let found = if bytes.starts_with(&MESSAGES_MARK) {
         with_messages(&film, &name, &bytes)?
     } else {
-        films(&film, &picture::decode(&name, &bytes)?, &name)?
+        films(&film, &picture::decode(&name, &bytes)?)
     };
     match (args.say.json, args.say.quiet) {
         (true, _) => files::say(&format!("{}\n", found.json()), None)?,
         (false, false) => files::say(&found.text(), None)?,
         (false, true) => {}
     }
-    Ok(found.rows.is_empty())
+    Ok(found.same())
 }
 
 /// What a comparison found.
 struct Found {
     /// What was compared, and how many of them.
     compared: String,
+    /// The two sizes, where they differ. Nothing else is compared then.
+    sizes: Option<[String; 2]>,
     /// The rows that differ, and for two films in how many bits.
     rows: Vec<(String, usize)>,
 }
 
-fn films(film: &Film, other: &Film, name: &str) -> Result<Found> {
-    if (film.width, film.height) != (other.width, other.height) {
-        let size = format!("this film has {} × {}", other.width, other.height);
-        return Err(Trouble::with(name, format!("{size}, the other {} × {}", film.width, film.height)));
+/// A film and something of another size are not the same.
+fn sizes(film: &Film, width: usize, height: usize) -> Option<Found> {
+    let others = (film.width, film.height) != (width, height);
+    let sizes = [format!("{} × {}", film.width, film.height), format!("{width} × {height}")];
+    others.then(|| Found { compared: String::from("sizes"), sizes: Some(sizes), rows: vec![] })
+}
+
+fn films(film: &Film, other: &Film) -> Found {
+    if let Some(found) = sizes(film, other.width, other.height) {
+        return found;
     }
     let mut rows = Vec::new();
     for row in 0..film.height {
-        let differ = |column: &usize| film.bit(row, *column) != other.bit(row, *column);
-        let columns: Vec<usize> = (0..film.width).filter(differ).collect();
+        let is_other = |column: &usize| film.bit(row, *column) != other.bit(row, *column);
+        let columns: Vec<usize> = (0..film.width).filter(is_other).collect();
         if let Some(first) = columns.first() {
-            let bits = plural(columns.len(), "bit");
-            rows.push((format!("row {row}: {bits} differ, first at column {first}"), columns.len()));
+            let bits = columns.len();
+            let what = format!("{} {}", plural(bits, "bit"), differ(bits));
+            rows.push((format!("row {row}: {what}, first at column {first}"), bits));
         }
     }
-    Ok(Found { compared: format!("{} of {} bits", plural(film.height, "row"), film.width), rows })
+    let compared = format!("{} of {}", plural(film.height, "row"), plural(film.width, "bit"));
+    Found { compared, sizes: None, rows }
+}
+
+/// What one thing does, or several do.
+fn differ(count: usize) -> &'static str {
+    if count == 1 {
+        "differs"
+    } else {
+        "differ"
+    }
 }
 
 fn with_messages(film: &Film, name: &str, bytes: &[u8]) -> Result<Found> {
     let messages = decode_messages(name, bytes)?;
     let head = &messages.head;
-    if (film.width, film.height) != (head.width as usize, head.height as usize) {
-        let size = format!("these are the messages of a film of {} × {}", head.width, head.height);
-        return Err(Trouble::with(name, format!("{size}, the film has {} × {}", film.width, film.height)));
+    if let Some(found) = sizes(film, head.width as usize, head.height as usize) {
+        return Ok(found);
     }
     let mut rows = Vec::new();
-    let panels = head.panels as usize;
     for (row, (packed, message)) in cut::rows(film, head).iter().zip(&messages.messages).enumerate() {
         if message_of(layout_of(head.layout), packed)? != *message {
-            rows.push((format!("row {} panel {}: another message", row / panels, row % panels), 0));
+            rows.push((format!("{}: another message", head.name(row)), 0));
         }
     }
-    Ok(Found { compared: plural(messages.messages.len(), "message"), rows })
+    Ok(Found { compared: plural(messages.messages.len(), "message"), sizes: None, rows })
 }
 
 impl Found {
+    fn same(&self) -> bool {
+        self.sizes.is_none() && self.rows.is_empty()
+    }
+
     fn text(&self) -> String {
+        if let Some([film, other]) = &self.sizes {
+            return format!("the sizes differ: the film has {film}, the other {other}\n");
+        }
         let lines: String = self.rows.iter().map(|(line, _)| format!("{line}\n")).collect();
         match self.rows.len() {
             0 => format!("the same: {}\n", self.compared),
-            count => format!("{lines}{} of {} differ\n", plural(count, "row"), self.compared),
+            count => format!("{lines}{} of {} {}\n", plural(count, "row"), self.compared, differ(count)),
         }
     }
 
     fn json(&self) -> Json {
+        let sizes = self.sizes.iter().flatten().map(|size| Json::Text(size.clone())).collect();
         object([
             ("compared", Json::Text(self.compared.clone())),
+            ("same", Json::Flag(self.same())),
+            ("different_sizes", Json::List(sizes)),
             ("different_rows", Json::Count(self.rows.len())),
             ("different_bits", Json::Count(self.rows.iter().map(|(_, bits)| bits).sum())),
             ("differences", Json::List(self.rows.iter().map(|(line, _)| Json::Text(line.clone())).collect())),

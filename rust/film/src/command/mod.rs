@@ -4,18 +4,20 @@ pub mod check;
 pub mod drop;
 pub mod list;
 pub mod plot;
+pub mod row;
 pub mod show;
 pub mod soak;
 pub mod write;
 
 use std::path::Path;
 
-use container::{Messages, Received};
+use container::{Messages, Origin, Received};
 use dairyhour::{Layout, LONGEST_MESSAGE, MOST_FIELDS};
 
 use crate::files;
 use crate::picture::{self, Film};
 use crate::trouble::{Result, Trouble};
+use crate::verdict::Loss;
 
 /// A film from a PBM file.
 fn read_film(path: &Path) -> Result<Film> {
@@ -33,15 +35,21 @@ fn decode_messages(name: &str, bytes: &[u8]) -> Result<Messages> {
     for (row, message) in messages.messages.iter().enumerate() {
         if let Err(refusal) = dairyhour::read(message, &mut fields) {
             let byte = messages.place(row);
-            return Err(Trouble::with(name, format!("byte {byte}: message {row} is {refusal}")));
+            let row = messages.head.name(row);
+            return Err(Trouble::with(name, format!("byte {byte}: the message of {row} is {refusal}")));
         }
     }
     Ok(messages)
 }
 
-/// The received rows from a file.
-fn read_received(path: &Path) -> Result<Received> {
-    Received::decode(&files::read(path)?).map_err(|fault| Trouble::with(files::name(path), fault))
+/// The received rows from a file, and the film that they are of where it says that.
+fn read_received(path: &Path) -> Result<(Received, Option<Origin>)> {
+    Received::decode_identified(&files::read(path)?).map_err(|fault| Trouble::with(files::name(path), fault))
+}
+
+/// How much of a row arrived.
+fn loss_of(received: &Received, row: usize) -> Loss {
+    Loss::new(received.row_bits.into(), received.rows[row].bits.into())
 }
 
 /// The message of a packed row.
@@ -57,6 +65,6 @@ fn layout_of([l1, l2, nc, r]: [u8; 4]) -> Layout {
 }
 
 /// One thing or several: `1 row`, `2 rows`.
-fn plural(count: usize, what: &str) -> String {
+pub fn plural(count: usize, what: &str) -> String {
     format!("{count} {what}{}", if count == 1 { "" } else { "s" })
 }

@@ -2,35 +2,44 @@
 
 use std::fmt::Write as _;
 
-use container::{Messages, Received, RECEIVED_MARK};
+use container::{Messages, Origin, Received, RECEIVED_MARK};
 use dairyhour::MOST_FIELDS;
 
 use super::write::cut_into;
 use super::{decode_messages, drop, layout_of, plural};
 use crate::args::Show;
-use crate::files;
 use crate::trouble::{Result, Trouble};
+use crate::{files, hex};
 
 pub fn run(args: &Show) -> Result<bool> {
     let name = files::name(&args.file);
     let bytes = files::read(&args.file)?;
     let text = if bytes.starts_with(&RECEIVED_MARK) {
-        let received = Received::decode(&bytes).map_err(|fault| Trouble::with(&name, fault))?;
-        show_received(&received, &chosen(args.row, received.rows.len())?)
+        let (received, origin) = Received::decode_identified(&bytes).map_err(|fault| Trouble::with(&name, fault))?;
+        let panels = origin.map_or(1, |origin| origin.panels as usize);
+        show_received(&received, origin, &chosen(args, received.rows.len(), panels)?)
     } else {
         let messages = decode_messages(&name, &bytes)?;
-        show_messages(&messages, &chosen(args.row, messages.messages.len())?)?
+        show_messages(&messages, &chosen(args, messages.messages.len(), messages.head.panels as usize)?)?
     };
     files::say(&text, None)?;
     Ok(true)
 }
 
-/// The row that is asked for, or all.
-fn chosen(row: Option<usize>, count: usize) -> Result<Vec<usize>> {
-    match row {
-        None => Ok((0..count).collect()),
-        Some(row) if row < count => Ok(vec![row]),
-        Some(row) => Err(Trouble::new(format!("there is no row {row}: the file has {}", plural(count, "row")))),
+/// The rows of the line that are asked for, of so many: all, those of a row of the film, or one panel of it.
+fn chosen(args: &Show, count: usize, panels: usize) -> Result<Vec<usize>> {
+    let is_chosen = |row: &usize| {
+        args.row.map_or(true, |chosen| chosen == row / panels)
+            && args.panel.map_or(true, |chosen| chosen == row % panels)
+    };
+    let rows: Vec<usize> = (0..count).filter(is_chosen).collect();
+    match (args.row, args.panel) {
+        (Some(row), panel) if rows.is_empty() => {
+            let panel = panel.map_or(String::new(), |panel| format!(" panel {panel}"));
+            let all = format!("{} of {}", plural(count / panels, "row"), plural(panels, "panel"));
+            Err(Trouble::new(format!("there is no row {row}{panel}: the file has {all}")))
+        }
+        _ => Ok(rows),
     }
 }
 
@@ -47,8 +56,7 @@ fn show_messages(messages: &Messages, rows: &[usize]) -> Result<String> {
             .map_err(|refusal| Trouble::with("a message", refusal))?;
         let (blocks, rest) = fields.split_at(l1);
         let (strings, rest) = rest.split_at(l2);
-        let panels = head.panels as usize;
-        let _ = writeln!(text, "row {} panel {}", row / panels, row % panels);
+        let _ = writeln!(text, "{}", head.name(*row));
         let _ = writeln!(text, "  block sums         {}", numbers(blocks));
         let _ = writeln!(text, "  chunk-string sums  {}", numbers(strings));
         let _ = writeln!(text, "  checks             {}", numbers(&rest[..r]));
@@ -60,12 +68,12 @@ fn numbers(fields: &[u16]) -> String {
     fields.iter().map(u16::to_string).collect::<Vec<_>>().join(" ")
 }
 
-fn show_received(received: &Received, rows: &[usize]) -> String {
+fn show_received(received: &Received, origin: Option<Origin>, rows: &[usize]) -> String {
     let mut text = drop::text(received);
     for row in rows {
         let found = &received.rows[*row];
-        let packed: String = found.packed.iter().map(|byte| format!("{byte:02X}")).collect();
-        let _ = writeln!(text, "row {row}: {} {packed}", plural(found.bits.into(), "bit"));
+        let name = received.name(*row, origin);
+        let _ = writeln!(text, "{name}: {} {}", plural(found.bits.into(), "bit"), hex::text(&found.packed));
     }
     text
 }

@@ -1,11 +1,14 @@
 //! `film soak`: an acceptance test for the machine that the library runs on.
 
+use std::borrow::Cow;
 use std::collections::BTreeMap;
 use std::fmt::Write as _;
+use std::mem;
 use std::path::Path;
-use std::sync::atomic::{AtomicBool, Ordering};
+use std::sync::Arc;
 use std::time::Instant;
 
+use container::Head;
 use dairyhour::Layout;
 use reference::bits::{pack, unpack};
 use reference::list::comes_from;
@@ -15,98 +18,202 @@ use reference::samples::{lose, row, Kind, Losses};
 use super::{layout_of, message_of, read_film};
 use crate::args::Soak;
 use crate::json::Json;
-use crate::lister::{Answer, Lister, Outcome, Task};
-use crate::tally::Tally;
+use crate::lister::{Answer, Lister, Next, Outcome, Rows, Silence, Task};
+use crate::picture::Film;
+use crate::progress::Progress;
+use crate::status;
+use crate::stop::{Stop, INTERRUPTED};
+use crate::tally::{time, Tally};
 use crate::trouble::Result;
-use crate::{cut, files};
+use crate::verdict::{refusal, Loss, Verdict};
+use crate::{cut, files, hex};
 
 /// The layouts of made-up rows.
 const LAYOUTS: [[u8; 4]; 4] = [[5, 3, 4, 12], [9, 7, 6, 12], [10, 6, 6, 16], [15, 17, 8, 16]];
 
-pub fn run(args: &Soak) -> Result<bool> {
-    let films = args.films.iter().map(|path| film_rows(args, path)).collect::<Result<Vec<_>>>()?;
-    let rows: Vec<Sent> = films.into_iter().flatten().collect();
-    let lister = Lister::new(&args.work)?;
-    let stop = AtomicBool::new(false);
+/// How many seconds a row may take unless it is said.
+const PATIENCE: f64 = 1.0;
+
+/// How many rows that were given up are described.
+const DESCRIBED: usize = 20;
+
+pub fn run(args: &Soak) -> Result<u8> {
+    let films = args.films.iter().map(|path| film(args, path)).collect::<Result<Vec<_>>>()?;
+    let (first, count) = args.case.map_or((0, args.rows), |number| (number, 1));
+    let cases =
+        Cases { seed: args.seed, most: args.most.into(), layout: args.layout, films, first, show: args.case.is_some() };
+    let mut report = Report::default();
     let began = Instant::now();
-    let tried = lister.each(args.rows, args.say.quiet, |number| {
-        if stop.load(Ordering::Relaxed) {
-            return Ok(None);
+    let mut progress = Progress::new(count, args.say.quiet);
+    let stop = Stop::new(args.work.deadline)?;
+    let run = Lister::new(&args.work, PATIENCE)?.run(&Arc::new(cases), count, &stop, &mut progress, |row, tried| {
+        report.count(first + row, tried);
+        if report.faults.is_empty() {
+            Next::Go
+        } else {
+            Next::Stop
         }
-        let tried = try_one(args, &lister, &rows, number)?;
-        stop.fetch_or(tried.fault.is_some(), Ordering::Relaxed);
-        Ok(Some(tried))
     })?;
-    let tried: Vec<Tried> = tried.into_iter().flatten().collect();
-    let numbered = tried.iter().map(|tried| (tried.number, &tried.outcome));
-    let tally = Tally::new(numbered, began.elapsed().as_secs_f64());
-    let report = Report { tally: &tally, tried: &tried };
+    report.tally.seconds = began.elapsed().as_secs_f64();
     match (args.say.json, args.say.quiet) {
         (true, _) => files::say(&format!("{}\n", report.json()), None)?,
         (false, false) => files::say(&report.text(), None)?,
         (false, true) => {}
     }
-    if let Some(fault) = report.fault() {
+    if let Some(fault) = report.faults.first() {
         files::complain(fault);
     }
-    Ok(report.fault().is_none() && tally.given_up + tally.ended == 0)
+    run.trouble.map_or(Ok(()), Err)?;
+    let sound = report.is_sound() && !(args.strict && report.tally.given_up > 0);
+    Ok(if sound && stop.is_interrupted() { INTERRUPTED } else { status(sound) })
 }
 
-/// A row as it is sent: where it is from, its layout and its bits.
-#[derive(Clone)]
-struct Sent {
-    from: String,
-    layout: Layout,
-    bits: Vec<bool>,
+/// A film whose rows are tried.
+struct Tape {
+    name: String,
+    film: Film,
+    head: Head,
 }
 
-/// All rows of a film.
-fn film_rows(args: &Soak, path: &Path) -> Result<Vec<Sent>> {
+fn film(args: &Soak, path: &Path) -> Result<Tape> {
     let film = read_film(path)?;
     let head = cut::head(&film, args.layout)?;
-    let sent = |(number, packed): (usize, &Vec<u8>)| Sent {
-        from: format!("row {number} of {}", files::name(path)),
-        layout: layout_of(head.layout),
-        bits: unpack(packed, head.row_bits()),
-    };
-    Ok(cut::rows(&film, &head).iter().enumerate().map(sent).collect())
+    Ok(Tape { name: files::name(path), film, head })
 }
 
-/// A row that was tried.
-struct Tried {
+/// What decides the cases.
+struct Cases {
+    seed: u64,
+    /// The most bits that a row loses.
+    most: usize,
+    layout: Option<Layout>,
+    films: Vec<Tape>,
+    /// The number of the first case.
+    first: usize,
+    /// Is each case to be shown?
+    show: bool,
+}
+
+/// A row as it is sent and as it is received.
+struct Case {
     number: usize,
+    /// Where it is from.
+    from: String,
+    layout: reference::Layout,
+    sent: Vec<bool>,
+    losses: Losses,
+    received: Vec<bool>,
+    message: Vec<u8>,
+}
+
+/// A case that was tried.
+struct Tried {
     lost: usize,
-    outcome: Outcome,
+    verdict: Verdict,
+    seconds: f64,
     /// The case, where the sent row is missing or a listed row is wrong.
     fault: Option<String>,
+    /// The case in a line, where it was given up.
+    line: Option<String>,
+    /// The case with all that is needed to try it elsewhere, where that is asked for.
+    shown: Option<String>,
 }
 
-/// Case `number`, which depends on the seed and the number alone: every second one is a row of the films, where there are
-/// any.
-fn try_one(args: &Soak, lister: &Lister, films: &[Sent], number: usize) -> Result<Tried> {
-    let mut random = Random::new(args.seed.wrapping_add((number as u64).wrapping_mul(0xD134_2543_DE82_EF95)));
-    let sent = if !films.is_empty() && number % 2 == 1 {
-        films[random.below(films.len())].clone()
-    } else {
-        made_up(args.layout, &mut random)
-    };
-    let lost = random.below(usize::from(args.most).min(sent.bits.len()) + 1);
-    let losses = Losses::ALL[random.below(Losses::ALL.len())];
-    let layout = reference::Layout::new(sent.layout.l1, sent.layout.l2, sent.layout.nc, sent.layout.r);
-    let received = lose(losses, &layout, &sent.bits, lost, &mut random);
-    let message = message_of(sent.layout, &pack(&sent.bits))?;
-    let packed = pack(&received);
-    let outcome = lister.list(&Task { message: &message, bits: received.len() as u16, row: &packed })?;
-    let what = outcome.answer.as_ref().ok().and_then(|answer| wrong(answer, &layout, &message, &sent.bits, &received));
-    let fault = what.map(|what| case(args.seed, number, &what, &sent, &message, &received));
-    Ok(Tried { number, lost, outcome, fault })
+impl Rows for Cases {
+    type Done = Tried;
+
+    fn task(&self, row: usize) -> Task<'_> {
+        let Case { message, received, .. } = self.case(self.first + row);
+        Task { message: Cow::Owned(message), bits: received.len() as u16, row: Cow::Owned(pack(&received)) }
+    }
+
+    fn done(&self, row: usize, outcome: Outcome) -> Tried {
+        let case = self.case(self.first + row);
+        let Case { layout, sent, received, message, .. } = &case;
+        let answer = outcome.answer.as_ref();
+        let loss = Loss::new(sent.len(), received.len());
+        let verdict = Verdict::new(&outcome, loss, answer.map_or(0, |answer| answer.count));
+        let what = match verdict {
+            Verdict::Silent(Silence::Ended) => Some(String::from("two workers ended at this row")),
+            _ => answer.ok().and_then(|answer| wrong(answer, layout, message, sent, received)),
+        };
+        let fault = what.map(|what| format!("{}: {what}\n{}", case.name(self.seed), case.whole()));
+        let line = || case.line(&outcome, verdict, loss);
+        Tried {
+            lost: loss.lost(),
+            verdict,
+            seconds: outcome.seconds,
+            fault,
+            line: Some(verdict).filter(|verdict| *verdict == Verdict::Silent(Silence::TooLong)).map(|_| line()),
+            shown: self.show.then(|| format!("{}\n{}\n", line(), case.whole())),
+        }
+    }
+
+    fn bytes(&self, _: &Tried) -> usize {
+        mem::size_of::<Tried>()
+    }
 }
 
-fn made_up(layout: Option<Layout>, random: &mut Random) -> Sent {
-    let layout = layout.unwrap_or_else(|| layout_of(LAYOUTS[random.below(LAYOUTS.len())]));
-    let kind = Kind::ALL[random.below(Kind::ALL.len())];
-    let bits = row(kind, layout.l1 * layout.l2 * layout.nc, random);
-    Sent { from: format!("a row of the kind {kind:?}"), layout, bits }
+impl Cases {
+    /// Case `number`, which depends on the seed and the number alone: every second one is a row of the films, where there are
+    /// any.
+    fn case(&self, number: usize) -> Case {
+        let mut random = Random::new(self.seed.wrapping_add((number as u64).wrapping_mul(0xD134_2543_DE82_EF95)));
+        let (from, layout, sent) = if !self.films.is_empty() && number % 2 == 1 {
+            self.film_row(&mut random)
+        } else {
+            self.made_up(&mut random)
+        };
+        let lost = random.below(self.most.min(sent.len()) + 1);
+        let losses = Losses::ALL[random.below(Losses::ALL.len())];
+        let message = message_of(layout, &pack(&sent)).unwrap_or_default();
+        let layout = reference::Layout::new(layout.l1, layout.l2, layout.nc, layout.r);
+        let received = lose(losses, &layout, &sent, lost, &mut random);
+        Case { number, from, layout, sent, losses, received, message }
+    }
+
+    /// Any row of the films.
+    fn film_row(&self, random: &mut Random) -> (String, Layout, Vec<bool>) {
+        let all: usize = self.films.iter().map(|tape| tape.head.rows()).sum();
+        let mut number = random.below(all);
+        for Tape { name, film, head } in &self.films {
+            if number < head.rows() {
+                let sent = unpack(&cut::row(film, head, number), head.row_bits());
+                return (format!("{} of {name}", head.name(number)), layout_of(head.layout), sent);
+            }
+            number -= head.rows();
+        }
+        self.made_up(random)
+    }
+
+    fn made_up(&self, random: &mut Random) -> (String, Layout, Vec<bool>) {
+        let layout = self.layout.unwrap_or_else(|| layout_of(LAYOUTS[random.below(LAYOUTS.len())]));
+        let kind = Kind::ALL[random.below(Kind::ALL.len())];
+        let bits = row(kind, layout.l1 * layout.l2 * layout.nc, random);
+        (format!("a row of the kind {kind:?}"), layout, bits)
+    }
+}
+
+impl Case {
+    fn name(&self, seed: u64) -> String {
+        format!("case {} of seed {seed}, {}", self.number, self.from)
+    }
+
+    /// What it is and what came out, in a line.
+    fn line(&self, outcome: &Outcome, verdict: Verdict, loss: Loss) -> String {
+        let reference::Layout { l1, l2, nc, r } = self.layout;
+        let (from, losses) = (&self.from, self.losses);
+        let (came, took) = (verdict.words(), time(outcome.seconds));
+        format!("case {}: {from}, layout {l1},{l2},{nc},{r}, {loss} ({losses:?}): {came} after {took}", self.number)
+    }
+
+    /// All that is needed to try a case elsewhere.
+    fn whole(&self) -> String {
+        let mut text = format!("sent      {} bits {}\n", self.sent.len(), hex::text(&pack(&self.sent)));
+        let _ = writeln!(text, "message   {}", hex::text(&self.message));
+        let _ = write!(text, "received  {} bits {}", self.received.len(), hex::text(&pack(&self.received)));
+        text
+    }
 }
 
 /// What is wrong with an answer, as an independent implementation sees it. A list that was cut by refusal 9 need not hold
@@ -121,7 +228,7 @@ fn wrong(
     let rows: Vec<Vec<bool>> =
         answer.rows.chunks_exact(container::bytes_for(sent.len())).map(|row| unpack(row, sent.len())).collect();
     if !matches!(answer.refusal, 0 | 9) {
-        return Some(format!("it was refused by {}", answer.refusal));
+        return Some(format!("it was {}", refusal(answer.refusal, Loss::new(sent.len(), received.len()))));
     }
     if answer.refusal == 0 && answer.count != rows.len() {
         return Some(format!("the count is {}, but there are {} rows", answer.count, rows.len()));
@@ -139,57 +246,56 @@ fn wrong(
     missing.then(|| String::from("the row that was sent is missing"))
 }
 
-/// All that is needed to try a case again.
-fn case(seed: u64, number: usize, what: &str, sent: &Sent, message: &[u8], received: &[bool]) -> String {
-    let mut text = format!("row {number} of seed {seed}, {}: {what}\n", sent.from);
-    let _ = writeln!(text, "sent      {} bits {}", sent.bits.len(), hex(&pack(&sent.bits)));
-    let _ = writeln!(text, "message   {}", hex(message));
-    let _ = write!(text, "received  {} bits {}", received.len(), hex(&pack(received)));
-    text
+/// What is kept of the cases that were tried, however many they are.
+#[derive(Default)]
+struct Report {
+    tally: Tally,
+    by_losses: BTreeMap<usize, usize>,
+    faults: Vec<String>,
+    /// The first rows that were given up.
+    given_up: Vec<String>,
+    /// What is shown of the cases.
+    shown: String,
 }
 
-fn hex(bytes: &[u8]) -> String {
-    bytes.iter().map(|byte| format!("{byte:02X}")).collect()
-}
-
-struct Report<'a> {
-    tally: &'a Tally,
-    tried: &'a [Tried],
-}
-
-impl Report<'_> {
-    fn fault(&self) -> Option<&str> {
-        self.tried.iter().find_map(|tried| tried.fault.as_deref())
+impl Report {
+    fn count(&mut self, number: usize, tried: Tried) {
+        self.tally.count(number, tried.verdict, tried.seconds);
+        *self.by_losses.entry(tried.lost).or_default() += 1;
+        self.faults.extend(tried.fault);
+        self.shown.extend(tried.shown);
+        let room = DESCRIBED - self.given_up.len();
+        self.given_up.extend(tried.line.into_iter().take(room));
     }
 
-    fn by_losses(&self) -> BTreeMap<usize, usize> {
-        let mut rows = BTreeMap::new();
-        for tried in self.tried {
-            *rows.entry(tried.lost).or_default() += 1;
-        }
-        rows
+    /// No row is missing or wrong, and no worker broke down. A row that was given up says nothing.
+    fn is_sound(&self) -> bool {
+        self.faults.is_empty()
     }
 
     fn text(&self) -> String {
-        let parts: Vec<String> = self.by_losses().iter().map(|(lost, rows)| format!("{lost}: {rows}")).collect();
-        let verdict = if self.fault().is_some() { "a row is MISSING or WRONG" } else { "no row missing or wrong" };
+        let parts: Vec<String> = self.by_losses.iter().map(|(lost, rows)| format!("{lost}: {rows}")).collect();
+        let verdict = if self.is_sound() { "no row missing or wrong" } else { "a row is MISSING or WRONG" };
+        let given_up: String = self.given_up.iter().map(|line| format!("{line}\n")).collect();
         format!(
-            "rows tried         {} (bits lost: rows; {})\n{}verdict            {verdict}\n",
+            "{}rows tried         {} (bits lost: rows; {})\n{}{given_up}verdict            {verdict}\n",
+            self.shown,
             self.tally.rows,
             parts.join(", "),
-            self.tally.text()
+            self.tally.text(&|number| format!("case {number}"))
         )
     }
 
     fn json(&self) -> Json {
-        let losses = self.by_losses().into_iter().map(|(lost, rows)| (lost.to_string(), Json::Count(rows))).collect();
+        let losses = self.by_losses.iter().map(|(lost, rows)| (lost.to_string(), Json::Count(*rows))).collect();
         let mut members = vec![
             (String::from("rows"), Json::Count(self.tally.rows)),
             (String::from("rows_by_losses"), Json::Object(losses)),
         ];
-        members.extend(self.tally.json());
-        let faults = self.tried.iter().filter_map(|tried| tried.fault.clone()).map(Json::Text).collect();
-        members.push((String::from("faults"), Json::List(faults)));
+        members.extend(self.tally.json(&|number| vec![("case", Json::Count(number))]));
+        let list = |lines: &[String]| Json::List(lines.iter().cloned().map(Json::Text).collect());
+        members.push((String::from("given_up_cases"), list(&self.given_up)));
+        members.push((String::from("faults"), list(&self.faults)));
         Json::Object(members)
     }
 }
@@ -197,6 +303,18 @@ impl Report<'_> {
 #[cfg(test)]
 mod tests {
     use super::*;
+
+    /// What is kept does not grow with the rows, however many were given up.
+    #[test]
+    fn many_rows_are_counted_in_little_memory() {
+        let mut report = Report::default();
+        for number in 0..1000 {
+            let (verdict, line) = (Verdict::Silent(Silence::TooLong), Some(format!("case {number}")));
+            report.count(number, Tried { lost: 3, verdict, seconds: 1.0, fault: None, line, shown: None });
+        }
+        assert_eq!((report.tally.given_up, report.given_up.len()), (1000, DESCRIBED));
+        assert!(report.given_up[DESCRIBED - 1] == "case 19" && report.shown.is_empty() && report.is_sound());
+    }
 
     /// The library's answer for a row that lost nothing, changed in each way, is seen to be wrong.
     #[test]
@@ -216,7 +334,7 @@ mod tests {
             (0, 2, &[0x39, 0x36], "out of order"),
             (0, 3, &[0x36, 0x36, 0x39], "out of order"),
             (0, 3, &[0x36, 0x37, 0x39], "does not fit"),
-            (7, 0, &[], "refused by 7"),
+            (7, 0, &[], "it was refused: more than 12 bits lost (7)"),
         ] {
             let found = verdict(refusal, count, rows).unwrap_or_default();
             assert!(found.contains(what), "{found}");

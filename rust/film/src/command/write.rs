@@ -11,11 +11,11 @@ use crate::{cut, files};
 pub fn run(args: &Write) -> Result<bool> {
     files::apart(&[&args.film], &[&args.output])?;
     let film = read_film(&args.film)?;
-    let head = cut::head(&film, args.layout)?;
+    let head = cut::head(&film, args.line.layout)?;
     let layout = layout_of(head.layout);
     let messages = cut::rows(&film, &head).iter().map(|row| message_of(layout, row)).collect::<Result<Vec<_>>>()?;
     let file = Messages { head, messages };
-    let bytes = file.encode();
+    let bytes = if args.line.format == 1 { file.encode() } else { file.encode_identified() };
     files::write(&args.output, &bytes)?;
     match (args.say.json, args.say.quiet) {
         (true, _) => files::say(&format!("{}\n", json(&file, bytes.len())), Some(&args.output))?,
