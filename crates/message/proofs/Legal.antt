@@ -24,7 +24,6 @@ pub record Bounds (l : Layout) : Type 0 where
   pub l2-high : l .l2 ≤ mostInLine
   pub r-high : l .r ≤ 16
   pub field : 0 < l .r → l .l1 * l .l2 ≤ 2 ^ l .nc - 1
-  pub chunks-high : l .l1 * l .l2 ≤ 2 ^ l .nc - 1
 
 pub legal-bounds : (l : Layout) → legal l ≡ true → Bounds l
 unfolding legal
@@ -55,7 +54,6 @@ legal-bounds l e =
       l1-high = omega (arith, mul-le-mul-left (l .l1) two, mul-one (l .l1));
       l2-high = omega (arith, mul-le-mul-right (l .l2) one, one-mul (l .l2));
       field = λ h. elements;
-      chunks-high = elements;
       r-high =
           leb-true (l .r) 16
           (both-right (leb 1 (l .l1) && leb 1 (l .l2) && leb 3 (l .nc) && leb (l .nc) 8

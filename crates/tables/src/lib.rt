@@ -243,7 +243,19 @@ fn all_end(
     let n = heavy.n;
     let mut h: usize = 0;
     while h < n {
-        if !ends(l, y, totals, counts, numbers, heavy, j, h, before[h], t, row) {
+        if !ends(
+            l,
+            y,
+            totals,
+            counts,
+            numbers,
+            heavy,
+            j,
+            h,
+            before[h],
+            t,
+            row,
+        ) {
             return false;
         }
         h += 1;

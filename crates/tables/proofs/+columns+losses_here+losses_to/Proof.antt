@@ -276,8 +276,7 @@ columns-returns : (t : ℕ)
 columns-returns t c =
     let m = c .before .before in
     let i = looped t m in
-    let a = start t (i .before) .args in
-    (
+    let a = start t (i .before) .args in (
       going-near (i .loop .inv) (m .mark-at .result)
           (subst (λ (v : ℕ). IsMark (a .shape) (a .marks .now) (i .loop .c) v (m .mark-at .result))
           (m .before .number-of .ensures) (m .mark-at .ensures))
@@ -447,14 +446,14 @@ columns-mend-table-requires t c κs =
 columns-same-length-7 : (t : ℕ)
     → columns-lts.Need-same-length-7 (columns-claims t) (columns-at t) columns.Post columns-Inv-loop
     columns-μ-loop
-columns-same-length-7 t c = 
+columns-same-length-7 t c =
     let f = c .before .before .before .before in
     f .mend-table .kept .1 .1 .1 .1 .0 ∙ f .before .before .before .before .before .loop .inv .wide
 
 columns-same-length-8 : (t : ℕ)
     → columns-lts.Need-same-length-8 (columns-claims t) (columns-at t) columns.Post columns-Inv-loop
     columns-μ-loop
-columns-same-length-8 t c = 
+columns-same-length-8 t c =
     let f = c .before .before .before .before in
     let g = f .before .before .before .before .before .loop .inv in
     grown-length (g .holding) (f .mend-table .ensures .0) ∙ g .long
@@ -563,7 +562,6 @@ losses-here-losses-to-requires t c κs =
     in
     let holding = grown-holding (p .1 .0) (v .0) in
     let near = near-stays (a .l) (a .numbers .now) (a .y .now) (a .z .now) (a .room) (p .1 .0) (v .0) (p .1 .1 .1 .1 .1 .1) in
-
     let of = p .1 .1 .1 .1 .0 in
     let looked = p .1 .1 .1 .1 .1 .0 in (
       omega (arith, s .pre .0),
@@ -712,8 +710,7 @@ losses-to-returns t c =
     let n = c .before .before in
     let s = begin t n in
     let a = s .args in
-    let p = s .pre .1 .0 in
-    (
+    let p = s .pre .1 .0 in (
       grown-nothing (p .1 .0)
           (λ x sent u.
           false≢true
@@ -735,8 +732,7 @@ losses-to-returns-2 : (t : ℕ)
     → losses-to-lts.Need-returns-2 (losses-to-claims t) (losses-to-at t) losses-to.Post
 losses-to-returns-2 t c =
     let n = lowered t (c .before) in
-    let p = begin t n .pre .1 .0 in
-    (
+    let p = begin t n .pre .1 .0 in (
       grown-nothing (p .1 .0)
           (λ x sent u.
           omega (arith, crossed (p .1 .1 .1 .0) (u .0) (own-next t n x u) (c .before .crossing .ensures .0), c .if2 .taken)),
@@ -768,8 +764,7 @@ losses-to-returns-3 t c =
     let s = begin t n in
     let a = s .args in
     let p = s .pre .1 .0 in
-    let add : f .crossing .result ≤ w .wide .result - 1 + 1 = omega (arith, w .wide .ensures, w .before .if2 .left) in
-    (
+    let add : f .crossing .result ≤ w .wide .result - 1 + 1 = omega (arith, w .wide .ensures, w .before .if2 .left) in (
       grown-none (p .1 .0)
           (λ x sent u.
           let own = own-next t n x u in
@@ -806,8 +801,7 @@ losses-to-returns-4 t c =
     let m = c .before in
     let g = m .before in
     let n = from-sets t g in
-    let p = begin t n .pre .1 .0 in
-    (
+    let p = begin t n .pre .1 .0 in (
       grown-nothing (p .1 .0)
           (λ x sent u.
           false≢true
@@ -827,8 +821,7 @@ losses-to-returns-5 : (t : ℕ)
 losses-to-returns-5 t c =
     let q = c .before .before .before .before in
     let n = from-step t q in
-    let p = begin t n .pre .1 .0 in
-    (
+    let p = begin t n .pre .1 .0 in (
       grown-nothing (p .1 .0)
           (λ x sent u.
           false≢true (sym (not-true _ (c .if5 .taken)) ∙ q .step .ensures .under x (sent .0) (u .0 .0) (own-next t n x u) .0)),
@@ -839,8 +832,7 @@ losses-to-all-end-requires : (t : ℕ)
     → losses-to-lts.Need-all-end-requires (losses-to-claims t) (losses-to-at t) losses-to.Post
 losses-to-all-end-requires t c κs =
     let q = c .before .before .before .before .before .before in
-    let p = begin t (from-step t q) .pre .1 .0 in
-    (
+    let p = begin t (from-step t q) .pre .1 .0 in (
       p .0,
       (
         p .1 .1 .1 .1 .1 .0 .tables,
@@ -857,8 +849,7 @@ losses-to-returns-6 t c =
     let e = c .before in
     let q = e .before .before .before .before .before .before .before in
     let n = from-step t q in
-    let p = begin t n .pre .1 .0 in
-    (
+    let p = begin t n .pre .1 .0 in (
       grown-nothing (p .1 .0)
           (λ x sent u.
           let under = q .step .ensures .under x (sent .0) (u .0 .0) (own-next t n x u) .1 in
@@ -906,13 +897,13 @@ losses-to-same-length-2 t c = c .before .before .before .before .before .before 
 
 losses-to-same-length-3 : (t : ℕ)
     → losses-to-lts.Need-same-length-3 (losses-to-claims t) (losses-to-at t) losses-to.Post
-losses-to-same-length-3 t c = 
+losses-to-same-length-3 t c =
     let d = c .before .before .before .before in
     d .columns .kept .1 .1 .1 .1 .1 .1 .1 .1 .1 .1 .1 .1 .1 .1 .0 ∙ d .before .before .before .before .before .before .before .before .before .before .before .step .kept .1 .1 .1 .1 .1 .1 .0
 
 losses-to-same-length-4 : (t : ℕ)
     → losses-to-lts.Need-same-length-4 (losses-to-claims t) (losses-to-at t) losses-to.Post
-losses-to-same-length-4 t c = 
+losses-to-same-length-4 t c =
     c .before .before .before .before .columns .kept .1 .1 .1 .1 .1 .1 .1 .1 .1 .1 .1 .1 .1 .1 .1 .1 .1 .1 .0
 
 losses-to-returns-7 : (t : ℕ)
@@ -926,8 +917,7 @@ losses-to-returns-7 t c =
     let f = w .before .before in
     let n = lowered t f in
     let p = begin t n .pre .1 .0 in
-    let add : f .crossing .result ≤ w .wide .result - 1 + 1 = omega (arith, w .wide .ensures, w .before .if2 .left) in
-    (
+    let add : f .crossing .result ≤ w .wide .result - 1 + 1 = omega (arith, w .wide .ensures, w .before .if2 .left) in (
       grown-weaken
           (λ x sent u.
           under-next (p .1 .1 .1 .0) (u .0) (own-next t n x u) (f .crossing .ensures .0) (w .wide .result - 1) add
