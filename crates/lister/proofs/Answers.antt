@@ -30,7 +30,7 @@ use Rattle.lister.proofs.Read.{sent-wanted}
 use Rattle.lister.proofs.Row.{row-checks}
 
 -- ---- the rows that a search found
-module _ {l : Layout} {numbers y : List ℕ} {cap : ℕ} {entry exit : List ℕ} {d : ℕ} {o : Bool}
+module _ (l : Layout) (numbers y : List ℕ) {cap : ℕ} {entry exit : List ℕ} {d : ℕ} {o : Bool}
     (f : Listed l numbers y cap entry exit d o) where
   abbrev found : List (List ℕ)
   found = allSent l numbers y
@@ -62,9 +62,9 @@ module _ {l : Layout} {numbers y : List ℕ} {cap : ℕ} {entry exit : List ℕ}
   slice-found = f .slice ∙ ap (λ (n : ℕ). firstRows cap found ++ drop n entry) (sym bytes-written)
 
 -- the same by another name of the received bits and of the room
-pub searched : {l : Layout} {numbers y z : List ℕ} {cap room : ℕ} {entry exit : List ℕ} {d : ℕ} {o : Bool}
+pub searched : (l : Layout) (numbers y : List ℕ) {z : List ℕ} {cap room : ℕ} {entry exit : List ℕ} {d : ℕ} {o : Bool}
     → Listed l numbers y cap entry exit d o → y ≡ z → cap ≡ room → Listed l numbers z room entry exit d o
-searched f e h = rw (← e, ← h) f
+searched l numbers y f e h = rw (← e, ← h) f
 
 -- ---- the checks
 module _ (s row : List ℕ) (m : ℕ) where

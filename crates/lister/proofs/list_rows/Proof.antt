@@ -83,30 +83,38 @@ search-requires c κs =
     let u = r .before .before .before .before in
     (rw (lent u) (start u .pre .0), omega (arith, fits r))
 
--- what the search leaves, by the room and the bits of the row
-found : (c : tie.After-search) → let r = c .before .before .before .before in
-    let a = start (r .before .before .before .before) .args in
+-- where the function starts, seen from where the search has answered; and what it leaves, by the room and the bits of the
+-- row
+abbrev entry : tie.After-search → tie.Start
+entry c = start (c .before .before .before .before .before .before .before .before)
+
+found : (c : tie.After-search) → let a = entry c .args in
     Listed (a .l) (a .numbers .now) (take (a .m) (unpack (a .row .now))) (roomFor (rowBits (a .l)) (length (a .out .now)))
     (a .out .now) (c .search .last .1 .1 .1 .1 .0) (c .search .result .count) (c .search .result .more)
 found c =
     let r = c .before .before .before .before in
-    searched (c .search .ensures) (lent (r .before .before .before .before)) (r .room .ensures)
+    let a = entry c .args in
+    searched (a .l) (a .numbers .now) _ (c .search .ensures) (lent (r .before .before .before .before)) (r .room .ensures)
 
 same-length : tie.Need-same-length
 same-length c = search needs
 
 returns : tie.Need-returns
 returns c =
-    let f = found (c .before .before .before) in
-    (more-found f (c .if1 .taken), slice-found f)
+    let q = c .before .before .before in
+    let a = entry q .args in
+    let y = take (a .m) (unpack (a .row .now)) in
+    (more-found (a .l) (a .numbers .now) y (found q) (c .if1 .taken), slice-found (a .l) (a .numbers .now) y (found q))
 
 same-length-2 : tie.Need-same-length-2
 same-length-2 c = search needs
 
 returns-2 : tie.Need-returns-2
 returns-2 c =
-    let f = found (c .before .before .before) in
-    (all-found f (c .if1 .left), slice-found f)
+    let q = c .before .before .before in
+    let a = entry q .args in
+    let y = take (a .m) (unpack (a .row .now)) in
+    (all-found (a .l) (a .numbers .now) y (found q) (c .if1 .left), slice-found (a .l) (a .numbers .now) y (found q))
 
 pub list-rows-spec : {M : Type 1} → statement M
 list-rows-spec =
