@@ -12,29 +12,29 @@ use Rattle.message.specs.declared.Layout.{Layout}
 use Rattle.lines.specs.Lines.{unlike}
 use Rattle.states.specs.States.{firsts}
 use Rattle.states.proofs.Sums.{firsts_same}
-use Rattle.column.specs.Column.{chunkAt, Crosses, apartIn}
+use Rattle.column.specs.Column.{chunk_at, Crosses, apart_in}
 use Rattle.column.specs.declared.Heavy.{Heavy}
 use Rattle.far.proofs.Unlost.{one-most}
-use Rattle.costs.proofs.Costs.{kept-or-fewer}
+use Rattle.costs.proofs.Costs.{kept_or_fewer}
 
 module _ (l : Layout) (heavy : Heavy) (z vs : List ℕ) (j : ℕ) where
   -- there are no more than the heavy blocks
-  pub apart-few : (n : ℕ) → apartIn l heavy z vs j n ≤ n
-  unfolding apartIn
+  pub apart-few : (n : ℕ) → apart_in l heavy z vs j n ≤ n
+  unfolding apart_in
   apart-few zero = omega arith
   apart-few (suc n) =
-      omega (arith, apart-few n, one-most (eqb (get_or vs (chunkAt l heavy j n) 0) (get_or z (chunkAt l heavy j n) 0)))
+      omega (arith, apart-few n, one-most (eqb (get_or vs (chunk_at l heavy j n) 0) (get_or z (chunk_at l heavy j n) 0)))
 
   -- and where there is one, the chunk of some block is
-  pub apart_some : (n : ℕ) → 0 < apartIn l heavy z vs j n
-      → (s : ℕ) × ((s < n) × (0 < unlike vs z (chunkAt l heavy j s)))
-  unfolding apartIn
+  pub apart_some : (n : ℕ) → 0 < apart_in l heavy z vs j n
+      → (s : ℕ) × ((s < n) × (0 < unlike vs z (chunk_at l heavy j s)))
+  unfolding apart_in
   apart_some zero h = absurd (omega arith)
-  apart_some (suc n) h = go (dec_lt 0 (unlike vs z (chunkAt l heavy j n))) (λ k. apart_some n k)
+  apart_some (suc n) h = go (dec_lt 0 (unlike vs z (chunk_at l heavy j n))) (λ k. apart_some n k)
     where
-      go : Dec (0 < unlike vs z (chunkAt l heavy j n))
-          → (0 < apartIn l heavy z vs j n → (s : ℕ) × ((s < n) × (0 < unlike vs z (chunkAt l heavy j s))))
-          → (s : ℕ) × ((s < suc n) × (0 < unlike vs z (chunkAt l heavy j s)))
+      go : Dec (0 < unlike vs z (chunk_at l heavy j n))
+          → (0 < apart_in l heavy z vs j n → (s : ℕ) × ((s < n) × (0 < unlike vs z (chunk_at l heavy j s))))
+          → (s : ℕ) × ((s < suc n) × (0 < unlike vs z (chunk_at l heavy j s)))
       go (yes d) before = (n, (omega arith, d))
       go (no d) before = let r = before (omega arith) in (r.0, (omega (arith, r.1.0), r.1.1))
 
@@ -45,16 +45,16 @@ pub counts-next : {l : Layout} {y numbers : List ℕ} {heavy : Heavy} {row : Lis
     → Crosses l y numbers heavy row j left next vs → (z : List ℕ) (counted most more : ℕ)
     → counted + heavy.n * firsts left heavy.n ≤ most
     → most ≤ more
-    → (((s : ℕ) → s < heavy.n → next s ≡ left s) → 0 < apartIn l heavy z vs j heavy.n → most + heavy.n ≤ more)
-    → counted + apartIn l heavy z vs j heavy.n + heavy.n * firsts next heavy.n ≤ more
+    → (((s : ℕ) → s < heavy.n → next s ≡ left s) → 0 < apart_in l heavy z vs j heavy.n → most + heavy.n ≤ more)
+    → counted + apart_in l heavy z vs j heavy.n + heavy.n * firsts next heavy.n ≤ more
 counts-next {l} {heavy = heavy} {j = j} {left = left} {next = next} {vs = vs} c z counted most more h up can =
-    ⊎_elim kept fewer (kept-or-fewer left next n c.falls)
+    ⊎_elim kept fewer (kept_or_fewer left next n c.falls)
   where
     n : ℕ
     n = heavy.n
 
     a : ℕ
-    a = apartIn l heavy z vs j n
+    a = apart_in l heavy z vs j n
 
     kept : ((s : ℕ) → s < n → next s ≡ left s) → counted + a + n * firsts next n ≤ more
     kept same =

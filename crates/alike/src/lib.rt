@@ -3,10 +3,10 @@
 ghost use Rattle.std.specs.Prelude.{◌≡◌, true, List, ℕ, ◌+◌, ◌*◌, ◌%◌, ◌<◌, ◌≤◌, length, get_or};
 ghost use Rattle.windows.specs.Windows.{Tables};
 ghost use Rattle.states.specs.States.{lefts, each};
-ghost use Rattle.column.specs.Column.{Fit, Light, Crosses, apartIn};
+ghost use Rattle.column.specs.Column.{Fit, Light, Crosses, apart_in};
 ghost use Rattle.whole.specs.Whole.{modulus, Source, Legible, brings};
-ghost use Rattle.far.specs.Far.{Reads, readApart};
-ghost use Rattle.marks.specs.Marks.{Path, apartFrom};
+ghost use Rattle.far.specs.Far.{Reads, read_apart};
+ghost use Rattle.marks.specs.Marks.{Path, apart_from};
 ghost use Rattle.sets.specs.Sets.{Long, Room};
 ghost use Rattle.costs.specs.Costs.{Asked, Tells};
 ghost use Rattle.alike.specs.Alike.{Hits};
@@ -57,7 +57,7 @@ fn other_hits(
     requires { (Source l y.now totals.now counts.now (get_or heavy.block s 0) j × ((s < 6) × (size < lefts)))
         × ((l.l1 * l.l2 ≤ length z.now) × ((sum < modulus l) × Long (modulus l) set.now)) }
     ensures { (e part : ℕ) → e ≤ size → Reads l y.now heavy s j e
-        → 0 < readApart l y.now heavy z.now s j e
+        → 0 < read_apart l y.now heavy z.now s j e
         → Hits l y.now (get_or heavy.block s 0) (get_or heavy.end s 0) j e sum set.now part
         → result ≡ true }
 {
@@ -96,7 +96,7 @@ fn can_differ_in(
         × ((l.l1 * l.l2 ≤ length z.now) × ((s < heavy.n) × Room (modulus l) set.old other.old)) }
     ensures { Tells l y.now numbers.now heavy size known.now j
         (λ left next. ((t : ℕ) → t < heavy.n → next t ≡ left t)
-        × (0 < readApart l y.now heavy z.now s j (left s))) result }
+        × (0 < read_apart l y.now heavy z.now s j (left s))) result }
 {
     let own = bits::wide(size[s]);
     if states::LEFTS <= own {
@@ -128,7 +128,7 @@ fn can_differ(
         → ((s : ℕ) → s < heavy.n → left s ≤ each size s)
         → Crosses l y.now numbers.now heavy row j left next vs
         → ((s : ℕ) → s < heavy.n → next s ≡ left s)
-        → 0 < apartIn l heavy z.now vs j heavy.n → result ≡ true }
+        → 0 < apart_in l heavy z.now vs j heavy.n → result ≡ true }
 {
     let n = heavy.n;
     let mut s: usize = 0;
@@ -161,7 +161,7 @@ pub fn all_near(
         × ((l.l2 ≤ length known.now) × (l.l1 * l.l2 ≤ length z.now))) }
     ensures { result ≡ true → (row vs : List ℕ) (own : ℕ → ℕ → ℕ) → Light l heavy row known.now
         → Path l y.now numbers.now heavy row (each size) vs own
-        → apartFrom l heavy z.now vs 0 < room }
+        → apart_from l heavy z.now vs 0 < room }
 {
     let n = heavy.n;
     let l2 = l.l2;

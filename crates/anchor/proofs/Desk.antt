@@ -10,18 +10,18 @@ use native.Mathlib.Omega.{arith}
 use lib.Dec.{ltb}
 use lib.ListN.{length, get_or, take, drop, set, replicate, get_or-replicate, length-append, length-drop, get_or-append}
 use lib.Seq.{get_or-set_same, get_or-set_other, length-take-le, get_or-take, get_or-append-add}
-use Rattle.bits.specs.Bits.{mostChunks, mostInLine}
-use Rattle.bits.proofs.Laws.{lt-or-ge}
-use Rattle.consistent.specs.Consistent.{mostLosses}
-use Rattle.message.specs.Layout.{rowBits}
+use Rattle.bits.specs.Bits.{most_chunks, most_in_line}
+use Rattle.bits.proofs.Laws.{lt_or_ge}
+use Rattle.consistent.specs.Consistent.{most_losses}
+use Rattle.message.specs.Layout.{row_bits}
 use Rattle.message.specs.declared.Layout.{Layout}
-use Rattle.anchor.specs.Anchor.{over, Reads, deskSize, nearFrom, nearAt, laterFrom, laterAt, wide}
+use Rattle.anchor.specs.Anchor.{over, Reads, desk_size, near_from, near_at, later_from, later_at, wide}
 use Rattle.anchor.specs.Anchor.{NearFor, LaterFor, Prepared}
-use Rattle.anchor.proofs.Over.{over_none, over-split, over-same}
+use Rattle.anchor.proofs.Over.{over_none, over_split, over-same}
 
 -- the blocks before block i and those from it on are all
-pub blocks-split : (l1 l2 i : ℕ) → i ≤ l1 → i * l2 + (l1 - i) * l2 ≡ l1 * l2
-blocks-split l1 l2 i h =
+pub blocks_split : (l1 l2 i : ℕ) → i ≤ l1 → i * l2 + (l1 - i) * l2 ≡ l1 * l2
+blocks_split l1 l2 i h =
     let e : i + (l1 - i) ≡ l1 = omega arith in
     sym (add-mul i (l1 - i) l2) ∙ ap (λ (n : ℕ). n * l2) e
 
@@ -32,7 +32,7 @@ blocks-next l1 l2 i lo hi =
 
 -- ---- one chunk: every entry says of so many losses from its own on that they leave the chunk v
 abbrev pub Runs : (nc : ℕ) (y : List ℕ) (c v : ℕ) (out : List ℕ) → Type 0
-Runs nc y c v out = (d t : ℕ) → d ≤ mostLosses → d ≤ t → t < d + get_or out d 0 → Reads nc y c v t
+Runs nc y c v out = (d t : ℕ) → d ≤ most_losses → d ≤ t → t < d + get_or out d 0 → Reads nc y c v t
 
 module _ (nc : ℕ) (y : List ℕ) (c v : ℕ) where
   -- entries 0 say nothing
@@ -71,10 +71,10 @@ module _ (f : ℕ → ℕ) (l1 l2 : ℕ) where
       let z : l1 - l1 ≡ 0 = omega arith in
       rw (z, zero-mul l2) (over_none f (l1 * l2))
 
-  pub sums_none : l1 ≤ mostInLine → Sums l1 (replicate (mostInLine + 1) 0)
+  pub sums_none : l1 ≤ most_in_line → Sums l1 (replicate (most_in_line + 1) 0)
   sums_none h j lo hi =
       let e : l1 ≡ j = omega arith in
-      rw (← e) (get_or-replicate {A = ℕ} (mostInLine + 1) l1 0 0 (omega arith) ∙ sym sum-last)
+      rw (← e) (get_or-replicate {A = ℕ} (most_in_line + 1) l1 0 0 (omega arith) ∙ sym sum-last)
 
   -- one block more in front
   pub sum-next : (i : ℕ) → 0 < i → i ≤ l1
@@ -87,7 +87,7 @@ module _ (f : ℕ → ℕ) (l1 l2 : ℕ) where
       let e : over f ((i - 1) * l2 + l2) ((l1 - i) * l2) ≡ over f (i * l2) ((l1 - i) * l2) =
       ap (λ (k : ℕ). over f k ((l1 - i) * l2)) b
       in
-      ap (over f ((i - 1) * l2)) a ∙ omega (arith, over-split f ((i - 1) * l2) l2 ((l1 - i) * l2))
+      ap (over f ((i - 1) * l2)) a ∙ omega (arith, over_split f ((i - 1) * l2) l2 ((l1 - i) * l2))
 
   -- one entry more
   pub sums-set : (i v : ℕ) (out : List ℕ) → i < length out → v ≡ over f (i * l2) ((l1 - i) * l2) → Sums (i + 1) out
@@ -125,42 +125,42 @@ module _ (s p : List ℕ) (at : ℕ) (room : at + length p ≤ length s) where
       ∙ get_or-append-add (take at s) p j 0
 
 -- how many chunks can be another than the anchor's depends on the second part of the desk alone
-pub wide-same : (l : Layout) (s u : List ℕ) (i d a : ℕ) → i ≤ l.l1 → d ≤ mostLosses → l.l1 * l.l2 ≤ mostChunks
-    → ((q : ℕ) → q < laterFrom → get_or s q 0 ≡ get_or u q 0)
+pub wide-same : (l : Layout) (s u : List ℕ) (i d a : ℕ) → i ≤ l.l1 → d ≤ most_losses → l.l1 * l.l2 ≤ most_chunks
+    → ((q : ℕ) → q < later_from → get_or s q 0 ≡ get_or u q 0)
     → over (wide s d a) (i * l.l2) ((l.l1 - i) * l.l2) ≡ over (wide u d a) (i * l.l2) ((l.l1 - i) * l.l2)
 wide-same l s u i d a h m few e =
-    let split : i * l.l2 + (l.l1 - i) * l.l2 ≡ l.l1 * l.l2 = blocks-split l.l1 l.l2 i h in
+    let split : i * l.l2 + (l.l1 - i) * l.l2 ≡ l.l1 * l.l2 = blocks_split l.l1 l.l2 i h in
     over-same (wide s d a) (wide u d a) (i * l.l2) ((l.l1 - i) * l.l2)
-    (λ t k. ap (λ (v : ℕ). cond (ltb a v) 0 1) (e (nearAt (i * l.l2 + t) d) (omega arith)))
+    (λ t k. ap (λ (v : ℕ). cond (ltb a v) 0 1) (e (near_at (i * l.l2 + t) d) (omega arith)))
 
 -- ---- the second part of the desk
 pub near_none : (nc : ℕ) (y s : List ℕ) → NearFor nc y 0 s s
 near_none nc y s = record { size = refl; before = λ q h. refl; near = λ c d t h m lo hi. absurd (omega arith) }
 
 -- one chunk more
-pub near_next : (nc : ℕ) (y : List ℕ) (n : ℕ) (entry s p exit : List ℕ) → n < mostChunks → deskSize ≤ length entry
+pub near_next : (nc : ℕ) (y : List ℕ) (n : ℕ) (entry s p exit : List ℕ) → n < most_chunks → desk_size ≤ length entry
     → length p ≡ 13
-    → Runs nc y n (get_or s (1 + n) 0) p → exit ≡ take (nearFrom + n * 13) s ++ p ++ drop (nearFrom + n * 13 + length p) s
+    → Runs nc y n (get_or s (1 + n) 0) p → exit ≡ take (near_from + n * 13) s ++ p ++ drop (near_from + n * 13 + length p) s
     → NearFor nc y n entry s → NearFor nc y (n + 1) entry exit
 near_next nc y n entry s p exit h k w r e f =
-    let room : nearFrom + n * 13 + length p ≤ length s = omega (arith, f.size) in
-    let kept : (q : ℕ) → q < nearFrom + n * 13 → get_or exit q 0 ≡ get_or s q 0 =
-    λ q i. ap (λ (v : List ℕ). get_or v q 0) e ∙ put-before s p (nearFrom + n * 13) room q i
+    let room : near_from + n * 13 + length p ≤ length s = omega (arith, f.size) in
+    let kept : (q : ℕ) → q < near_from + n * 13 → get_or exit q 0 ≡ get_or s q 0 =
+    λ q i. ap (λ (v : List ℕ). get_or v q 0) e ∙ put-before s p (near_from + n * 13) room q i
     in
     record {
-      size = ap length e ∙ put-length s p (nearFrom + n * 13) room ∙ f.size;
+      size = ap length e ∙ put-length s p (near_from + n * 13) room ∙ f.size;
       before = λ q i. kept q (omega arith) ∙ f.before q i;
       near = λ c d t i m lo hi. ⊎_elim
-          (λ j. f.near c d t j m lo (omega (arith, kept (nearAt c d) (omega arith))))
+          (λ j. f.near c d t j m lo (omega (arith, kept (near_at c d) (omega arith))))
           (λ j.
           let same : c ≡ n = omega arith in
-          let new : get_or exit (nearAt c d) 0 ≡ get_or p d 0 =
-          ap (λ (b : ℕ). get_or exit (nearAt b d) 0) same
-          ∙ ap (λ (v : List ℕ). get_or v (nearAt n d) 0) e
-          ∙ put-there s p (nearFrom + n * 13) room d (omega arith)
+          let new : get_or exit (near_at c d) 0 ≡ get_or p d 0 =
+          ap (λ (b : ℕ). get_or exit (near_at b d) 0) same
+          ∙ ap (λ (v : List ℕ). get_or v (near_at n d) 0) e
+          ∙ put-there s p (near_from + n * 13) room d (omega arith)
           in
           rw (same, ← f.before (1 + n) (omega arith)) (r d t m lo (omega arith)))
-          (lt-or-ge c n);
+          (lt_or_ge c n);
     }
 
 -- ---- the third part of the desk
@@ -168,39 +168,39 @@ pub later-none : (l : Layout) (k : ℕ) (s : List ℕ) → LaterFor l k 0 s s
 later-none l k s = record { size = refl; before = λ q h. refl; later = λ i d h m. absurd (omega arith) }
 
 -- one number of losses more
-pub later-next : (l : Layout) (k n : ℕ) (entry s p exit : List ℕ) → l.l1 ≤ mostInLine → n ≤ mostLosses
-    → deskSize ≤ length entry → length p ≡ mostInLine + 1
+pub later-next : (l : Layout) (k n : ℕ) (entry s p exit : List ℕ) → l.l1 ≤ most_in_line → n ≤ most_losses
+    → desk_size ≤ length entry → length p ≡ most_in_line + 1
     → ((i : ℕ) → i ≤ l.l1 → get_or p i 0 ≡ over (wide s n (k - n)) (i * l.l2) ((l.l1 - i) * l.l2))
-    → l.l1 * l.l2 ≤ mostChunks
-    → exit ≡ take (laterFrom + n * (mostInLine + 1)) s ++ p ++ drop (laterFrom + n * (mostInLine + 1) + length p) s
+    → l.l1 * l.l2 ≤ most_chunks
+    → exit ≡ take (later_from + n * (most_in_line + 1)) s ++ p ++ drop (later_from + n * (most_in_line + 1) + length p) s
     → LaterFor l k n entry s → LaterFor l k (n + 1) entry exit
 later-next l k n entry s p exit few h z w r chunks e f =
-    let room : laterFrom + n * (mostInLine + 1) + length p ≤ length s = omega (arith, f.size) in
-    let kept : (q : ℕ) → q < laterFrom + n * (mostInLine + 1) → get_or exit q 0 ≡ get_or s q 0 =
-    λ q i. ap (λ (v : List ℕ). get_or v q 0) e ∙ put-before s p (laterFrom + n * (mostInLine + 1)) room q i
+    let room : later_from + n * (most_in_line + 1) + length p ≤ length s = omega (arith, f.size) in
+    let kept : (q : ℕ) → q < later_from + n * (most_in_line + 1) → get_or exit q 0 ≡ get_or s q 0 =
+    λ q i. ap (λ (v : List ℕ). get_or v q 0) e ∙ put-before s p (later_from + n * (most_in_line + 1)) room q i
     in
     record {
-      size = ap length e ∙ put-length s p (laterFrom + n * (mostInLine + 1)) room ∙ f.size;
+      size = ap length e ∙ put-length s p (later_from + n * (most_in_line + 1)) room ∙ f.size;
       before = λ q i. kept q (omega arith) ∙ f.before q i;
       later = λ i d b m. ⊎_elim
-          (λ j. kept (laterAt i d) (omega arith) ∙ f.later i d b j)
+          (λ j. kept (later_at i d) (omega arith) ∙ f.later i d b j)
           (λ j.
           let same : d ≡ n = omega arith in
           rw same
-          (ap (λ (v : List ℕ). get_or v (laterAt i n) 0) e
-          ∙ put-there s p (laterFrom + n * (mostInLine + 1)) room i (omega arith)
+          (ap (λ (v : List ℕ). get_or v (later_at i n) 0) e
+          ∙ put-there s p (later_from + n * (most_in_line + 1)) room i (omega arith)
           ∙ r i b
           ∙ wide-same l s entry i n (k - n) b h chunks f.before))
-          (lt-or-ge d n);
+          (lt_or_ge d n);
     }
 
 -- ---- the whole desk: the chunks of a row are copied to it, and the other parts are written after them
-module _ (l : Layout) (y vs old chunks s₀ s₁ s₂ s₃ : List ℕ) (few : l.l1 * l.l2 ≤ mostChunks)
-    (short : length y ≤ rowBits l) (most : rowBits l ≤ length y + mostLosses) (long : deskSize ≤ length s₀) (e : chunks ≡ vs ++ old)
+module _ (l : Layout) (y vs old chunks s₀ s₁ s₂ s₃ : List ℕ) (few : l.l1 * l.l2 ≤ most_chunks)
+    (short : length y ≤ row_bits l) (most : row_bits l ≤ length y + most_losses) (long : desk_size ≤ length s₀) (e : chunks ≡ vs ++ old)
     (n : length vs ≡ l.l1 * l.l2)
-    (w : length chunks ≡ mostChunks) (put₁ : s₁ ≡ take 1 s₀ ++ chunks ++ drop (1 + length chunks) s₀)
+    (w : length chunks ≡ most_chunks) (put₁ : s₁ ≡ take 1 s₀ ++ chunks ++ drop (1 + length chunks) s₀)
     (near₂ : NearFor l.nc y (l.l1 * l.l2) s₁ s₂)
-    (later₃ : LaterFor l (rowBits l - length y) (rowBits l - length y + 1) s₂ s₃) where
+    (later₃ : LaterFor l (row_bits l - length y) (row_bits l - length y + 1) s₂ s₃) where
   room₁ : 1 + length chunks ≤ length s₀
   room₁ = omega arith
 
@@ -216,9 +216,9 @@ module _ (l : Layout) (y vs old chunks s₀ s₁ s₂ s₃ : List ℕ) (few : l.
       record {
         chunks = λ c h. later₃.before (1 + c) (omega arith) ∙ near₂.before (1 + c) (omega arith) ∙ chunk₁ c h;
         near = λ c d t h m lo hi.
-            let r = near₂.near c d t h m lo (omega (arith, later₃.before (nearAt c d) (omega arith))) in
+            let r = near₂.near c d t h m lo (omega (arith, later₃.before (near_at c d) (omega arith))) in
             rw (← chunk₁ c h) r;
         later = λ i d h m.
             later₃.later i d h (omega arith)
-            ∙ wide-same l s₂ s₃ i d (rowBits l - length y - d) h (omega arith) few (λ q k. sym (later₃.before q k));
+            ∙ wide-same l s₂ s₃ i d (row_bits l - length y - d) h (omega arith) few (λ q k. sym (later₃.before q k));
       }

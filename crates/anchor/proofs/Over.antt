@@ -11,7 +11,7 @@ use borrow.Author.Tests.{eq-eqb, ne_eqb}
 use lib.Bits.{bit_xor, xor_self}
 use lib.Dec.{eqb}
 use lib.ListN.{length}
-use Rattle.field.specs.Linear.{xorEach}
+use Rattle.field.specs.Linear.{xor_each}
 use Rattle.field.proofs.Xor.{xor_same}
 use Rattle.erasures.specs.Erasures.{weight}
 use Rattle.anchor.specs.Anchor.{over}
@@ -22,24 +22,24 @@ pub over_none : (f : ℕ → ℕ) (c : ℕ) → over f c 0 ≡ 0
 unfolding over
 over_none f c = refl
 
-over-suc : (f : ℕ → ℕ) (c n : ℕ) → over f c (suc n) ≡ over f c n + f (c + n)
+over_suc : (f : ℕ → ℕ) (c n : ℕ) → over f c (suc n) ≡ over f c n + f (c + n)
 unfolding over
-over-suc f c n = refl
+over_suc f c n = refl
 
 -- one place more
 pub over-next : (f : ℕ → ℕ) (c n : ℕ) → over f c (n + 1) ≡ over f c n + f (c + n)
-over-next f c n = let e : n + 1 ≡ suc n = omega arith in rw e (over-suc f c n)
+over-next f c n = let e : n + 1 ≡ suc n = omega arith in rw e (over_suc f c n)
 
 -- a sum splits at any place
-pub over-split : (f : ℕ → ℕ) (c a b : ℕ) → over f c (a + b) ≡ over f c a + over f (c + a) b
-over-split f c a zero = let e : a + 0 ≡ a = omega arith in rw (e, over_none f (c + a)) (omega arith)
-over-split f c a (suc b) =
+pub over_split : (f : ℕ → ℕ) (c a b : ℕ) → over f c (a + b) ≡ over f c a + over f (c + a) b
+over_split f c a zero = let e : a + 0 ≡ a = omega arith in rw (e, over_none f (c + a)) (omega arith)
+over_split f c a (suc b) =
     let e : a + suc b ≡ suc (a + b) = omega arith in
     let p : f (c + (a + b)) ≡ f (c + a + b) = ap f (omega arith) in
-    ap (over f c) e ∙ omega (arith, over-suc f c (a + b), over-split f c a b, over-suc f (c + a) b)
+    ap (over f c) e ∙ omega (arith, over_suc f c (a + b), over_split f c a b, over_suc f (c + a) b)
 
-pub over-front : (f : ℕ → ℕ) (a b : ℕ) → over f 0 (a + b) ≡ over f 0 a + over f a b
-over-front f a b = over-split f 0 a b ∙ ap (λ (c : ℕ). over f 0 a + over f c b) (zero-add a)
+pub over_front : (f : ℕ → ℕ) (a b : ℕ) → over f 0 (a + b) ≡ over f 0 a + over f a b
+over_front f a b = over_split f 0 a b ∙ ap (λ (c : ℕ). over f 0 a + over f c b) (zero-add a)
 
 -- the sum depends on its places alone
 pub over-same : (f g : ℕ → ℕ) (c n : ℕ) → ((t : ℕ) → t < n → f (c + t) ≡ g (c + t)) → over f c n ≡ over g c n
@@ -69,22 +69,22 @@ unlike-xor a b = go (ℕ_discrete a b)
     go (no n) = rw (ne_eqb a b n, ne_eqb (bit_xor a b) 0 (λ z. n (xor_same a b z))) refl
 
 -- the sum over the later places of two lists
-over-tail : (x z : ℕ) (xs zs : List ℕ) (n : ℕ) → over (unlike (x ∷ xs) (z ∷ zs)) 1 n ≡ over (unlike xs zs) 0 n
+over_tail : (x z : ℕ) (xs zs : List ℕ) (n : ℕ) → over (unlike (x ∷ xs) (z ∷ zs)) 1 n ≡ over (unlike xs zs) 0 n
 unfolding over
-over-tail x z xs zs zero = refl
-over-tail x z xs zs (suc n) =
+over_tail x z xs zs zero = refl
+over_tail x z xs zs (suc n) =
     let e : 1 + n ≡ suc (0 + n) = omega arith in
-    rw (e, over-tail x z xs zs n) refl
+    rw (e, over_tail x z xs zs n) refl
 
-pub weight-unlike : (xs zs : List ℕ) → length xs ≡ length zs → weight (xorEach xs zs) ≡ over (unlike xs zs) 0 (length xs)
-unfolding weight xorEach
+pub weight-unlike : (xs zs : List ℕ) → length xs ≡ length zs → weight (xor_each xs zs) ≡ over (unlike xs zs) 0 (length xs)
+unfolding weight xor_each
 weight-unlike [] zs n = sym (over_none (unlike [] zs) 0)
 weight-unlike (x ∷ xs) [] n = absurd (omega arith)
 weight-unlike (x ∷ xs) (z ∷ zs) n =
     let e : suc (length xs) ≡ 1 + length xs = omega arith in
     ap₂ (λ (a b : ℕ). a + b) (unlike-xor x z) (weight-unlike xs zs (omega arith))
-    ∙ sym (ap (over (unlike (x ∷ xs) (z ∷ zs)) 0) e ∙ over-split (unlike (x ∷ xs) (z ∷ zs)) 0 1 (length xs)
-    ∙ ap₂ (λ (a b : ℕ). a + b) (first x z xs zs) (over-tail x z xs zs (length xs)))
+    ∙ sym (ap (over (unlike (x ∷ xs) (z ∷ zs)) 0) e ∙ over_split (unlike (x ∷ xs) (z ∷ zs)) 0 1 (length xs)
+    ∙ ap₂ (λ (a b : ℕ). a + b) (first x z xs zs) (over_tail x z xs zs (length xs)))
   where
     first : (x z : ℕ) (xs zs : List ℕ) → over (unlike (x ∷ xs) (z ∷ zs)) 0 1 ≡ cond (eqb x z) 0 1
     first x z xs zs = unfold over in omega arith

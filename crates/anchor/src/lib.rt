@@ -2,15 +2,15 @@
 // since they hold no other consistent row. What is worked out from the anchor stands on a desk, a slice of bytes. Contracts cite
 // specs/Anchor.antt; strings are unpacked, one byte a bit.
 ghost use Rattle.std.specs.Prelude.{◌≡◌, true, List, ◌++◌, ℕ, ◌+◌, ◌-◌, ◌*◌, ◌<◌, ◌≤◌, length, get_or, take, drop};
-ghost use Rattle.bits.specs.Bits.{mostChunks, mostInLine, AllBits, bytesFor, unpack as unpacked};
+ghost use Rattle.bits.specs.Bits.{most_chunks, most_in_line, AllBits, bytes_for, unpack as unpacked};
 ghost use Rattle.rows.specs.Held.{Held, Known};
-ghost use Rattle.message.specs.Layout.{legal, rowBits};
-ghost use Rattle.consistent.specs.Consistent.{mostLosses};
-ghost use Rattle.consistent.specs.Greedy.{inAll};
+ghost use Rattle.message.specs.Layout.{legal, row_bits};
+ghost use Rattle.consistent.specs.Consistent.{most_losses};
+ghost use Rattle.consistent.specs.Greedy.{in_all};
 ghost use Rattle.lines.specs.Lines.{values, unlike};
 ghost use Rattle.consistent.specs.Query.{query};
 ghost use Rattle.found.specs.Given.{Given, Sent, HoldsSent};
-ghost use Rattle.anchor.specs.Anchor.{over, Reads, deskSize, wide, NearFor, LaterFor, Prepared, isSet, Anchor, Anchors};
+ghost use Rattle.anchor.specs.Anchor.{over, Reads, desk_size, wide, NearFor, LaterFor, Prepared, is_set, Anchor, Anchors};
 ghost use Rattle.anchor.specs.Anchor.{OwnCounts, LightInHand, BlockMost};
 
 use message::Layout;
@@ -33,7 +33,7 @@ pub const DESK: usize = LATER + SHIFTS * BLOCKS;
 
 // Whether the desk has an anchor.
 pub fn is_set(desk: &[u8]) -> bool
-    ensures { result ≡ isSet desk.now }
+    ensures { result ≡ is_set desk.now }
 {
     if desk.len() < DESK {
         return false;
@@ -43,7 +43,7 @@ pub fn is_set(desk: &[u8]) -> bool
 
 // Whether chunk c, read after t losses, is v, or the received row does not have it there.
 fn reads(nc: usize, y: &[u8], c: usize, t: usize, v: u8) -> bool
-    requires { AllBits y.now × ((nc ≤ 8) × (c ≤ mostChunks)) }
+    requires { AllBits y.now × ((nc ≤ 8) × (c ≤ most_chunks)) }
     ensures { result ≡ true → Reads nc y.now c v t }
 {
     let at = c * nc;
@@ -59,8 +59,8 @@ fn reads(nc: usize, y: &[u8], c: usize, t: usize, v: u8) -> bool
 
 // For each number of losses before chunk c, up to k, how many more leave it v.
 fn shifts(nc: usize, y: &[u8], c: usize, k: usize, v: u8) -> [u8; SHIFTS]
-    requires { AllBits y.now × ((nc ≤ 8) × ((c ≤ mostChunks) × (k ≤ mostLosses))) }
-    ensures { (d t : ℕ) → d ≤ mostLosses → d ≤ t → t < d + get_or result d 0 → Reads nc y.now c v t }
+    requires { AllBits y.now × ((nc ≤ 8) × ((c ≤ most_chunks) × (k ≤ most_losses))) }
+    ensures { (d t : ℕ) → d ≤ most_losses → d ≤ t → t < d + get_or result d 0 → Reads nc y.now c v t }
 {
     let mut out: [u8; SHIFTS] = [0; SHIFTS];
     let mut run: u8 = 0;
@@ -79,7 +79,7 @@ fn shifts(nc: usize, y: &[u8], c: usize, k: usize, v: u8) -> [u8; SHIFTS]
 
 // The same for every chunk of the anchor, on the desk.
 fn fill_near(l: Layout, y: &[u8], k: usize, desk: &mut [u8])
-    requires { (legal l ≡ true) × (AllBits y.now × ((k ≤ mostLosses) × (deskSize ≤ length desk.old))) }
+    requires { (legal l ≡ true) × (AllBits y.now × ((k ≤ most_losses) × (desk_size ≤ length desk.old))) }
     ensures { NearFor l.nc y.now (l.l1 * l.l2) desk.old desk.new }
 {
     let n = l.l1 * l.l2;
@@ -93,7 +93,7 @@ fn fill_near(l: Layout, y: &[u8], k: usize, desk: &mut [u8])
 
 // How many of n chunks can be another than the anchor's although they lost no bit, where d to d + a bits are lost before them.
 fn count_wide(desk: &[u8], from: usize, n: usize, d: usize, a: usize) -> usize
-    requires { (deskSize ≤ length desk.now) × ((from + n ≤ mostChunks) × (d ≤ mostLosses)) }
+    requires { (desk_size ≤ length desk.now) × ((from + n ≤ most_chunks) × (d ≤ most_losses)) }
     ensures { (result ≡ over (wide desk.now d a) from n) × (result ≤ n) }
 {
     let mut count: usize = 0;
@@ -111,7 +111,7 @@ fn count_wide(desk: &[u8], from: usize, n: usize, d: usize, a: usize) -> usize
 // For each block, how many chunks from there on can be another than the anchor's although they lost no bit, where d to k bits are
 // lost before them.
 fn later(l: Layout, desk: &[u8], d: usize, k: usize) -> [u8; BLOCKS]
-    requires { (legal l ≡ true) × ((deskSize ≤ length desk.now) × ((d ≤ k) × (k ≤ mostLosses))) }
+    requires { (legal l ≡ true) × ((desk_size ≤ length desk.now) × ((d ≤ k) × (k ≤ most_losses))) }
     ensures { (i : ℕ) → i ≤ l.l1
         → get_or result i 0 ≡ over (wide desk.now d (k - d)) (i * l.l2) ((l.l1 - i) * l.l2) }
 {
@@ -128,7 +128,7 @@ fn later(l: Layout, desk: &[u8], d: usize, k: usize) -> [u8; BLOCKS]
 
 // The same for every number of losses up to k, on the desk.
 fn fill_later(l: Layout, k: usize, desk: &mut [u8])
-    requires { (legal l ≡ true) × ((k ≤ mostLosses) × (deskSize ≤ length desk.old)) }
+    requires { (legal l ≡ true) × ((k ≤ most_losses) × (desk_size ≤ length desk.old)) }
     ensures { LaterFor l k (k + 1) desk.old desk.new }
 {
     let mut d: usize = 0;
@@ -141,9 +141,9 @@ fn fill_later(l: Layout, k: usize, desk: &mut [u8])
 
 // The chunks of the first row of the list slice.
 fn first_chunks(l: Layout, list: &[u8], out: &mut [u8])
-    requires { (legal l ≡ true) × ((bytesFor (rowBits l) ≤ length list.now) × (l.l1 * l.l2 ≤ length out.old)) }
+    requires { (legal l ≡ true) × ((bytes_for (row_bits l) ≤ length list.now) × (l.l1 * l.l2 ≤ length out.old)) }
     ensures { out.new
-        ≡ values l (take (rowBits l) (unpacked (take (bytesFor (rowBits l)) list.now)))
+        ≡ values l (take (row_bits l) (unpacked (take (bytes_for (row_bits l)) list.now)))
         ++ drop (l.l1 * l.l2) out.old }
 {
     let n = l.l1 * l.l2 * l.nc;
@@ -155,11 +155,11 @@ fn first_chunks(l: Layout, list: &[u8], out: &mut [u8])
 
 // The desk prepared for the first row of the list slice.
 fn prepare(l: Layout, y: &[u8], list: &[u8], desk: &mut [u8])
-    requires { (legal l ≡ true) × (AllBits y.now × (((length y.now ≤ rowBits l)
-        × (rowBits l ≤ length y.now + mostLosses))
-        × ((bytesFor (rowBits l) ≤ length list.now) × (deskSize ≤ length desk.old)))) }
+    requires { (legal l ≡ true) × (AllBits y.now × (((length y.now ≤ row_bits l)
+        × (row_bits l ≤ length y.now + most_losses))
+        × ((bytes_for (row_bits l) ≤ length list.now) × (desk_size ≤ length desk.old)))) }
     ensures { Prepared l y.now
-        (values l (take (rowBits l) (unpacked (take (bytesFor (rowBits l)) list.now)))) desk.new }
+        (values l (take (row_bits l) (unpacked (take (bytes_for (row_bits l)) list.now)))) desk.new }
 {
     let mut chunks: [u8; bits::MOST_CHUNKS] = [0; bits::MOST_CHUNKS];
     first_chunks(l, list, &mut chunks);
@@ -222,10 +222,10 @@ fn block_most(
     d: usize,
     a: usize,
 ) -> usize
-    requires { (Given (query l numbers.now y.now) × (deskSize ≤ length desk.now)) × ((l.l1 * l.l2 ≤ length row.now)
-        × ((b < l.l1) × ((d ≤ mostLosses) × (a ≤ 255)))) }
+    requires { (Given (query l numbers.now y.now) × (desk_size ≤ length desk.now)) × ((l.l1 * l.l2 ≤ length row.now)
+        × ((b < l.l1) × ((d ≤ most_losses) × (a ≤ 255)))) }
     ensures { BlockMost (query l numbers.now y.now) desk.now row.now b d a result
-        × (result ≤ mostInLine + 255) }
+        × (result ≤ most_in_line + 255) }
 {
     let from = b * l.l2;
     if a <= 1 {
@@ -246,9 +246,9 @@ pub fn near_anchor(
     i: usize,
 ) -> bool
     requires { Given (query l numbers.now y.now) × (((l.l1 * l.l2 ≤ length row.now) × (l.l1 ≤ length counts.now))
-        × ((i ≤ l.l1) × (inAll (take i counts.now) + length y.now ≤ rowBits l))) }
+        × ((i ≤ l.l1) × (in_all (take i counts.now) + length y.now ≤ row_bits l))) }
     ensures { result ≡ true → (held : Held) (x : List ℕ)
-        → (isSet desk.now ≡ true → Anchor (query l numbers.now y.now) held desk.now)
+        → (is_set desk.now ≡ true → Anchor (query l numbers.now y.now) held desk.now)
         → Sent (query l numbers.now y.now) x → OwnCounts l y.now counts.now i x
         → LightInHand l counts.now i row.now x → Known held x }
 {

@@ -15,8 +15,8 @@ use lib.Pow.{pow_pos, pow_mono}
 use lib.Seq.{drop-cons}
 use Rattle.bits.specs.Bits.{AllBits, number, digits, unpack, same}
 
-pub lt-or-ge : (a b : ℕ) → (a < b) ⊎ (b ≤ a)
-lt-or-ge a b = go (ltb a b) refl
+pub lt_or_ge : (a b : ℕ) → (a < b) ⊎ (b ≤ a)
+lt_or_ge a b = go (ltb a b) refl
   where
     go : (t : Bool) → ltb a b ≡ t → (a < b) ⊎ (b ≤ a)
     go true e = inl (ltb-true a b e)
@@ -65,13 +65,13 @@ neither_right true b e = absurd (true≢false e)
 neither_right false b e = e
 
 -- where a zero is set a zero stands, also beyond the end
-pub set-zero : (xs : List ℕ) (c : ℕ) → get_or (set xs c 0) c 0 ≡ 0
-set-zero [] c = refl
-set-zero (x ∷ xs) zero = refl
-set-zero (x ∷ xs) (suc c) = set-zero xs c
+pub set_zero : (xs : List ℕ) (c : ℕ) → get_or (set xs c 0) c 0 ≡ 0
+set_zero [] c = refl
+set_zero (x ∷ xs) zero = refl
+set_zero (x ∷ xs) (suc c) = set_zero xs c
 
-pub pow-next : (j : ℕ) → 2 ^ (j + 1) ≡ 2 ^ j * 2
-pow-next j = rw (add-one j) (pow-suc 2 j)
+pub pow_next : (j : ℕ) → 2 ^ (j + 1) ≡ 2 ^ j * 2
+pow_next j = rw (add-one j) (pow-suc 2 j)
 
 pub pow_low : (j : ℕ) → j < 8 → 2 ^ j ≤ 128
 pow_low j h = pow_mono {i = j} {j = 7} (omega arith)
@@ -82,9 +82,9 @@ bit_at [] a i = omega arith
 bit_at (b ∷ x) a zero = a.0
 bit_at (b ∷ x) a (suc i) = bit_at x a.1 i
 
-pub bits-of-each : (x : List ℕ) → ((i : ℕ) → get_or x i 0 < 2) → AllBits x
-bits-of-each [] h = tt
-bits-of-each (b ∷ x) h = (h 0, bits-of-each x (λ i. h (suc i)))
+pub bits_of-each : (x : List ℕ) → ((i : ℕ) → get_or x i 0 < 2) → AllBits x
+bits_of-each [] h = tt
+bits_of-each (b ∷ x) h = (h 0, bits_of-each x (λ i. h (suc i)))
 
 pub bits-append : (x y : List ℕ) → AllBits x → AllBits y → AllBits (x ++ y)
 bits-append [] y a b = b
@@ -127,9 +127,9 @@ unfolding number
 number-none zero = refl
 number-none (suc k) = refl
 
-pub number-cons : (k b : ℕ) (x : List ℕ) → number (suc k) (b ∷ x) ≡ b * 2 ^ k + number k x
+pub number_cons : (k b : ℕ) (x : List ℕ) → number (suc k) (b ∷ x) ≡ b * 2 ^ k + number k x
 unfolding number
-number-cons k b x = refl
+number_cons k b x = refl
 
 pub number_lt : (k : ℕ) (x : List ℕ) → AllBits x → number k x < 2 ^ k
 unfolding number
@@ -158,7 +158,7 @@ pub number-next : (v k at i : ℕ) (x : List ℕ) → i < k
 number-next v k at i x h =
     let e : k - i ≡ suc (k - (i + 1)) = omega arith in
     let d : at + (i + 1) ≡ suc (at + i) = omega arith in
-    rw (e, d) (⊎_elim inside outside (lt-or-ge (at + i) (length x)))
+    rw (e, d) (⊎_elim inside outside (lt_or_ge (at + i) (length x)))
   where
     m : ℕ
     m = k - (i + 1)
@@ -170,7 +170,7 @@ number-next v k at i x h =
 
     inside : at + i < length x → Next
     inside p =
-        rw (drop-cons x (at + i) 0 p, number-cons) (horner v (get_or x (at + i) 0) m (number m (drop (suc (at + i)) x)))
+        rw (drop-cons x (at + i) 0 p, number_cons) (horner v (get_or x (at + i) 0) m (number m (drop (suc (at + i)) x)))
 
     outside : length x ≤ at + i → Next
     outside p =
@@ -188,14 +188,14 @@ unfolding number
 number-end v k x e = rw (e, mul-one, add-zero) refl
 
 -- the number depends on the bits alone, not on whether zeros past the end are written
-pub number-ext : (k : ℕ) (x y : List ℕ) → ((i : ℕ) → get_or x i 0 ≡ get_or y i 0) → number k x ≡ number k y
+pub number_ext : (k : ℕ) (x y : List ℕ) → ((i : ℕ) → get_or x i 0 ≡ get_or y i 0) → number k x ≡ number k y
 unfolding number
-number-ext zero x y h = refl
-number-ext (suc k) [] [] h = refl
-number-ext (suc k) [] (c ∷ y) h =
-    rw (← h 0, zero-mul, zero-add) (sym (number-none k) ∙ number-ext k [] y (λ i. h (suc i)))
-number-ext (suc k) (b ∷ x) [] h = rw (h 0, zero-mul, zero-add) (number-ext k x [] (λ i. h (suc i)) ∙ number-none k)
-number-ext (suc k) (b ∷ x) (c ∷ y) h = ap₂ (λ (p q : ℕ). p * 2 ^ k + q) (h 0) (number-ext k x y (λ i. h (suc i)))
+number_ext zero x y h = refl
+number_ext (suc k) [] [] h = refl
+number_ext (suc k) [] (c ∷ y) h =
+    rw (← h 0, zero-mul, zero-add) (sym (number-none k) ∙ number_ext k [] y (λ i. h (suc i)))
+number_ext (suc k) (b ∷ x) [] h = rw (h 0, zero-mul, zero-add) (number_ext k x [] (λ i. h (suc i)) ∙ number-none k)
+number_ext (suc k) (b ∷ x) (c ∷ y) h = ap₂ (λ (p q : ℕ). p * 2 ^ k + q) (h 0) (number_ext k x y (λ i. h (suc i)))
 
 -- ---- digits
 pub digits-at : (k v i : ℕ) → i < k → get_or (digits k v) i 0 ≡ v / 2 ^ (k - (i + 1)) % 2
@@ -249,14 +249,14 @@ digits_number (suc k) (b ∷ x) a =
     (digits_above k b (number k x) ∙ digits_number k x a.1)
 
 -- ---- equal lists
-pub same-eq : (x y : List ℕ) → same x y ≡ true → x ≡ y
+pub same_eq : (x y : List ℕ) → same x y ≡ true → x ≡ y
 unfolding same
-same-eq [] [] e = refl
-same-eq [] (b ∷ y) e = absurd (false≢true e)
-same-eq (a ∷ x) [] e = absurd (false≢true e)
-same-eq (a ∷ x) (b ∷ y) e =
+same_eq [] [] e = refl
+same_eq [] (b ∷ y) e = absurd (false≢true e)
+same_eq (a ∷ x) [] e = absurd (false≢true e)
+same_eq (a ∷ x) (b ∷ y) e =
     ap₂ (λ (h : ℕ) (t : List ℕ). h ∷ t) (eqb-true a b (both_left (eqb a b) (same x y) e))
-    (same-eq x y (both_right (eqb a b) (same x y) e))
+    (same_eq x y (both_right (eqb a b) (same x y) e))
 
 pub same_refl : (x : List ℕ) → same x x ≡ true
 unfolding same

@@ -10,7 +10,7 @@ use lib.ListN.{length, get_or, take, drop, length-append, length-drop, take-appe
 use lib.Pow.{pow-add, high}
 use lib.Seq.{drop_at, drop-cons, take-nil, drop-drop, drop-nil, drop-append-add, drop-append-le, length-take-le, take-suc}
 use Rattle.bits.specs.Bits.{AllBits, AllBytes, number, digits, bytes, unpack}
-use Rattle.bits.proofs.Laws.{bits-append, bits-digits, bits-take, bits-drop, bits-unpack, length-unpack, bit_at, number_lt, number-none, number-cons, number_digits, length_digits}
+use Rattle.bits.proofs.Laws.{bits-append, bits-digits, bits-take, bits-drop, bits-unpack, length-unpack, bit_at, number_lt, number-none, number_cons, number_digits, length_digits}
 use Rattle.bits.proofs.Packing.{bytes-at, bytes-unpack, length-bytes}
 
 -- a string taken apart behind its first a bits
@@ -21,7 +21,7 @@ number-add (suc a) b [] = rw (number-none (suc a + b), number-none b, zero-mul) 
 number-add (suc a) b (c ∷ x) =
     rw (
       suc-add a b,
-      number-cons (a + b) c x,
+      number_cons (a + b) c x,
       number-add a b x,
       pow-add 2 a b,
       ← mul_assoc c (2 ^ a) (2 ^ b),
@@ -30,8 +30,8 @@ number-add (suc a) b (c ∷ x) =
     (omega arith)
 
 -- k bits behind the first a, with c bits behind them
-pub number-span : (a k c : ℕ) (x : List ℕ) → AllBits x → number (a + (k + c)) x / 2 ^ c % 2 ^ k ≡ number k (drop a x)
-number-span a k c x b =
+pub number_span : (a k c : ℕ) (x : List ℕ) → AllBits x → number (a + (k + c)) x / 2 ^ c % 2 ^ k ≡ number k (drop a x)
+number_span a k c x b =
     let y : List ℕ = drop a x in
     let n : ℕ = number k y in
     let e : number (a + (k + c)) x ≡ (number a x * 2 ^ k + n) * 2 ^ c + number c (drop k y) =
@@ -59,9 +59,9 @@ number-byte (v ∷ s) a (suc i) =
     rw (e, drop-append-add (digits 8 v) (unpack s) (i * 8)) (number-byte s a.1 i)
 
 -- the bits from byte i on spell the byte, and then what those from the next byte on spell
-byte-then : (s : List ℕ) → AllBytes s → (i j k : ℕ) → j ≡ i + 1
+byte_then : (s : List ℕ) → AllBytes s → (i j k : ℕ) → j ≡ i + 1
     → number (8 + k) (drop (i * 8) (unpack s)) ≡ get_or s i 0 * 2 ^ k + number k (drop (j * 8) (unpack s))
-byte-then s a i j k e =
+byte_then s a i j k e =
     let u : List ℕ = unpack s in
     let p : i * 8 + 8 ≡ j * 8 = omega arith in
     number-add 8 k (drop (i * 8) u)
@@ -69,35 +69,35 @@ byte-then s a i j k e =
     (ap (number k) (drop-drop 8 (i * 8) u ∙ ap (λ (n : ℕ). drop n u) p))
 
 -- four bytes in a row
-pub number-four : (s : List ℕ) → AllBytes s → (i : ℕ)
+pub number_four : (s : List ℕ) → AllBytes s → (i : ℕ)
     → get_or s i 0 * 16777216 + get_or s (i + 1) 0 * 65536 + get_or s (i + 2) 0 * 256 + get_or s (i + 3) 0
     ≡ number 32 (drop (i * 8) (unpack s))
-number-four s a i =
+number_four s a i =
     omega (
       arith,
-      byte-then s a i (i + 1) 24 refl,
-      byte-then s a (i + 1) (i + 2) 16 (omega arith),
-      byte-then s a (i + 2) (i + 3) 8 (omega arith),
+      byte_then s a i (i + 1) 24 refl,
+      byte_then s a (i + 1) (i + 2) 16 (omega arith),
+      byte_then s a (i + 2) (i + 3) 8 (omega arith),
       number-byte s a (i + 3),
     )
 
 -- the k bits from a place on, within the four bytes from byte i on, that have so many bits behind them there
-pub number-in-four : (i at k behind : ℕ) (u : List ℕ) → AllBits u → i * 8 ≤ at → (i + 4) * 8 ≡ at + k + behind
+pub number_in_four : (i at k behind : ℕ) (u : List ℕ) → AllBits u → i * 8 ≤ at → (i + 4) * 8 ≡ at + k + behind
     → number 32 (drop (i * 8) u) / 2 ^ behind % 2 ^ k ≡ number k (drop at u)
-number-in-four i at k behind u b h e =
+number_in_four i at k behind u b h e =
     let front : ℕ = at - i * 8 in
     let w : 32 ≡ front + (k + behind) = omega arith in
     let p : i * 8 + front ≡ at = omega arith in
     ap (λ (n : ℕ). number n (drop (i * 8) u) / 2 ^ behind % 2 ^ k) w
-    ∙ number-span front k behind (drop (i * 8) u) (bits-drop (i * 8) u b)
+    ∙ number_span front k behind (drop (i * 8) u) (bits-drop (i * 8) u b)
     ∙ ap (number k) (drop-drop front (i * 8) u ∙ ap (λ (n : ℕ). drop n u) p)
 
 -- the first bits alone decide
-pub number-front : (k : ℕ) (x y : List ℕ) → k ≤ length x → number k (x ++ y) ≡ number k x
+pub number_front : (k : ℕ) (x y : List ℕ) → k ≤ length x → number k (x ++ y) ≡ number k x
 unfolding number
-number-front zero x y h = refl
-number-front (suc k) [] y h = absurd (omega arith)
-number-front (suc k) (b ∷ x) y h = ap (λ (n : ℕ). b * 2 ^ k + n) (number-front k x y (omega arith))
+number_front zero x y h = refl
+number_front (suc k) [] y h = absurd (omega arith)
+number_front (suc k) (b ∷ x) y h = ap (λ (n : ℕ). b * 2 ^ k + n) (number_front k x y (omega arith))
 
 drop-take : (i n : ℕ) (x : List ℕ) → drop i (take n x) ≡ take (n - i) (drop i x)
 drop-take zero n x = let e : n - 0 ≡ n = omega arith in rw e refl
@@ -106,12 +106,12 @@ drop-take (suc i) (suc n) [] = rw (take-nil (suc n - suc i)) refl
 drop-take (suc i) (suc n) (b ∷ x) = let e : suc n - suc i ≡ n - i = omega arith in rw e (drop-take i n x)
 
 -- ---- bytes in a row
-pub bytes-front : (n : ℕ) (x y : List ℕ) → n * 8 ≤ length x → bytes n (x ++ y) ≡ bytes n x
+pub bytes_front : (n : ℕ) (x y : List ℕ) → n * 8 ≤ length x → bytes n (x ++ y) ≡ bytes n x
 unfolding bytes
-bytes-front zero x y h = refl
-bytes-front (suc n) x y h =
-    ap₂ (λ (v : ℕ) (s : List ℕ). v ∷ s) (number-front 8 x y (omega arith))
-    (ap (bytes n) (drop-append-le 8 x y (omega arith)) ∙ bytes-front n (drop 8 x) y (omega (arith, length-drop 8 x)))
+bytes_front zero x y h = refl
+bytes_front (suc n) x y h =
+    ap₂ (λ (v : ℕ) (s : List ℕ). v ∷ s) (number_front 8 x y (omega arith))
+    (ap (bytes n) (drop-append-le 8 x y (omega arith)) ∙ bytes_front n (drop 8 x) y (omega (arith, length-drop 8 x)))
 
 pub take-bytes : (i n : ℕ) (x : List ℕ) → i ≤ n → take i (bytes n x) ≡ bytes i x
 unfolding bytes
@@ -130,9 +130,9 @@ drop-bytes (suc i) (suc n) x =
 
 -- ---- a bit put into a string, in the bytes that hold it
 -- the last bit of a byte and the first seven of the next: a byte of the string with a bit before it
-pub moved-byte : (s : List ℕ) → AllBytes s → (b i : ℕ)
+pub moved_byte : (s : List ℕ) → AllBytes s → (b i : ℕ)
     → get_or s i 0 % 2 * 128 + get_or s (i + 1) 0 / 2 ≡ number 8 (drop ((i + 1) * 8) (b ∷ unpack s))
-moved-byte s a b i =
+moved_byte s a b i =
     let u : List ℕ = unpack s in
     let x : List ℕ = drop (i * 8) u in
     let y : List ℕ = drop ((i + 1) * 8) u in
@@ -166,16 +166,16 @@ put-number x q b a h k =
     let v : 8 ≡ q + (r + 1) = omega arith in
     let e : 8 - q ≡ suc r = omega arith in
     let front : number q z ≡ number q x =
-    number-front q (take q x) (b ∷ drop q x) (omega arith) ∙ sym (number-front q (take q x) (drop q x) (omega arith))
+    number_front q (take q x) (b ∷ drop q x) (omega arith) ∙ sym (number_front q (take q x) (drop q x) (omega arith))
     ∙ ap (number q) (take-append-drop q x) in
     let low : number (suc r) (drop q x) < 2 ^ suc r = number_lt (suc r) (drop q x) (bits-drop q x a) in
     let high : number 8 x / 2 ^ suc r ≡ number q x =
     ap (λ (m : ℕ). number m x / 2 ^ suc r) w ∙ ap (λ (m : ℕ). m / 2 ^ suc r) (number-add q (suc r) x)
     ∙ high (number q x) (suc r) low in
     let back : number r (drop q x) ≡ number 8 x / 2 % 2 ^ r =
-    sym (number-span q r 1 x a) ∙ ap (λ (m : ℕ). number m x / 2 % 2 ^ r) (sym v) in
+    sym (number_span q r 1 x a) ∙ ap (λ (m : ℕ). number m x / 2 % 2 ^ r) (sym v) in
     ap (λ (m : ℕ). number m z) w ∙ number-add q (suc r) z
-    ∙ rw (e, high, ← back, front, drop_at (take q x) (b ∷ drop q x) q n, number-cons r b (drop q x)) refl
+    ∙ rw (e, high, ← back, front, drop_at (take q x) (b ∷ drop q x) q n, number_cons r b (drop q x)) refl
 
 -- it is a byte again
 pub put_low : (v q b : ℕ) → v < 256 → q < 8 → b < 2
@@ -202,8 +202,8 @@ module _ (s : List ℕ) (a : AllBytes s) (at b count : ℕ) (h : at ≤ length s
   put_front =
       let f : ℕ = at / 8 in
       let u : List ℕ = unpack s in
-      take-bytes f count put (omega arith) ∙ bytes-front f (take at u) (b ∷ drop at u) (omega (arith, before))
-      ∙ sym (bytes-front f (take at u) (drop at u) (omega (arith, before))) ∙ ap (bytes f) (take-append-drop at u)
+      take-bytes f count put (omega arith) ∙ bytes_front f (take at u) (b ∷ drop at u) (omega (arith, before))
+      ∙ sym (bytes_front f (take at u) (drop at u) (omega (arith, before))) ∙ ap (bytes f) (take-append-drop at u)
       ∙ sym (take-bytes f (length s) u (omega arith)) ∙ ap (take f) (bytes-unpack s a)
 
   -- the byte with the bit
@@ -270,10 +270,10 @@ side_by_side a b c d p q r s =
     ap (λ (m : ℕ). m % 16) front ∙ omega arith
 
 -- the number that bits spell, taken apart at the first
-bit-then : (x : List ℕ) (i j k : ℕ) → i < length x → i + 1 ≡ j
+bit_then : (x : List ℕ) (i j k : ℕ) → i < length x → i + 1 ≡ j
     → number (suc k) (drop i x) ≡ get_or x i 0 * 2 ^ k + number k (drop j x)
 unfolding number
-bit-then x i j k h e = rw (drop-cons x i 0 h, sym e, add-one i) refl
+bit_then x i j k h e = rw (drop-cons x i 0 h, sym e, add-one i) refl
 
 -- four bits from a place on, read as bytes, give the number that they spell
 pub number-bits : (x : List ℕ) → AllBits x → (i : ℕ) → i + 4 ≤ length x
@@ -286,9 +286,9 @@ number-bits x b i h =
     (low (i + 3))
     ∙ omega (
       arith,
-      bit-then x i (i + 1) 3 (omega arith) refl,
-      bit-then x (i + 1) (i + 2) 2 (omega arith) (omega arith),
-      bit-then x (i + 2) (i + 3) 1 (omega arith) (omega arith),
-      bit-then x (i + 3) (i + 4) 0 (omega arith) (omega arith),
+      bit_then x i (i + 1) 3 (omega arith) refl,
+      bit_then x (i + 1) (i + 2) 2 (omega arith) (omega arith),
+      bit_then x (i + 2) (i + 3) 1 (omega arith) (omega arith),
+      bit_then x (i + 3) (i + 4) 0 (omega arith) (omega arith),
       number_lt 0 (drop (i + 4) x) (bits-drop (i + 4) x b),
     )

@@ -8,16 +8,16 @@ abbrev pub longest : ℕ
 longest = 2040
 
 -- the most chunks of a row
-abbrev pub mostChunks : ℕ
-mostChunks = 255
+abbrev pub most_chunks : ℕ
+most_chunks = 255
 
 -- the most chunks of a line, that is blocks of a row (l1) or chunks of a block (l2): each count is a byte of the message
-abbrev pub mostInLine : ℕ
-mostInLine = 255
+abbrev pub most_in_line : ℕ
+most_in_line = 255
 
 -- the most bits of a line, that is of a block or of a chunk-string: as many chunks of at most 8 bits
-abbrev pub longestLine : ℕ
-longestLine = 2040
+abbrev pub longest_line : ℕ
+longest_line = 2040
 
 -- each element is a bit
 abbrev pub AllBits : List ℕ → Type 0
@@ -46,8 +46,8 @@ digits zero v = []
 digits (suc k) v = v / 2 ^ k % 2 ∷ digits k v
 
 -- "a string of w bits takes w / 8 bytes, rounded up"
-abbrev pub bytesFor : ℕ → ℕ
-bytesFor w = (w + 7) / 8
+abbrev pub bytes_for : ℕ → ℕ
+bytes_for w = (w + 7) / 8
 
 -- n bytes of a string, eight bits each
 unfoldable pub bytes : ℕ → List ℕ → List ℕ
@@ -58,7 +58,7 @@ bytes (suc n) x = number 8 x ∷ bytes n (drop 8 x)
 -- "bits are packed first bit highest", "spare low bits of its last byte are 0"
 unfoldable pub pack : List ℕ → List ℕ
 unfolding bytes
-pack x = bytes (bytesFor (length x)) x
+pack x = bytes (bytes_for (length x)) x
 
 -- every bit of the bytes, in order; the string of w bits that they hold is the first w
 unfoldable pub unpack : List ℕ → List ℕ
@@ -81,4 +81,4 @@ blank (b ∷ x) = eqb b 0 && blank x
 -- the bytes are just those that w bits need, and no spare bit is 1
 unfoldable pub fits : ℕ → List ℕ → Bool
 unfolding unpack blank
-fits w s = eqb (length s) (bytesFor w) && blank (drop w (unpack s))
+fits w s = eqb (length s) (bytes_for w) && blank (drop w (unpack s))

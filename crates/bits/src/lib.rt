@@ -2,7 +2,7 @@
 // field by field through a filler, both passed by value. Contracts cite specs/Bits.antt and specs/Filling.antt.
 ghost use Rattle.std.specs.Prelude.{◌≡◌, ◌++◌, ◌+◌, ◌-◌, ◌*◌, ◌/◌, ◌%◌, ◌^◌, ◌<◌, ◌≤◌, min, length, take, drop, get_or};
 ghost use Rattle.bits.specs.Filling.{filled, Ready, Goes};
-ghost use Rattle.bits.specs.Bits.{AllBits, longest, number, digits, bytes, bytesFor, pack as packed, unpack as unpacked, fits as fit};
+ghost use Rattle.bits.specs.Bits.{AllBits, longest, number, digits, bytes, bytes_for, pack as packed, unpack as unpacked, fits as fit};
 
 // The most bits of a string: a row, received bits, a string to be mended.
 pub const LONGEST: usize = 2040;
@@ -158,9 +158,9 @@ fn pack_bytes(bits: &[u8], n: usize, out: &mut [u8])
 // A string, packed, at the start of a slice.
 pub fn pack(bits: &[u8], out: &mut [u8])
     requires { AllBits bits.now
-        × ((length bits.now ≤ longest) × (bytesFor (length bits.now) ≤ length out.old)) }
+        × ((length bits.now ≤ longest) × (bytes_for (length bits.now) ≤ length out.old)) }
     ensures { out.new
-        ≡ packed bits.now ++ drop (bytesFor (length bits.now)) out.old }
+        ≡ packed bits.now ++ drop (bytes_for (length bits.now)) out.old }
 {
     let n = bits.len() / 8;
     pack_bytes(bits, n, out);
@@ -251,7 +251,7 @@ impl Filler {
         requires { Ready self × (self.at * 8 + self.count ≤ length out.old * 8) }
         ensures { out.new
             ≡ packed (filled self out.old)
-            ++ drop (bytesFor (self.at * 8 + self.count)) out.old }
+            ++ drop (bytes_for (self.at * 8 + self.count)) out.old }
     {
         let at = self.at;
         let count = self.count;

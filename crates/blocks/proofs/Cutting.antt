@@ -15,17 +15,17 @@ use lib.Dec.{eqb}
 use lib.ListN.{length, get_or, set, drop, length-drop, length-set}
 use lib.Seq.{get_or-set_same, get_or-set_other}
 use Rattle.bits.specs.Bits.{digits}
-use Rattle.bits.proofs.Laws.{length_digits, set-zero}
+use Rattle.bits.proofs.Laws.{length_digits, set_zero}
 use Rattle.vt.specs.Sum.{total}
 use Rattle.message.specs.declared.Layout.{Layout}
 use Rattle.consistent.specs.Greedy.{losses}
 use Rattle.consistent.proofs.Greedy.{losses-most, piece}
 use Rattle.lines.specs.Lines.{line}
-use Rattle.lines.proofs.Parts.{total-zero, total-but}
+use Rattle.lines.proofs.Parts.{total_zero, total_but}
 use Rattle.cells.specs.Cells.{Open, OpenAt, Placed, chunk_of}
 use Rattle.cells.specs.declared.Cells.{Cells}
 use Rattle.weigh.specs.Weigh.{Can, brought}
-use Rattle.blocks.specs.Blocks.{isIn, bare, Longer, Lose, own_of, blockTotal, CutOut}
+use Rattle.blocks.specs.Blocks.{is_in, bare, Longer, Lose, own_of, block_total, CutOut}
 use Rattle.blocks.specs.declared.Cut.{Cut}
 
 -- what chunks bring depends on their blocks and their numbers alone
@@ -45,22 +45,22 @@ module _ (l : Layout) (cells : Cells) (i : ℕ) where
 
   -- no cell among the first k is open in column c of block i
   abbrev None : (k c : ℕ) → Type 0
-  None k c = (z : ℕ) → z < k → isIn cells i z ≡ true → get_or cells.column z 0 ≡ c → ⊥
+  None k c = (z : ℕ) → z < k → is_in cells i z ≡ true → get_or cells.column z 0 ≡ c → ⊥
 
   -- what the next cell does
-  pub bare-in : (k : ℕ) (vs : List ℕ) → isIn cells i k ≡ true
+  pub bare_in : (k : ℕ) (vs : List ℕ) → is_in cells i k ≡ true
       → bare l cells i (k + 1) vs ≡ set (bare l cells i k vs) (at (get_or cells.column k 0)) 0
   unfolding bare
-  bare-in k vs e = rw (add-one k, e) refl
+  bare_in k vs e = rw (add-one k, e) refl
 
-  pub bare-out : (k : ℕ) (vs : List ℕ) → isIn cells i k ≡ false → bare l cells i (k + 1) vs ≡ bare l cells i k vs
+  pub bare_out : (k : ℕ) (vs : List ℕ) → is_in cells i k ≡ false → bare l cells i (k + 1) vs ≡ bare l cells i k vs
   unfolding bare
-  bare-out k vs e = rw (add-one k, e) refl
+  bare_out k vs e = rw (add-one k, e) refl
 
   pub length-bare : (k : ℕ) (vs : List ℕ) → length (bare l cells i k vs) ≡ length vs
   unfolding bare
   length-bare zero vs = refl
-  length-bare (suc k) vs = by (isIn cells i k) (length-bare k vs)
+  length-bare (suc k) vs = by (is_in cells i k) (length-bare k vs)
     where
       by : (b : Bool) → length (bare l cells i k vs) ≡ length vs
           → length (cond b (set (bare l cells i k vs) (at (get_or cells.column k 0)) 0) (bare l cells i k vs))
@@ -74,25 +74,25 @@ module _ (l : Layout) (cells : Cells) (i : ℕ) where
   unfolding bare
   bare-same zero c us vs e = e (λ z h. absurd (omega arith))
   bare-same (suc k) c us vs e =
-      by (isIn cells i k) refl (ℕ_discrete c (get_or cells.column k 0)) (λ n. bare-same k c us vs (λ f. e (more n f)))
+      by (is_in cells i k) refl (ℕ_discrete c (get_or cells.column k 0)) (λ n. bare-same k c us vs (λ f. e (more n f)))
     where
       here : ℕ
       here = at (get_or cells.column k 0)
 
-      more : (isIn cells i k ≡ true → get_or cells.column k 0 ≡ c → ⊥) → None k c → None (suc k) c
+      more : (is_in cells i k ≡ true → get_or cells.column k 0 ≡ c → ⊥) → None k c → None (suc k) c
       more n f z h = last (ℕ_discrete z k)
         where
-          last : Dec (z ≡ k) → isIn cells i z ≡ true → get_or cells.column z 0 ≡ c → ⊥
+          last : Dec (z ≡ k) → is_in cells i z ≡ true → get_or cells.column z 0 ≡ c → ⊥
           last (yes d) = rw d n
           last (no d) = f z (omega arith)
 
-      by : (b : Bool) → isIn cells i k ≡ b → Dec (c ≡ get_or cells.column k 0)
-          → ((isIn cells i k ≡ true → get_or cells.column k 0 ≡ c → ⊥)
+      by : (b : Bool) → is_in cells i k ≡ b → Dec (c ≡ get_or cells.column k 0)
+          → ((is_in cells i k ≡ true → get_or cells.column k 0 ≡ c → ⊥)
           → get_or (bare l cells i k us) (at c) 0 ≡ get_or (bare l cells i k vs) (at c) 0)
           → get_or (cond b (set (bare l cells i k us) here 0) (bare l cells i k us)) (at c) 0
           ≡ get_or (cond b (set (bare l cells i k vs) here 0) (bare l cells i k vs)) (at c) 0
       by false q d r = r (λ t. absurd (false≢true (sym q ∙ t)))
-      by true q (yes d) r = rw d (set-zero (bare l cells i k us) here ∙ sym (set-zero (bare l cells i k vs) here))
+      by true q (yes d) r = rw d (set_zero (bare l cells i k us) here ∙ sym (set_zero (bare l cells i k vs) here))
       by true q (no d) r =
           let away : (at c ≡ here → ⊥) = λ p. d (omega (arith, p)) in
           get_or-set_other (bare l cells i k us) here (at c) 0 0 away
@@ -100,8 +100,8 @@ module _ (l : Layout) (cells : Cells) (i : ℕ) where
           ∙ sym (get_or-set_other (bare l cells i k vs) here (at c) 0 0 away)
 
   -- a cell that is open and stands in the block
-  pub in-open : (z : ℕ) → z < 12 → isIn cells i z ≡ true → Open cells z × (get_or cells.block z 0 ≡ i)
-  in-open z h e = by (eqb (get_or cells.lost z 0) 0) refl e
+  pub in_open : (z : ℕ) → z < 12 → is_in cells i z ≡ true → Open cells z × (get_or cells.block z 0 ≡ i)
+  in_open z h e = by (eqb (get_or cells.lost z 0) 0) refl e
     where
       by : (b : Bool) → eqb (get_or cells.lost z 0) 0 ≡ b → cond b false (eqb (get_or cells.block z 0) i) ≡ true
           → Open cells z × (get_or cells.block z 0 ≡ i)
@@ -110,7 +110,7 @@ module _ (l : Layout) (cells : Cells) (i : ℕ) where
           let some : (get_or cells.lost z 0 ≡ 0 → ⊥) = eqb-false (get_or cells.lost z 0) 0 q in
           ((h, omega (arith, some)), eqb-true _ _ e)
 
-  pub open_in : (z : ℕ) → Open cells z → get_or cells.block z 0 ≡ i → isIn cells i z ≡ true
+  pub open_in : (z : ℕ) → Open cells z → get_or cells.block z 0 ≡ i → is_in cells i z ≡ true
   open_in z o e = rw (ne_eqb (get_or cells.lost z 0) 0 (λ n. omega (arith, o.1, n))) (eq-eqb _ _ e)
 
   module _ (y : List ℕ) where
@@ -136,20 +136,20 @@ module _ (l : Layout) (cells : Cells) (i : ℕ) where
         }
 
     -- a cell that is not open, or stands in another block, is passed over
-    pub cut-skip : (k : ℕ) (cut : Cut) → isIn cells i k ≡ false → CutOut l y cells i k cut
+    pub cut_skip : (k : ℕ) (cut : Cut) → is_in cells i k ≡ false → CutOut l y cells i k cut
         → CutOut l y cells i (k + 1) cut
-    cut-skip k cut e c =
+    cut_skip k cut e c =
         record {
           few = c.few;
           sizes = c.sizes;
           before = c.before;
-          behind = λ vs j h g. rw (bare-out k vs e) (c.behind vs j h g);
+          behind = λ vs j h g. rw (bare_out k vs e) (c.behind vs j h g);
           can = c.can;
-          whole = λ vs. rw (bare-out k vs e) (c.whole vs);
+          whole = λ vs. rw (bare_out k vs e) (c.whole vs);
         }
 
     -- an open cell of the block, behind those before it, is cut out
-    module _ (k : ℕ) (old new : Cut) (low : k < 12) (e : isIn cells i k ≡ true)
+    module _ (k : ℕ) (old new : Cut) (low : k < 12) (e : is_in cells i k ≡ true)
         (column : get_or cells.column k 0 < l.l2)
         (room : get_or cells.place k 0 ≤ length y)
         (g : Longer old (get_or cells.column k 0) (get_or cells.place k 0) (get_or cells.lost k 0) new)
@@ -187,8 +187,8 @@ module _ (l : Layout) (cells : Cells) (i : ℕ) where
         lost-was : (s : ℕ) → s < n → get_or new.chunks.lost s 0 ≡ get_or old.chunks.lost s 0
         lost-was s h = rw g.losses (get_or-set_other old.chunks.lost n s _ 0 (λ q. omega (arith, q)))
 
-        lost-is : get_or new.chunks.lost n 0 ≡ get_or cells.lost k 0
-        lost-is = rw g.losses (get_or-set_same old.chunks.lost n _ 0 (omega (arith, g.room, c.sizes.1.1)))
+        lost_is : get_or new.chunks.lost n 0 ≡ get_or cells.lost k 0
+        lost_is = rw g.losses (get_or-set_same old.chunks.lost n _ 0 (omega (arith, g.room, c.sizes.1.1)))
 
         own-was : (vs : List ℕ) (s : ℕ) → s < n → own_of l i new vs s ≡ own_of l i old vs s
         own-was vs s h = ap (λ (b : ℕ). get_or vs (i * l.l2 + b) 0) (block-was s h)
@@ -199,7 +199,7 @@ module _ (l : Layout) (cells : Cells) (i : ℕ) where
         -- its number loses just its count
         module _ (vs : List ℕ) (lose : Lose l y cells i vs) where
           open-here : Open cells k × (get_or cells.block k 0 ≡ i)
-          open-here = in-open k low e
+          open-here = in_open k low e
 
           loses-here : (get_or vs (at j) 0 < 2 ^ l.nc)
               × (losses (digits l.nc (get_or vs (at j) 0)) (drop (get_or cells.place k 0) y) ≡ get_or cells.lost k 0)
@@ -232,18 +232,18 @@ module _ (l : Layout) (cells : Cells) (i : ℕ) where
                 small = λ s h. below_more (λ s. own_of l i new vs s < 2 ^ l.nc) n
                     (λ s h. rw (own-was vs s h) (a.small s h)) (rw (own_is vs) loses-here.0) s (rw g.count at h);
                 few = λ s h. below_more (λ s. get_or new.chunks.lost s 0 ≤ l.nc) n
-                    (λ s h. rw (lost-was s h) (a.few s h)) (rw lost-is few-here) s (rw g.count at h);
+                    (λ s h. rw (lost-was s h) (a.few s h)) (rw lost_is few-here) s (rw g.count at h);
                 there =
                     λ s h. below_more
                     (λ s. get_or new.chunks.place s 0 + l.nc ≤ length y + get_or new.chunks.lost s 0) n
-                    (λ s h. rw (place-was s h, lost-was s h) (a.there s h)) (rw (place_is, lost-is) there-here) s
+                    (λ s h. rw (place-was s h, lost-was s h) (a.there s h)) (rw (place_is, lost_is) there-here) s
                     (rw g.count at h);
                 loses = λ s h. below_more
                     (λ s. losses (digits l.nc (own_of l i new vs s)) (drop (get_or new.chunks.place s 0) y)
                     ≡ get_or new.chunks.lost s 0)
                     n
                     (λ s h. rw (own-was vs s h, place-was s h, lost-was s h) (a.loses s h))
-                    (rw (own_is vs, place_is, lost-is) loses-here.1) s (rw g.count at h);
+                    (rw (own_is vs, place_is, lost_is) loses-here.1) s (rw g.count at h);
               }
 
         -- what the chunks bring with it
@@ -260,16 +260,16 @@ module _ (l : Layout) (cells : Cells) (i : ℕ) where
 
         -- the block's total is that with a zero there and what it brings
         whole-next : (vs : List ℕ)
-            → blockTotal l i (bare l cells i (k + 1) vs)
+            → block_total l i (bare l cells i (k + 1) vs)
             + brought l.nc new.chunks.block (own_of l i new vs) new.chunks.n
-            ≡ blockTotal l i vs
+            ≡ block_total l i vs
         whole-next vs =
             let w = bare l cells i k vs in
             let one : i * l.l2 + j * 1 ≡ at j = omega (arith, mul-one j) in
-            let step = total-but l.nc (i * l.l2) 1 l.l2 j column (set w (at j) 0) w (away w) in
+            let step = total_but l.nc (i * l.l2) 1 l.l2 j column (set w (at j) 0) w (away w) in
             let was : get_or w (at j) 0 ≡ get_or vs (at j) 0 = c.behind vs j g.behind column in
-            let s = rw (one, set-zero w (at j), was, total-zero l.nc (j * l.nc + 1)) at step in
-            ap₂ (λ (u : List ℕ) (b : ℕ). blockTotal l i u + b) (bare-in k vs e) (brought-next vs)
+            let s = rw (one, set_zero w (at j), was, total_zero l.nc (j * l.nc + 1)) at step in
+            ap₂ (λ (u : List ℕ) (b : ℕ). block_total l i u + b) (bare_in k vs e) (brought-next vs)
             ∙ omega (arith, s, c.whole vs)
           where
             away : (w : List ℕ) (t : ℕ) → t < l.l2 → (t ≡ j → ⊥)
@@ -286,7 +286,7 @@ module _ (l : Layout) (cells : Cells) (i : ℕ) where
                   (rw block-is (omega (arith, g.next))) s
                   (rw g.count at h);
               behind = λ vs t h q.
-                  rw (bare-in k vs e)
+                  rw (bare_in k vs e)
                   (get_or-set_other (bare l cells i k vs) (at j) (at t) 0 0 (λ p. omega (arith, p, g.next))
                   ∙ c.behind vs t (omega (arith, g.next, g.behind)) q);
               can = can-next;

@@ -8,15 +8,15 @@ use native.Mathlib.Nat.{mod-add-mod, mul-one}
 use native.Mathlib.Omega.{arith}
 use lib.ListN.{length, get_or, take, drop, length-drop, length-append, get_or-append}
 use lib.Seq.{length-take-le, get_or-append-add, get_or-take, get_or-drop}
-use Rattle.bits.proofs.Laws.{lt-or-ge}
+use Rattle.bits.proofs.Laws.{lt_or_ge}
 use Rattle.vt.specs.Sum.{sum}
 use Rattle.message.specs.declared.Layout.{Layout}
 use Rattle.lines.specs.Lines.{line}
 use Rattle.lines.proofs.Lines.{line_same}
-use Rattle.lines.proofs.Turns.{sum-of-total}
+use Rattle.lines.proofs.Turns.{sum_of_total}
 use Rattle.cells.specs.declared.Cells.{Cells}
 use Rattle.weigh.specs.Weigh.{brought}
-use Rattle.blocks.specs.Blocks.{bare, own_of, blockTotal, CutOut, ReadOn, Ended}
+use Rattle.blocks.specs.Blocks.{bare, own_of, block_total, CutOut, ReadOn, Ended}
 use Rattle.blocks.specs.declared.Cut.{Cut}
 use Rattle.blocks.proofs.Cutting.{bare-same, open_in}
 
@@ -58,20 +58,20 @@ module _ {l : Layout} {y numbers : List ℕ} {cells : Cells} {row : List ℕ} {i
       (λ q. others t b h ∙ sym q)
       (e.decided t b h))
       (λ (b : j ≤ t). sym (later t b h))
-      (lt-or-ge t j))))
+      (lt_or_ge t j))))
 
   -- the sum of the rest and what the cells bring are the block's sum
-  pub ended-brings : (cut : Cut) → CutOut l y cells i 12 cut
+  pub ended_brings : (cut : Cut) → CutOut l y cells i 12 cut
       → (sum (line l.nc (i * l.l2) 1 l.l2 (bare l cells i 12 out))
       + brought l.nc cut.chunks.block (own_of l i cut vs) cut.chunks.n)
       % (l.l2 * l.nc + 1)
       ≡ get_or numbers i 0
-  ended-brings cut c =
+  ended_brings cut c =
       let m : ℕ = l.l2 * l.nc + 1 in
       let b : ℕ = brought l.nc cut.chunks.block (own_of l i cut vs) cut.chunks.n in
       ap (λ (n : ℕ). (n + b) % m)
-      (ap sum bare-line ∙ sym (sum-of-total l.nc (i * l.l2) 1 l.l2 (bare l cells i 12 vs)))
-      ∙ mod-add-mod (blockTotal l i (bare l cells i 12 vs)) m b
+      (ap sum bare-line ∙ sym (sum_of_total l.nc (i * l.l2) 1 l.l2 (bare l cells i 12 vs)))
+      ∙ mod-add-mod (block_total l i (bare l cells i 12 vs)) m b
       ∙ ap (λ (n : ℕ). n % m) (c.whole vs)
-      ∙ sum-of-total l.nc (i * l.l2) 1 l.l2 vs
-      ∙ e.has-sum
+      ∙ sum_of_total l.nc (i * l.l2) 1 l.l2 vs
+      ∙ e.has_sum

@@ -13,18 +13,18 @@ use Rattle.weigh.specs.Weigh.{Can, brought}
 use Rattle.blocks.specs.declared.Cut.{Cut}
 
 -- a cell that lost so many bits in a block is open and stands in block i
-abbrev pub standsIn : (lost block i : ℕ) → Bool
-standsIn lost block i = cond (eqb lost 0) false (eqb block i)
+abbrev pub stands_in : (lost block i : ℕ) → Bool
+stands_in lost block i = cond (eqb lost 0) false (eqb block i)
 
 -- so it is with cell z
-abbrev pub isIn : Cells → (i z : ℕ) → Bool
-isIn cells i z = standsIn (get_or cells.lost z 0) (get_or cells.block z 0) i
+abbrev pub is_in : Cells → (i z : ℕ) → Bool
+is_in cells i z = stands_in (get_or cells.lost z 0) (get_or cells.block z 0) i
 
 -- numbers of chunks with a zero for each of the first k cells that is open and stands in block i
 unfoldable pub bare : Layout → Cells → (i k : ℕ) → List ℕ → List ℕ
 bare l cells i zero vs = vs
 bare l cells i (suc k) vs =
-    cond (isIn cells i k) (set (bare l cells i k vs) (i * l.l2 + get_or cells.column k 0) 0) (bare l cells i k vs)
+    cond (is_in cells i k) (set (bare l cells i k vs) (i * l.l2 + get_or cells.column k 0) 0) (bare l cells i k vs)
 
 -- the chunks with one more, of a column behind all others
 pub record Longer (old : Cut) (j place lost : ℕ) (new : Cut) : Type 0 where
@@ -48,8 +48,8 @@ abbrev pub own_of : Layout → (i : ℕ) → Cut → (vs : List ℕ) → ℕ →
 own_of l i cut vs s = get_or vs (i * l.l2 + get_or cut.chunks.block s 0) 0
 
 -- the total of the positions of the ones of block i
-abbrev pub blockTotal : Layout → (i : ℕ) (vs : List ℕ) → ℕ
-blockTotal l i vs = total 1 (line l.nc (i * l.l2) 1 l.l2 vs)
+abbrev pub block_total : Layout → (i : ℕ) (vs : List ℕ) → ℕ
+block_total l i vs = total 1 (line l.nc (i * l.l2) 1 l.l2 vs)
 
 -- the open cells of block i among the first k are cut out: their columns lie before the next one, and what they bring
 -- and the rest of the block are the block's total
@@ -61,8 +61,8 @@ pub record CutOut (l : Layout) (y : List ℕ) (cells : Cells) (i k : ℕ) (cut :
       → get_or (bare l cells i k vs) (i * l.l2 + c) 0 ≡ get_or vs (i * l.l2 + c) 0
   pub can : (vs : List ℕ) → Lose l y cells i vs → Can l.nc y cut.chunks (own_of l i cut vs)
   pub whole : (vs : List ℕ)
-      → blockTotal l i (bare l cells i k vs) + brought l.nc cut.chunks.block (own_of l i cut vs) cut.chunks.n
-      ≡ blockTotal l i vs
+      → block_total l i (bare l cells i k vs) + brought l.nc cut.chunks.block (own_of l i cut vs) cut.chunks.n
+      ≡ block_total l i vs
 
 -- chunk c of block i is read whole, end bits being lost before it
 pub record Later (l : Layout) (y : List ℕ) (i end c : ℕ) (vs : List ℕ) : Type 0 where
@@ -85,4 +85,4 @@ pub record Ended (l : Layout) (y numbers : List ℕ) (cells : Cells) (row : List
   pub decided : (c : ℕ) → c < j → c < l.l2 → OpenAt cells i c ⊎ (get_or vs (i * l.l2 + c) 0 ≡ get_or row (i * l.l2 + c) 0)
   pub lose : Lose l y cells i vs
   pub later : (c : ℕ) → j ≤ c → c < l.l2 → Later l y i end c vs
-  pub has-sum : sum (line l.nc (i * l.l2) 1 l.l2 vs) ≡ get_or numbers i 0
+  pub has_sum : sum (line l.nc (i * l.l2) 1 l.l2 vs) ≡ get_or numbers i 0

@@ -1,11 +1,11 @@
 // Heavy blocks whose losses are all shared out: whether the block's sum can come out. Such a block is known but for its short chunks, which
 // are weighed as those of a chunk-string are. Contracts cite specs/Blocks.antt.
 ghost use Rattle.std.specs.Prelude.{◌≡◌, true, false, List, ℕ, ◌+◌, ◌*◌, ◌<◌, ◌≤◌, length, get_or};
-ghost use Rattle.bits.specs.Bits.{AllBits, longest, mostChunks};
+ghost use Rattle.bits.specs.Bits.{AllBits, longest, most_chunks};
 ghost use Rattle.message.specs.Layout.{legal};
 ghost use Rattle.windows.specs.Windows.{Tables};
 ghost use Rattle.cells.specs.Cells.{Placed};
-ghost use Rattle.blocks.specs.Blocks.{standsIn, isIn, bare, Longer, CutOut, Later, ReadOn, Ended};
+ghost use Rattle.blocks.specs.Blocks.{stands_in, is_in, bare, Longer, CutOut, Later, ReadOn, Ended};
 
 use cells::Cells;
 use message::Layout;
@@ -20,7 +20,7 @@ pub struct Cut {
 
 // Whether a cell that lost so many bits in a block is open and stands in block i.
 fn is_in(lost: u8, block: u8, i: usize) -> bool
-    ensures { result ≡ standsIn lost block i }
+    ensures { result ≡ stands_in lost block i }
 {
     if lost == 0 {
         return false;
@@ -75,7 +75,7 @@ fn with_chunk(cut: Cut, j: u8, place: usize, lost: u8) -> Cut
 // Cell z, which is open and stands in block i, cut out of a row, in which a zero is left for it.
 fn cut_cell(l: Layout, y: &[u8], cells: Cells, i: usize, z: usize, cut: Cut, row: &mut [u8]) -> Cut
     requires { ((legal l ≡ true) × (i < l.l1))
-        × (Placed l (length y.now) cells × ((z < 12) × ((isIn cells i z ≡ true) × (length row.old ≡ mostChunks)))) }
+        × (Placed l (length y.now) cells × ((z < 12) × ((is_in cells i z ≡ true) × (length row.old ≡ most_chunks)))) }
     ensures { (length row.new ≡ length row.old)
         × (result.ok ≡ true → CutOut l y.now cells i z cut
         → CutOut l y.now cells i (z + 1) result
@@ -89,7 +89,7 @@ fn cut_cell(l: Layout, y: &[u8], cells: Cells, i: usize, z: usize, cut: Cut, row
 
 // The open cells of block i cut out of a row, in which a zero is left for each.
 fn cut_out(l: Layout, y: &[u8], cells: Cells, i: usize, row: &mut [u8]) -> Cut
-    requires { (legal l ≡ true) × ((i < l.l1) × (Placed l (length y.now) cells × (length row.old ≡ mostChunks))) }
+    requires { (legal l ≡ true) × ((i < l.l1) × (Placed l (length y.now) cells × (length row.old ≡ most_chunks))) }
     ensures { result.ok ≡ true
         → CutOut l y.now cells i 12 result × (row.new ≡ bare l cells i 12 row.old) }
 {
@@ -123,7 +123,7 @@ fn cut_out(l: Layout, y: &[u8], cells: Cells, i: usize, row: &mut [u8]) -> Cut
 // there.
 fn read_on(l: Layout, y: &[u8], i: usize, end: u8, j: usize, row: &mut [u8]) -> bool
     requires { (legal l ≡ true)
-        × (AllBits y.now × ((length y.now ≤ longest) × ((i < l.l1) × (length row.old ≡ mostChunks)))) }
+        × (AllBits y.now × ((length y.now ≤ longest) × ((i < l.l1) × (length row.old ≡ most_chunks)))) }
     ensures { ReadOn l y.now i end j row.old row.new result }
 {
     let columns = l.l2;

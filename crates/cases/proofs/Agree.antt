@@ -1,8 +1,8 @@
 -- The whole table of marked cases agrees with the definitions, by computation. Assumes nothing.
 use mathlib.Core.Path.{◌≡◌, refl}
 use mathlib.Core.Bool.{true}
-use Rattle.cases.specs.Cases.{marked, holdAll}
+use Rattle.cases.specs.Cases.{marked, hold_all}
 
-pub marked-cases-agree : holdAll marked ≡ true
-unfolding marked holdAll
-marked-cases-agree = refl
+pub marked_cases_agree : hold_all marked ≡ true
+unfolding marked hold_all
+marked_cases_agree = refl

@@ -2,16 +2,16 @@
 use Rattle.std.specs.Prelude.{ℕ, Bool, true, ◌&&◌, List, [], ◌∷◌, eqb, length, take}
 use Rattle.bits.specs.Bits.{unpack, same}
 use Rattle.vt.specs.Mend.{mended}
-use Rattle.message.specs.Layout.{layout, rowBits}
-use Rattle.message.specs.Message.{blockSums, stringSums, checks, message, encode}
-use Rattle.message.specs.Read.{messageRefusal}
+use Rattle.message.specs.Layout.{layout, row_bits}
+use Rattle.message.specs.Message.{block_sums, string_sums, checks, message, encode}
+use Rattle.message.specs.Read.{message_refusal}
 use Rattle.message.specs.declared.Layout.{Layout}
-use Rattle.consistent.specs.List.{ListAnswer, listAnswer, listSlice}
+use Rattle.consistent.specs.List.{ListAnswer, list_answer, list_slice}
 
 -- a marked case: what is given, and what the paper says comes of it
 pub data Case : Type 0 where
   -- a layout and a packed row have these block sums, chunk-string sums and checks
-  has-sums : Layout → (row blockSums stringSums checks : List ℕ) → Case
+  has-sums : Layout → (row block_sums string_sums checks : List ℕ) → Case
   -- a layout and a packed row have this message
   has-message : Layout → (row message : List ℕ) → Case
   -- a length, a sum and bits pick this string
@@ -25,7 +25,7 @@ pub data Case : Type 0 where
 -- the row of a layout that stands in packed bytes
 unfoldable pub row_of : Layout → List ℕ → List ℕ
 unfolding unpack
-row_of l packed = take (rowBits l) (unpack packed)
+row_of l packed = take (row_bits l) (unpack packed)
 
 -- the answer has this refusal and this count
 unfoldable pub answers : ListAnswer → (refusal count : ℕ) → Bool
@@ -33,27 +33,27 @@ answers a q n = eqb a.refusal q && eqb a.count n
 
 -- what the case says holds of the definitions
 unfoldable pub holds : Case → Bool
-unfolding same answers row_of blockSums stringSums checks message mended listAnswer listSlice messageRefusal
+unfolding same answers row_of block_sums string_sums checks message mended list_answer list_slice message_refusal
 holds (has-sums l row bs ss cs) =
-    same (blockSums l (row_of l row)) bs && same (stringSums l (row_of l row)) ss && same (checks l (row_of l row)) cs
+    same (block_sums l (row_of l row)) bs && same (string_sums l (row_of l row)) ss && same (checks l (row_of l row)) cs
 holds (has-message l row m) = same (message l (row_of l row)) m
 holds (picks w s bits string) = same (mended w s bits) string
 holds (lists s m received slice q count after) =
-    answers (listAnswer s received m (length slice)) q count && same (listSlice s received m slice) after
-holds (refuses s q) = eqb (messageRefusal s) q
+    answers (list_answer s received m (length slice)) q count && same (list_slice s received m slice) after
+holds (refuses s q) = eqb (message_refusal s) q
 
-unfoldable pub holdAll : List Case → Bool
+unfoldable pub hold_all : List Case → Bool
 unfolding holds
-holdAll [] = true
-holdAll (c ∷ cs) = holds c && holdAll cs
+hold_all [] = true
+hold_all (c ∷ cs) = holds c && hold_all cs
 
 -- the row of cases 1 and 2, Example 1 of source document 002
-exampleRow : List ℕ
-exampleRow = 0x4A ∷ 0x50 ∷ 0x3E ∷ 0x77 ∷ 0x10 ∷ 0x24 ∷ 0x46 ∷ 0x80 ∷ []
+example_row : List ℕ
+example_row = 0x4A ∷ 0x50 ∷ 0x3E ∷ 0x77 ∷ 0x10 ∷ 0x24 ∷ 0x46 ∷ 0x80 ∷ []
 
 -- its message, by the first byte after the head and the last byte
-exampleMessage : (first last : ℕ) → List ℕ
-exampleMessage first last =
+example_message : (first last : ℕ) → List ℕ
+example_message first last =
     0x52 ∷ 0x53 ∷ 0x4D ∷ 0x00 ∷ 0x01 ∷ 0x05 ∷ 0x03 ∷ 0x04 ∷ 0x04 ∷ first ∷ 0x34 ∷ 0xB5 ∷ 0xD0 ∷ 0x96 ∷ 0xDA ∷ last ∷ []
 
 -- the message of cases 3 to 5, by its sums
@@ -62,26 +62,26 @@ unfolding encode
 small b c = encode (layout 1 1 3 0) (b ∷ []) (c ∷ []) []
 
 -- the message of cases 7 and 8, by its chunk-string sum
-twoBlocks : (stringSum : ℕ) → List ℕ
+two_blocks : (stringSum : ℕ) → List ℕ
 unfolding encode
-twoBlocks c = encode (layout 2 1 4 0) (2 ∷ 0 ∷ []) (c ∷ []) []
+two_blocks c = encode (layout 2 1 4 0) (2 ∷ 0 ∷ []) (c ∷ []) []
 
 -- the table: cases 1 to 11 in their order, of which 8, 9 and 11 are two each
 unfoldable pub marked : List Case
-unfolding exampleRow exampleMessage small twoBlocks encode
+unfolding example_row example_message small two_blocks encode
 marked =
-    has-sums (layout 5 3 4 4) exampleRow (10 ∷ 6 ∷ 3 ∷ 4 ∷ 11 ∷ []) (11 ∷ 20 ∷ 4 ∷ []) (11 ∷ 6 ∷ 13 ∷ 2 ∷ [])  -- case 1
-    ∷ has-message (layout 5 3 4 4) exampleRow (exampleMessage 0xA6 0x40)  -- case 2
+    has-sums (layout 5 3 4 4) example_row (10 ∷ 6 ∷ 3 ∷ 4 ∷ 11 ∷ []) (11 ∷ 20 ∷ 4 ∷ []) (11 ∷ 6 ∷ 13 ∷ 2 ∷ [])  -- case 1
+    ∷ has-message (layout 5 3 4 4) example_row (example_message 0xA6 0x40)  -- case 2
     ∷ lists (small 0 0) 0 [] (0xEE ∷ 0xEE ∷ 0xEE ∷ []) 0 2 (0x00 ∷ 0xA0 ∷ 0xEE ∷ [])  -- case 3
     ∷ lists (small 0 0) 2 (0x00 ∷ []) (0xEE ∷ 0xEE ∷ []) 0 1 (0x00 ∷ 0xEE ∷ [])  -- case 4
     ∷ lists (small 0 1) 0 [] (0xEE ∷ []) 0 0 (0xEE ∷ [])  -- case 5
     ∷ lists (encode (layout 1 1 3 1) (0 ∷ []) (0 ∷ []) (5 ∷ [])) 0 [] (0xEE ∷ 0xEE ∷ []) 0 1 (0xA0 ∷ 0xEE ∷ [])  -- case 6
-    ∷ lists (twoBlocks 1) 6 (0x3C ∷ []) (0xEE ∷ 0xEE ∷ []) 0 1 (0x4F ∷ 0xEE ∷ [])  -- case 7
-    ∷ lists (twoBlocks 2) 6 (0x3C ∷ []) (0xEE ∷ 0xEE ∷ 0xEE ∷ []) 0 2 (0x36 ∷ 0x39 ∷ 0xEE ∷ [])  -- case 8
-    ∷ lists (twoBlocks 2) 6 (0x3C ∷ []) (0xEE ∷ []) 9 0 (0x36 ∷ [])  -- case 8, a list slice of one byte
+    ∷ lists (two_blocks 1) 6 (0x3C ∷ []) (0xEE ∷ 0xEE ∷ []) 0 1 (0x4F ∷ 0xEE ∷ [])  -- case 7
+    ∷ lists (two_blocks 2) 6 (0x3C ∷ []) (0xEE ∷ 0xEE ∷ 0xEE ∷ []) 0 2 (0x36 ∷ 0x39 ∷ 0xEE ∷ [])  -- case 8
+    ∷ lists (two_blocks 2) 6 (0x3C ∷ []) (0xEE ∷ []) 9 0 (0x36 ∷ [])  -- case 8, a list slice of one byte
     ∷ picks 4 2 (0 ∷ 1 ∷ 0 ∷ []) (0 ∷ 1 ∷ 0 ∷ 0 ∷ [])  -- case 9
     ∷ picks 4 2 (1 ∷ 1 ∷ 1 ∷ []) (1 ∷ 1 ∷ 0 ∷ 1 ∷ [])  -- case 9
     ∷ picks 1 1 [] (1 ∷ [])  -- case 10
-    ∷ refuses (exampleMessage 0xD6 0x40) 5  -- case 11
-    ∷ refuses (exampleMessage 0xA6 0x41) 6  -- case 11
+    ∷ refuses (example_message 0xD6 0x40) 5  -- case 11
+    ∷ refuses (example_message 0xA6 0x41) 6  -- case 11
     ∷ []

@@ -11,7 +11,7 @@ use Rattle.bits.specs.Bits.{digits}
 use Rattle.bits.proofs.Laws.{length_digits}
 use Rattle.consistent.specs.Greedy.{losses}
 use Rattle.lines.specs.Lines.{line}
-use Rattle.lines.proofs.Lines.{line-cons}
+use Rattle.lines.proofs.Lines.{line_cons}
 
 -- a chunk is spread to the start of a slice: the bits that it takes of y from a place on and those that it loses are
 -- all it has
@@ -21,7 +21,7 @@ pub taken-lost : (nc v place n : ℕ) (out old y : List ℕ) → out ≡ [] ++ l
 taken-lost nc v place n out old y e t =
     let k : nc - 0 ≡ nc = sub-zero nc in
     let d : take (nc - 0) out ≡ digits nc v =
-    rw (k, e, line-cons nc 0 1 0 (v ∷ []), append_assoc)
+    rw (k, e, line_cons nc 0 1 0 (v ∷ []), append_assoc)
     (take_at (digits nc v) (line nc 1 1 0 (v ∷ []) ++ old) nc (length_digits nc v))
     in
     (rw (d, part_to_end y place) at t) ∙ length_digits nc v

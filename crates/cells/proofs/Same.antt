@@ -7,12 +7,12 @@ use mathlib.Core.List.{List}
 use native.Mathlib.Omega.{arith}
 use lib.ListN.{get_or, set}
 use lib.Seq.{get_or-set_other}
-use Rattle.bits.proofs.Laws.{lt-or-ge}
+use Rattle.bits.proofs.Laws.{lt_or_ge}
 use Rattle.message.specs.declared.Layout.{Layout}
 use Rattle.message.proofs.Fields.{field_room}
 use Rattle.cells.specs.Cells.{chunk_of, Open, OpenAt, SameBut, Under, found}
 use Rattle.cells.specs.declared.Cells.{Cells}
-use Rattle.cells.proofs.State.{same_or_not, open-before}
+use Rattle.cells.proofs.State.{same_or_not, open_before}
 
 -- a place in row order is that of one chunk only
 pub one_chunk : (w i c k j : ℕ) → c < w → j < w → i * w + c ≡ k * w + j → (i ≡ k) × (c ≡ j)
@@ -20,8 +20,8 @@ one_chunk w i c k j h g e =
     let s : i ≡ k =
     ⊎_elim
     (λ a. absurd (omega (arith, field_room k w i a)))
-    (λ a. ⊎_elim (λ b. absurd (omega (arith, field_room i w k b))) (λ b. omega arith) (lt-or-ge k i))
-    (lt-or-ge i k)
+    (λ a. ⊎_elim (λ b. absurd (omega (arith, field_room i w k b))) (λ b. omega arith) (lt_or_ge k i))
+    (lt_or_ge i k)
     in
     (s, omega (arith, ap (λ (n : ℕ). n * w) s))
 
@@ -29,17 +29,17 @@ module _ {l : Layout} {free : ℕ → ℕ → Type 0} where
   pub same_refl : {row : List ℕ} → SameBut l free row row
   same_refl = record { at = λ i c h g. inr refl }
 
-  pub same-sym : {a b : List ℕ} → SameBut l free a b → SameBut l free b a
-  same-sym s = record { at = λ i c h g. ⊎_elim inl (λ e. inr (sym e)) (s.at i c h g) }
+  pub same_sym : {a b : List ℕ} → SameBut l free a b → SameBut l free b a
+  same_sym s = record { at = λ i c h g. ⊎_elim inl (λ e. inr (sym e)) (s.at i c h g) }
 
-  pub same-trans : {a b d : List ℕ} → SameBut l free a b → SameBut l free b d → SameBut l free a d
-  same-trans s t =
+  pub same_trans : {a b d : List ℕ} → SameBut l free a b → SameBut l free b d → SameBut l free a d
+  same_trans s t =
       record { at = λ i c h g. ⊎_elim inl (λ e. ⊎_elim inl (λ f. inr (f ∙ e)) (t.at i c h g)) (s.at i c h g) }
 
   -- more places may be free
-  pub same-wider : {wide : ℕ → ℕ → Type 0} → ((i c : ℕ) → i < l.l1 → c < l.l2 → free i c → wide i c)
+  pub same_wider : {wide : ℕ → ℕ → Type 0} → ((i c : ℕ) → i < l.l1 → c < l.l2 → free i c → wide i c)
       → {a b : List ℕ} → SameBut l free a b → SameBut l wide a b
-  same-wider w s = record { at = λ i c h g. ⊎_elim (λ f. inl (w i c h g f)) inr (s.at i c h g) }
+  same_wider w s = record { at = λ i c h g. ⊎_elim (λ f. inl (w i c h g f)) inr (s.at i c h g) }
 
   -- a free place may be set
   pub same_set : (i c v : ℕ) → c < l.l2 → free i c → {a b : List ℕ} → SameBut l free a b
@@ -57,7 +57,7 @@ module _ {l : Layout} {free : ℕ → ℕ → Type 0} where
 
 -- the cells that are open when one is found were open before
 pub still_open : (cells : Cells) (z i c : ℕ) → OpenAt (found cells z) i c → OpenAt cells i c
-still_open cells z i c o = (o.0, ((open-before cells z o.0 o.1.0).1, o.1.1))
+still_open cells z i c o = (o.0, ((open_before cells z o.0 o.1.0).1, o.1.1))
 
 -- the chunk of an open cell may be set
 pub cell_set : (l : Layout) (cells : Cells) (z v : ℕ) → Open cells z → get_or cells.column z 0 < l.l2 → {row : List ℕ}
@@ -68,10 +68,10 @@ cell_set l cells z v o low =
 -- what is free once a cell is found was free before
 pub same-found : {l : Layout} (cells : Cells) (z : ℕ) {a b : List ℕ} → SameBut l (OpenAt (found cells z)) a b
     → SameBut l (OpenAt cells) a b
-same-found cells z = same-wider (λ i c h g. still_open cells z i c)
+same-found cells z = same_wider (λ i c h g. still_open cells z i c)
 
--- the rows under a state are the same for rows in hand that are the same but for the open cells; `same-sym` gives the
+-- the rows under a state are the same for rows in hand that are the same but for the open cells; `same_sym` gives the
 -- other way
 pub under_same : {l : Layout} {y : List ℕ} {cells : Cells} {row other x : List ℕ} → SameBut l (OpenAt cells) row other
     → Under l y cells row x → Under l y cells other x
-under_same s u = record { decided = same-trans (same-sym s) u.decided; loses = u.loses }
+under_same s u = record { decided = same_trans (same_sym s) u.decided; loses = u.loses }

@@ -9,7 +9,7 @@ use borrow.Author.Tests.{eq-eqb, eqb-true}
 use lib.Dec.{eqb}
 use lib.ListN.{length, get_or, drop, set, drop_of_length-le}
 use lib.Seq.{drop-cons}
-use Rattle.consistent.specs.Greedy.{inAll}
+use Rattle.consistent.specs.Greedy.{in_all}
 use Rattle.cells.specs.Cells.{share, NoSingle, SingleAt}
 
 -- ---- cell by cell
@@ -34,18 +34,18 @@ share-most (k ∷ keys) (a ∷ lost) key zero h e = rw (eq-eqb k key e) (omega a
 share-most (k ∷ keys) (a ∷ lost) key (suc z) h e = omega (arith, share-most keys lost key z (omega arith) e)
 
 -- two cells of one key share its losses
-pub share-two : (keys lost : List ℕ) (key z w : ℕ) → z < length keys → w < length keys → (z ≡ w → ⊥) → get_or keys z 0 ≡ key
+pub share_two : (keys lost : List ℕ) (key z w : ℕ) → z < length keys → w < length keys → (z ≡ w → ⊥) → get_or keys z 0 ≡ key
     → get_or keys w 0 ≡ key → get_or lost z 0 + get_or lost w 0 ≤ share keys lost key
 unfolding share
-share-two [] lost key z w h g n e f = absurd (omega arith)
-share-two (k ∷ keys) [] key z w h g n e f = omega arith
-share-two (k ∷ keys) (a ∷ lost) key zero zero h g n e f = absurd (n refl)
-share-two (k ∷ keys) (a ∷ lost) key zero (suc w) h g n e f =
+share_two [] lost key z w h g n e f = absurd (omega arith)
+share_two (k ∷ keys) [] key z w h g n e f = omega arith
+share_two (k ∷ keys) (a ∷ lost) key zero zero h g n e f = absurd (n refl)
+share_two (k ∷ keys) (a ∷ lost) key zero (suc w) h g n e f =
     rw (eq-eqb k key e) (omega (arith, share-most keys lost key w (omega arith) f))
-share-two (k ∷ keys) (a ∷ lost) key (suc z) zero h g n e f =
+share_two (k ∷ keys) (a ∷ lost) key (suc z) zero h g n e f =
     rw (eq-eqb k key f) (omega (arith, share-most keys lost key z (omega arith) e))
-share-two (k ∷ keys) (a ∷ lost) key (suc z) (suc w) h g n e f =
-    omega (arith, share-two keys lost key z w (omega arith) (omega arith) (λ p. n (ap suc p)) e f)
+share_two (k ∷ keys) (a ∷ lost) key (suc z) (suc w) h g n e f =
+    omega (arith, share_two keys lost key z w (omega arith) (omega arith) (λ p. n (ap suc p)) e f)
 
 -- where a key has losses, one of its cells has
 pub share-some : (keys lost : List ℕ) (key : ℕ) → 0 < share keys lost key
@@ -98,24 +98,24 @@ module _ (keys lost : List ℕ) (key : ℕ) where
   pub share-one : share keys lost key ≡ 1 → (z : ℕ) → z < length keys → get_or keys z 0 ≡ key → 0 < get_or lost z 0
       → (get_or lost z 0 ≡ 1) × ((w : ℕ) → w < length keys → (w ≡ z → ⊥) → get_or keys w 0 ≡ key → get_or lost w 0 ≡ 0)
   share-one s z h e p =
-      (omega (arith, share-most keys lost key z h e), λ w g n f. omega (arith, share-two keys lost key w z g h n f e))
+      (omega (arith, share-most keys lost key z h e), λ w g n f. omega (arith, share_two keys lost key w z g h n f e))
 
   -- and there is that cell
-  pub share-single : share keys lost key ≡ 1
+  pub share_single : share keys lost key ≡ 1
       → (z : ℕ) × ((z < length keys) × ((get_or keys z 0 ≡ key) × (get_or lost z 0 ≡ 1)))
-  share-single s =
+  share_single s =
       let q = share-some keys lost key (omega arith) in
       (q.0, (q.1.0, (q.1.1.0, (share-one s q.0 q.1.0 q.1.1.0 q.1.1.1).0)))
 
 -- where no cell is the only loss of its key, no key has one loss
-pub none-single : (keys lost : List ℕ) → ((z : ℕ) → z < length keys → SingleAt keys lost z → ⊥) → NoSingle keys lost
-none-single keys lost n key s =
-    let q = share-single keys lost key s in
+pub none_single : (keys lost : List ℕ) → ((z : ℕ) → z < length keys → SingleAt keys lost z → ⊥) → NoSingle keys lost
+none_single keys lost n key s =
+    let q = share_single keys lost key s in
     n q.0 q.1.0 (record { one = q.1.1.1; alone = rw q.1.1.0 s })
 
 -- the losses that are still open fall by those of a cell that is found
-pub all_found : (lost : List ℕ) (z : ℕ) → inAll (set lost z 0) + get_or lost z 0 ≡ inAll lost
-unfolding inAll
+pub all_found : (lost : List ℕ) (z : ℕ) → in_all (set lost z 0) + get_or lost z 0 ≡ in_all lost
+unfolding in_all
 all_found [] z = refl
 all_found (a ∷ lost) zero = omega arith
 all_found (a ∷ lost) (suc z) = omega (arith, all_found lost z)

@@ -11,7 +11,7 @@ use lib.Dec.{eqb}
 use lib.ListN.{length, get_or, set, drop, length-set}
 use lib.Seq.{get_or-set_same, get_or-set_other}
 use Rattle.bits.specs.Bits.{digits, number}
-use Rattle.bits.proofs.Laws.{lt-or-ge}
+use Rattle.bits.proofs.Laws.{lt_or_ge}
 use Rattle.vt.specs.Ones.{ones}
 use Rattle.message.specs.declared.Layout.{Layout}
 use Rattle.message.proofs.Legal.{Lies, chunk_lies}
@@ -21,19 +21,19 @@ use Rattle.states.specs.declared.Shape.{Shape}
 use Rattle.states.proofs.States.{stride_up}
 use Rattle.weigh.specs.Weigh.{Wider}
 use Rattle.weigh.specs.declared.Span.{Span}
-use Rattle.weigh.proofs.Spans.{ones-between, one-wider}
-use Rattle.column.specs.Column.{chunkAt, value_at, Crosses}
+use Rattle.weigh.proofs.Spans.{ones_between, one_wider}
+use Rattle.column.specs.Column.{chunk_at, value_at, Crosses}
 use Rattle.column.specs.declared.Heavy.{Heavy}
-use Rattle.column.proofs.Rows.{no-loss}
-use Rattle.choices.specs.Choices.{Fitted, Seeable, Viewed, mostChoices, Keeps, Put, Small, bringsAt, Suits}
+use Rattle.column.proofs.Rows.{no_loss}
+use Rattle.choices.specs.Choices.{Fitted, Seeable, Viewed, most_choices, Keeps, Put, Small, brings_at, Suits}
 use Rattle.choices.specs.Choices.{ChoicesOf, Blocks}
 use Rattle.choices.specs.declared.View.{View}
 
 -- ---- where a chunk lies
 -- the chunk of heavy block s in column j, the block being number i
-pub chunk-is : {l : Layout} {y totals counts : List ℕ} {heavy : Heavy} {j : ℕ} → Seeable l y totals counts heavy j
+pub chunk_is : {l : Layout} {y totals counts : List ℕ} {heavy : Heavy} {j : ℕ} → Seeable l y totals counts heavy j
     → (s i : ℕ) → s < heavy.n → i ≡ get_or heavy.block s 0 → Lies l i j
-chunk-is {l} {heavy = heavy} {j} g s i h e =
+chunk_is {l} {heavy = heavy} {j} g s i h e =
     rw e (chunk_lies l g.allowed (get_or heavy.block s 0) j (g.blocks s h) g.column)
 
 -- ---- choices are listed
@@ -41,7 +41,7 @@ module _ {t : ℕ} {entry exit : List ℕ} (k : Keeps t entry exit) where
   kept_small : (top u : ℕ) → u < t → Small entry top u → Small exit top u
   kept_small top u h s =
       record {
-        adds-small = rw (k.before (4 * u) (omega arith)) s.adds-small;
+        adds_small = rw (k.before (4 * u) (omega arith)) s.adds_small;
         least-small = rw (k.before (4 * u + 1) (omega arith)) s.least-small;
         most-small = rw (k.before (4 * u + 2) (omega arith)) s.most-small;
         other-small = rw (k.before (4 * u + 3) (omega arith)) s.other-small;
@@ -51,7 +51,7 @@ module _ {t : ℕ} {entry exit : List ℕ} (k : Keeps t entry exit) where
       → Suits l heavy z vs j b entry adds u → Suits l heavy z vs j b exit adds u
   kept-suits u h s =
       record {
-        adds-just = k.before (4 * u) (omega arith) ∙ s.adds-just;
+        adds_just = k.before (4 * u) (omega arith) ∙ s.adds_just;
         least = rw (k.before (4 * u + 1) (omega arith)) s.least;
         most = rw (k.before (4 * u + 2) (omega arith)) s.most;
         other = rw (k.before (4 * u + 3) (omega arith)) s.other;
@@ -74,16 +74,16 @@ module _ (choices : List ℕ) (t adds : ℕ) (span : Span) (other : ℕ) (long :
   pub one-long : length one ≡ length choices
   one-long = length-set choices (4 * t) adds
 
-  pub two-long : length two ≡ length choices
-  two-long = length-set one (4 * t + 1) span.low ∙ one-long
+  pub two_long : length two ≡ length choices
+  two_long = length-set one (4 * t + 1) span.low ∙ one-long
 
-  pub three-long : length three ≡ length choices
-  three-long = length-set two (4 * t + 2) span.high ∙ two-long
+  pub three_long : length three ≡ length choices
+  three_long = length-set two (4 * t + 2) span.high ∙ two_long
 
-  pub four-keeps : Keeps t choices four
-  four-keeps =
+  pub four_keeps : Keeps t choices four
+  four_keeps =
       record {
-        long = length-set three (4 * t + 3) other ∙ three-long;
+        long = length-set three (4 * t + 3) other ∙ three_long;
         before = λ i h.
             get_or-set_other three (4 * t + 3) i other 0 (λ e. omega (arith, e))
             ∙ get_or-set_other two (4 * t + 2) i span.high 0 (λ e. omega (arith, e))
@@ -91,22 +91,22 @@ module _ (choices : List ℕ) (t adds : ℕ) (span : Span) (other : ℕ) (long :
             ∙ get_or-set_other choices (4 * t) i adds 0 (λ e. omega (arith, e));
       }
 
-  pub four-put : Put t adds span other four
-  four-put =
+  pub four_put : Put t adds span other four
+  four_put =
       record {
-        adds-is =
+        adds_is =
             get_or-set_other three (4 * t + 3) (4 * t) other 0 (λ e. omega (arith, e))
             ∙ get_or-set_other two (4 * t + 2) (4 * t) span.high 0 (λ e. omega (arith, e))
             ∙ get_or-set_other one (4 * t + 1) (4 * t) span.low 0 (λ e. omega (arith, e))
             ∙ get_or-set_same choices (4 * t) adds 0 (omega arith);
-        least-is =
+        least_is =
             get_or-set_other three (4 * t + 3) (4 * t + 1) other 0 (λ e. omega (arith, e))
             ∙ get_or-set_other two (4 * t + 2) (4 * t + 1) span.high 0 (λ e. omega (arith, e))
             ∙ get_or-set_same one (4 * t + 1) span.low 0 (omega (arith, one-long));
-        most-is =
+        most_is =
             get_or-set_other three (4 * t + 3) (4 * t + 2) other 0 (λ e. omega (arith, e))
-            ∙ get_or-set_same two (4 * t + 2) span.high 0 (omega (arith, two-long));
-        other-is = get_or-set_same three (4 * t + 3) other 0 (omega (arith, three-long));
+            ∙ get_or-set_same two (4 * t + 2) span.high 0 (omega (arith, two_long));
+        other_is = get_or-set_same three (4 * t + 3) other 0 (omega (arith, three_long));
       }
 
 pub keeps_same : (t : ℕ) (choices : List ℕ) → Keeps t choices choices
@@ -142,7 +142,7 @@ module _ {l : Layout} {y : List ℕ} {heavy : Heavy} {z : List ℕ} {j b left on
   listed_then {low = low} {mid} {high} p q parts =
       record {
         order = omega (arith, p.order, q.order);
-        small = λ t a c. ⊎_elim (λ (h : t < mid). p.small t a h) (λ (h : mid ≤ t). q.small t h c) (lt-or-ge t mid);
+        small = λ t a c. ⊎_elim (λ (h : t < mid). p.small t a h) (λ (h : mid ≤ t). q.small t h c) (lt_or_ge t mid);
         offers = λ numbers row vs own next e x r.
             ⊎_elim
             (λ u. let o = p.offers numbers row vs own next e x u in
@@ -153,12 +153,12 @@ module _ {l : Layout} {y : List ℕ} {heavy : Heavy} {z : List ℕ} {j b left on
       }
 
   -- the same choices for fewer rows
-  pub listed-weaken : {P Q : (next : ℕ → ℕ) (vs : List ℕ) → Type 0} {choices : List ℕ} {low high : ℕ}
+  pub listed_weaken : {P Q : (next : ℕ → ℕ) (vs : List ℕ) → Type 0} {choices : List ℕ} {low high : ℕ}
       → ChoicesOf l y heavy z j b left one choices low high P
       → ((numbers row vs : List ℕ) (own next : ℕ → ℕ) → own b ≡ left → Crosses l y numbers heavy row j own next vs
       → Q next vs → P next vs)
       → ChoicesOf l y heavy z j b left one choices low high Q
-  listed-weaken p why =
+  listed_weaken p why =
       record {
         order = p.order;
         small = p.small;
@@ -198,13 +198,13 @@ module _ {l : Layout} {y : List ℕ} {heavy : Heavy} {z : List ℕ} {j : ℕ} (l
       let e : d ≡ b = omega arith in
       let same : get_or (set from (b + 1) end) b 0 ≡ get_or from b 0 = rw e at own in
       rw (e, last, same) (omega arith, new))
-      (lt-or-ge d b)
+      (lt_or_ge d b)
 
 -- what the losses of a block add to the number of a state is small
-pub adds-low : {heavy : Heavy} {shape : Shape} {left : List ℕ} → Fitted heavy shape left → (b : ℕ) → b < heavy.n
+pub adds_low : {heavy : Heavy} {shape : Shape} {left : List ℕ} → Fitted heavy shape left → (b : ℕ) → b < heavy.n
     → get_or left b 0 * get_or shape.stride b 0 ≤ 65535
 unfolding stride
-adds-low {heavy} {shape} {left} f b h =
+adds_low {heavy} {shape} {left} f b h =
     let k : b < shape.n = omega (arith, h, f.blocks) in
     let top = mul-le-mul_right (stride (each shape.size) b) (f.within b k) in
     let up = stride_up (each shape.size) (suc b) shape.n k in
@@ -222,13 +222,13 @@ below-rises a zero h = let e : a ≡ 0 = omega arith in rw e (omega arith)
 below-rises a (suc b) h =
     ⊎_elim (λ (k : a < suc b). omega (arith, below-rises a b (omega arith)))
     (λ (k : suc b ≤ a). let e : a ≡ suc b = omega arith in rw e (omega arith))
-    (lt-or-ge a (suc b))
+    (lt_or_ge a (suc b))
 
 pub below_next : (a : ℕ) → below (a + 1) ≡ below a + (a + 1)
 unfolding below
 below_next a = ap below (add-one a)
 
-pub below-most : (a : ℕ) → a ≤ 9 → below a ≤ mostChoices
+pub below-most : (a : ℕ) → a ≤ 9 → below a ≤ most_choices
 unfolding below
 below-most a h = below-rises a 9 h
 
@@ -243,27 +243,27 @@ module _ {l : Layout} {y numbers : List ℕ} {heavy : Heavy} {row : List ℕ} {j
   loses : losses (digits l.nc v) (drop view.at y) ≡ a
   loses =
       ap (λ (p : ℕ). losses (digits l.nc v) (drop p y))
-      (see.place ∙ ap (λ (k : ℕ). chunkAt l heavy j b * l.nc + k - get_or heavy.end b 0) (sym e))
+      (see.place ∙ ap (λ (k : ℕ). chunk_at l heavy j b * l.nc + k - get_or heavy.end b 0) (sym e))
       ∙ x.loses b h ∙ omega (arith, lost, e)
 
   -- where it loses no bit it is as it is read
   pub as_read : a ≡ 0 → v ≡ number l.nc (drop view.at y)
-  as_read none = no-loss l.nc v (drop view.at y) (x.small b h) (loses ∙ none)
+  as_read none = no_loss l.nc v (drop view.at y) (x.small b h) (loses ∙ none)
 
   -- it has at least the first number of ones more than the bits that it takes, and at most the last
   pub ones-first : view.seen.ones + view.first ≤ ones (digits l.nc v)
-  ones-first = (ones-between l.nc a v view.at y see.few loses see.seen see.more).0
+  ones-first = (ones_between l.nc a v view.at y see.few loses see.seen see.more).0
 
   pub ones-last : ones (digits l.nc v) ≤ view.seen.ones + view.last
-  ones-last = (ones-between l.nc a v view.at y see.few loses see.seen see.more).1
+  ones-last = (ones_between l.nc a v view.at y see.few loses see.seen see.more).1
 
   -- with just g of them, what it brings is in the span
   in_span : (g : ℕ) (none span : Span) → none.low ≡ 0 → none.high ≡ 0 → ones (digits l.nc v) ≡ view.seen.ones + g
       → Wider l.nc (get_or heavy.block b 0 * l.nc) a view.seen g none span
-      → (span.low ≤ 2 * bringsAt l heavy vs j b) × (2 * bringsAt l heavy vs j b ≤ span.high)
+      → (span.low ≤ 2 * brings_at l heavy vs j b) × (2 * brings_at l heavy vs j b ≤ span.high)
   in_span g none span p q just w =
       let one =
-      one-wider l.nc (get_or heavy.block b 0 * l.nc) a v (drop view.at y) loses view.seen g none span
+      one_wider l.nc (get_or heavy.block b 0 * l.nc) a v (drop view.at y) loses view.seen g none span
       see.few see.seen just w in
       (omega (arith, one, p), omega (arith, one, q))
 
@@ -272,7 +272,7 @@ pub listed-one : {l : Layout} {y : List ℕ} {heavy : Heavy} {z : List ℕ} {j b
     (view : View) (none span : Span) (adds other : ℕ) {exit : List ℕ} {t : ℕ} → none.low ≡ 0 → none.high ≡ 0 → a ≤ left
     → Viewed l y heavy j b left a view → Wider l.nc (get_or heavy.block b 0 * l.nc) a view.seen g none span
     → ((u : ℕ) → (a ≡ 0 → u ≡ number l.nc (drop view.at y))
-    → cond (eqb u (get_or z (chunkAt l heavy j b) 0)) 0 1 ≤ other)
+    → cond (eqb u (get_or z (chunk_at l heavy j b) 0)) 0 1 ≤ other)
     → other ≤ 1 → adds ≡ (left - a) * one → Put t adds span other exit
     → ChoicesOf l y heavy z j b left one exit t (t + 1)
     (λ next vs. (left ≡ next b + a) × (ones (digits l.nc (value_at l heavy vs j b)) ≡ view.seen.ones + g))
@@ -284,10 +284,10 @@ listed-one {l} {y} {heavy} {z} {j} {b} {left} {one} h a g view none span adds ot
           let same : u ≡ t = omega arith in
           let top : (left - a) * one ≤ left * one = mul-le-mul_right one (omega arith) in
           rw same (record {
-            adds-small = omega (arith, put.adds-is, is, top);
-            least-small = omega (arith, put.least-is, w.low_small, p);
-            most-small = omega (arith, put.most-is, w.high_small, q);
-            other-small = omega (arith, put.other-is, low);
+            adds_small = omega (arith, put.adds_is, is, top);
+            least-small = omega (arith, put.least_is, w.low_small, p);
+            most-small = omega (arith, put.most_is, w.high_small, q);
+            other-small = omega (arith, put.other_is, low);
           });
       offers = λ numbers row vs own next e x r.
           let has = in_span x h e a r.0 see g none span p q r.1 w in
@@ -297,10 +297,10 @@ listed-one {l} {y} {heavy} {z} {j} {b} {left} {one} h a g view none span adds ot
             (
               (omega arith, omega arith),
               record {
-                adds-just = put.adds-is ∙ is ∙ its;
-                least = omega (arith, put.least-is, has);
-                most = omega (arith, put.most-is, has);
-                other = omega (arith, put.other-is, like-own);
+                adds_just = put.adds_is ∙ is ∙ its;
+                least = omega (arith, put.least_is, has);
+                most = omega (arith, put.most_is, has);
+                other = omega (arith, put.other_is, like-own);
               },
             ),
           );

@@ -7,11 +7,11 @@ use Rattle.message.specs.Layout.{legal}
 use Rattle.message.specs.declared.Layout.{Layout}
 use Rattle.windows.specs.Windows.{Tables}
 use Rattle.lines.specs.Lines.{unlike}
-use Rattle.states.specs.States.{each, mostStates, Shaped}
+use Rattle.states.specs.States.{each, most_states, Shaped}
 use Rattle.states.specs.declared.Shape.{Shape}
-use Rattle.weigh.specs.Weigh.{chunkTop, SeenIn, MoreOnes}
+use Rattle.weigh.specs.Weigh.{chunk_top, SeenIn, MoreOnes}
 use Rattle.weigh.specs.declared.Span.{Span}
-use Rattle.column.specs.Column.{chunkAt, value_at, Crosses}
+use Rattle.column.specs.Column.{chunk_at, value_at, Crosses}
 use Rattle.column.specs.declared.Heavy.{Heavy}
 use Rattle.choices.specs.declared.View.{View}
 
@@ -19,7 +19,7 @@ use Rattle.choices.specs.declared.View.{View}
 pub record Fitted (heavy : Heavy) (shape : Shape) (left : List ℕ) : Type 0 where
   pub blocks : shape.n ≡ heavy.n
   pub shaped : Shaped shape.n shape.size shape.stride shape.states
-  pub states : shape.states ≤ mostStates
+  pub states : shape.states ≤ most_states
   pub within : (s : ℕ) → s < shape.n → get_or left s 0 ≤ each shape.size s
 
 -- what is looked at: a received row with its tables, and heavy blocks of a layout
@@ -36,7 +36,7 @@ pub record Seeable (l : Layout) (y totals counts : List ℕ) (heavy : Heavy) (j 
 -- start that it takes, their ones, and how many more it can have
 pub record Viewed (l : Layout) (y : List ℕ) (heavy : Heavy) (j s left a : ℕ) (view : View) : Type 0 where
   pub few : a ≤ l.nc
-  pub place : view.at ≡ chunkAt l heavy j s * l.nc + left - get_or heavy.end s 0
+  pub place : view.at ≡ chunk_at l heavy j s * l.nc + left - get_or heavy.end s 0
   pub there : view.at + l.nc ≤ length y + a
   pub seen : SeenIn (take (l.nc - a) (drop view.at y)) (l.nc - a) view.seen
   pub more : MoreOnes y view.at (l.nc - a) a view.first view.last
@@ -46,14 +46,14 @@ pub record Viewed (l : Layout) (y : List ℕ) (heavy : Heavy) (j s left a : ℕ)
 -- the number of the state after the column, twice the least and twice the greatest that the chunk brings, and 1 if the
 -- chunk can be another than in z. A block has few of them: its chunk loses none to eight bits, and none to all of these are
 -- ones.
-abbrev pub mostChoices : ℕ
-mostChoices = 45
+abbrev pub most_choices : ℕ
+most_choices = 45
 
-abbrev pub addsOf : (choices : List ℕ) (t : ℕ) → ℕ
-addsOf choices t = get_or choices (4 * t) 0
+abbrev pub adds_of : (choices : List ℕ) (t : ℕ) → ℕ
+adds_of choices t = get_or choices (4 * t) 0
 
-abbrev pub leastOf : (choices : List ℕ) (t : ℕ) → ℕ
-leastOf choices t = get_or choices (4 * t + 1) 0
+abbrev pub least_of : (choices : List ℕ) (t : ℕ) → ℕ
+least_of choices t = get_or choices (4 * t + 1) 0
 
 abbrev pub most_of : (choices : List ℕ) (t : ℕ) → ℕ
 most_of choices t = get_or choices (4 * t + 2) 0
@@ -68,28 +68,28 @@ pub record Keeps (t : ℕ) (entry exit : List ℕ) : Type 0 where
 
 -- the numbers of choice t, where it is put
 pub record Put (t adds : ℕ) (span : Span) (other : ℕ) (exit : List ℕ) : Type 0 where
-  pub adds-is : addsOf exit t ≡ adds
-  pub least-is : leastOf exit t ≡ span.low
-  pub most-is : most_of exit t ≡ span.high
-  pub other-is : other_of exit t ≡ other
+  pub adds_is : adds_of exit t ≡ adds
+  pub least_is : least_of exit t ≡ span.low
+  pub most_is : most_of exit t ≡ span.high
+  pub other_is : other_of exit t ≡ other
 
 -- a choice of a block whose losses add so much at most
 pub record Small (choices : List ℕ) (top t : ℕ) : Type 0 where
-  pub adds-small : addsOf choices t ≤ top
-  pub least-small : leastOf choices t ≤ chunkTop
-  pub most-small : most_of choices t ≤ chunkTop
+  pub adds_small : adds_of choices t ≤ top
+  pub least-small : least_of choices t ≤ chunk_top
+  pub most-small : most_of choices t ≤ chunk_top
   pub other-small : other_of choices t ≤ 1
 
 -- what the chunk of heavy block b in column j brings to the sum of its chunk-string in a row with the chunks vs
-abbrev pub bringsAt : Layout → Heavy → (vs : List ℕ) (j b : ℕ) → ℕ
-bringsAt l heavy vs j b = total (get_or heavy.block b 0 * l.nc + 1) (digits l.nc (value_at l heavy vs j b))
+abbrev pub brings_at : Layout → Heavy → (vs : List ℕ) (j b : ℕ) → ℕ
+brings_at l heavy vs j b = total (get_or heavy.block b 0 * l.nc + 1) (digits l.nc (value_at l heavy vs j b))
 
 -- a choice is that of the chunk of heavy block b in column j of a row with the chunks vs, and adds so much
 pub record Suits (l : Layout) (heavy : Heavy) (z vs : List ℕ) (j b : ℕ) (choices : List ℕ) (adds t : ℕ) : Type 0 where
-  pub adds-just : addsOf choices t ≡ adds
-  pub least : leastOf choices t ≤ 2 * bringsAt l heavy vs j b
-  pub most : 2 * bringsAt l heavy vs j b ≤ most_of choices t
-  pub other : unlike vs z (chunkAt l heavy j b) ≤ other_of choices t
+  pub adds_just : adds_of choices t ≡ adds
+  pub least : least_of choices t ≤ 2 * brings_at l heavy vs j b
+  pub most : 2 * brings_at l heavy vs j b ≤ most_of choices t
+  pub other : unlike vs z (chunk_at l heavy j b) ≤ other_of choices t
 
 -- one of the choices from low on, below high, is that
 abbrev pub Offers : Layout → Heavy → (z vs : List ℕ) (j b : ℕ) (choices : List ℕ) (adds low high : ℕ) → Type 0

@@ -1,9 +1,9 @@
 // What the chunk of each heavy block can be in a column, from a loss state, listed as choices. Contracts cite specs/Choices.antt.
 ghost use Rattle.std.specs.Prelude.{◌≡◌, true, false, ◌+◌, ◌-◌, ◌*◌, ◌<◌, ◌≤◌, length, get_or};
 ghost use Rattle.states.specs.States.{stride, each};
-ghost use Rattle.weigh.specs.Weigh.{chunkTop};
-ghost use Rattle.column.specs.Column.{chunkAt, Readable};
-ghost use Rattle.choices.specs.Choices.{Fitted, Seeable, Viewed, mostChoices, Keeps, Put, ChoicesOf, Blocks};
+ghost use Rattle.weigh.specs.Weigh.{chunk_top};
+ghost use Rattle.column.specs.Column.{chunk_at, Readable};
+ghost use Rattle.choices.specs.Choices.{Fitted, Seeable, Viewed, most_choices, Keeps, Put, ChoicesOf, Blocks};
 
 use column::Heavy;
 use message::Layout;
@@ -49,7 +49,7 @@ fn look_at(
 ) -> View
     requires { Seeable l y.now totals.now counts.now heavy j × ((s < heavy.n) × (a ≤ left)) }
     ensures { (result.ok ≡ true → Viewed l y.now heavy j s left a result)
-        × (Readable l.nc (length y.now) (chunkAt l heavy j s * l.nc + left) (get_or heavy.end s 0) left
+        × (Readable l.nc (length y.now) (chunk_at l heavy j s * l.nc + left) (get_or heavy.end s 0) left
         (left - a) → result.ok ≡ true) }
 {
     let nc = l.nc;
@@ -77,7 +77,7 @@ pub const NUMBERS: usize = 1080;
 
 // Puts choice t: what it adds to the number of the state, what the chunk brings, and whether it can be another than in z.
 fn put_choice(choices: &mut [u16], t: usize, adds: usize, span: Span, other: u8)
-    requires { (4 * t + 4 ≤ length choices.old) × ((adds ≤ 65535) × ((span.low ≤ chunkTop) × (span.high ≤ chunkTop))) }
+    requires { (4 * t + 4 ≤ length choices.old) × ((adds ≤ 65535) × ((span.low ≤ chunk_top) × (span.high ≤ chunk_top))) }
     ensures { Keeps t choices.old choices.new
         × Put t adds span other choices.new }
 {
@@ -151,8 +151,8 @@ fn list_block(
     t: usize,
 ) -> usize
     requires { (Seeable l y.now totals.now counts.now heavy j × (l.l1 * l.l2 ≤ length z.now))
-        × ((b < heavy.n) × ((left * one ≤ 65535) × (4 * (t + mostChoices) ≤ length choices.old))) }
-    ensures { (Keeps t choices.old choices.new × (result ≤ t + mostChoices))
+        × ((b < heavy.n) × ((left * one ≤ 65535) × (4 * (t + most_choices) ≤ length choices.old))) }
+    ensures { (Keeps t choices.old choices.new × (result ≤ t + most_choices))
         × ChoicesOf l y.now heavy z.now j b left one choices.new t result
         (λ next vs. next b ≤ left) }
 {
@@ -182,8 +182,8 @@ pub fn list_choices(
     choices: &mut [u16],
 ) -> [usize; 7]
     requires { (Seeable l y.now totals.now counts.now heavy j × (l.l1 * l.l2 ≤ length z.now))
-        × (Fitted heavy shape left × (4 * (6 * mostChoices) ≤ length choices.old)) }
-    ensures { (length choices.new ≡ length choices.old) × ((get_or result heavy.n 0 ≤ 6 * mostChoices)
+        × (Fitted heavy shape left × (4 * (6 * most_choices) ≤ length choices.old)) }
+    ensures { (length choices.new ≡ length choices.old) × ((get_or result heavy.n 0 ≤ 6 * most_choices)
         × Blocks l y.now heavy z.now j (each left) (stride (each shape.size)) choices.new result
         heavy.n) }
 {

@@ -1,11 +1,11 @@
 // One column of a row whose heavy blocks are read from the received row at a loss state: whether it can have its sum,
 // and in how many chunks it can differ from another row. Contracts cite specs/Column.antt.
 ghost use Rattle.std.specs.Prelude.{◌≡◌, true, cond, List, ℕ, ◌+◌, ◌-◌, ◌*◌, ◌%◌, ◌<◌, ◌≤◌, eqb, length, get_or, drop};
-ghost use Rattle.bits.specs.Bits.{AllBits, longest, longestLine, number};
+ghost use Rattle.bits.specs.Bits.{AllBits, longest, longest_line, number};
 ghost use Rattle.message.specs.Layout.{legal};
 ghost use Rattle.states.specs.States.{each};
 ghost use Rattle.windows.specs.Windows.{Tables};
-ghost use Rattle.column.specs.Column.{Fit, Zeroed, Cleared, Light, Crosses, apartIn};
+ghost use Rattle.column.specs.Column.{Fit, Zeroed, Cleared, Light, Crosses, apart_in};
 ghost use Rattle.column.specs.Column.{PlaceOf, readable, Placed, Within, AsRead};
 
 use message::Layout;
@@ -161,7 +161,7 @@ pub fn find_chunks(
 
 // What is still to be brought to a sum, modulo the modulus, where a part of it is there.
 pub fn missing(whole: usize, part: usize, modulus: usize) -> usize
-    requires { (whole < modulus) × (modulus ≤ longestLine + 1) }
+    requires { (whole < modulus) × (modulus ≤ longest_line + 1) }
     ensures { (result < modulus) × ((b : ℕ) → part < modulus → (part + b) % modulus ≡ whole → b % modulus ≡ result) }
 {
     if part <= whole {
@@ -220,7 +220,7 @@ fn others(
     requires { (Fit l y.now numbers.now heavy × Tables y.now 0 totals.now counts.now)
         × (Within l (length y.now) heavy chunks × ((j < l.l2) × (l.l1 * l.l2 ≤ length z.now))) }
     ensures { ((vs : List ℕ) → AsRead l y.now heavy chunks vs j heavy.n
-        → apartIn l heavy z.now vs j heavy.n < result) × (result ≤ 7) }
+        → apart_in l heavy z.now vs j heavy.n < result) × (result ≤ 7) }
 {
     let n = heavy.n;
     let nc = l.nc;
@@ -254,7 +254,7 @@ pub fn crossing(
         × ((l.l2 ≤ length known.now) × (l.l1 * l.l2 ≤ length z.now)))) }
     ensures { ((row vs : List ℕ) → Light l heavy row known.now
         → Crosses l y.now numbers.now heavy row j (each left) (each next) vs
-        → apartIn l heavy z.now vs j heavy.n < result) × (result ≤ 7) }
+        → apart_in l heavy z.now vs j heavy.n < result) × (result ≤ 7) }
 {
     let found = find_chunks(l, y, numbers, heavy, j, left, next);
     if !found.ok {

@@ -11,15 +11,15 @@ use Rattle.vt.specs.Sum.{sum}
 use Rattle.vt.proofs.Mending.{unique}
 use Rattle.consistent.specs.Greedy.{eat, losses}
 use Rattle.consistent.proofs.Greedy.{losses-append, piece, whole, bits-eat}
-use Rattle.consistent.proofs.Rule.{block-not-one}
+use Rattle.consistent.proofs.Rule.{block_not_one}
 
 -- a whole block and a block with one loss have not the same sum
-whole-or-one : (a b y : List ℕ) → AllBits b → AllBits y → length a ≡ length b → sum a ≡ sum b → losses a y ≡ 0
+whole_or_one : (a b y : List ℕ) → AllBits b → AllBits y → length a ≡ length b → sum a ≡ sum b → losses a y ≡ 0
     → losses b y ≡ 1 → ⊥
-whole-or-one a b y bb bt n s p q =
+whole_or_one a b y bb bt n s p q =
     let k = piece (length b) 0 a y n p in
     let e : sum (take (length b) y) ≡ sum b = rw (← n, ← whole a y p) s in
-    block-not-one b y bb bt (omega (arith, k.within)) e q
+    block_not_one b y bb bt (omega (arith, k.within)) e q
 
 -- two blocks with the same sum and at most one loss each, against the same bits, are equal
 pub same_block : (a b y : List ℕ) → AllBits a → AllBits b → AllBits y → length a ≡ length b → sum a ≡ sum b
@@ -28,8 +28,8 @@ same_block a b y ba bb bt n s p q = go (losses a y) (losses b y) refl refl p q
   where
     go : (i j : ℕ) → losses a y ≡ i → losses b y ≡ j → i ≤ 1 → j ≤ 1 → a ≡ b
     go zero zero e f p q = whole a y e ∙ ap (λ (w : ℕ). take w y) n ∙ sym (whole b y f)
-    go zero (suc zero) e f p q = absurd (whole-or-one a b y bb bt n s e f)
-    go (suc zero) zero e f p q = absurd (whole-or-one b a y ba bt (sym n) (sym s) f e)
+    go zero (suc zero) e f p q = absurd (whole_or_one a b y bb bt n s e f)
+    go (suc zero) zero e f p q = absurd (whole_or_one b a y ba bt (sym n) (sym s) f e)
     go (suc zero) (suc zero) e f p q =
         unique a b (take (length b - 1) y) ba bb s (piece (length b) 1 a y n e).comes
         (piece (length b) 1 b y refl f).comes

@@ -11,11 +11,11 @@ use lib.ListN.{length, take, drop, length-append, take-append-drop}
 use lib.Seq.{take_at, drop_at, take_all}
 use Rattle.bits.specs.Bits.{cut, AllBits}
 use Rattle.bits.proofs.Laws.{bits-drop}
-use Rattle.rows.specs.Deletion.{comesFrom}
+use Rattle.rows.specs.Deletion.{comes_from}
 use Rattle.rows.specs.Slice.{flat}
-use Rattle.rows.proofs.Deletion.{Strikes, done, stays, struck, strikes, passes, strikes-length, strikes-none, comes-length}
+use Rattle.rows.proofs.Deletion.{Strikes, done, stays, struck, strikes, passes, strikes_length, strikes_none, comes-length}
 use Rattle.rows.proofs.Slice.{flat-cut}
-use Rattle.consistent.specs.Greedy.{eat, losses, table, inAll}
+use Rattle.consistent.specs.Greedy.{eat, losses, table, in_all}
 
 -- ---- against nothing, and one piece after another
 pub eat-none : (x : List ℕ) → eat x [] ≡ []
@@ -112,31 +112,31 @@ eat-less (b ∷ x) (d ∷ y) c h = go (eqb b c) (eqb b d) h (eat-less x (d ∷ y
     go false false h f g = f h
 
 -- and a bit more in front changes nothing of that
-eat-past : (b : ℕ) (x y : List ℕ) → eat x y ≡ [] → eat (b ∷ x) y ≡ []
+eat_past : (b : ℕ) (x y : List ℕ) → eat x y ≡ [] → eat (b ∷ x) y ≡ []
 unfolding eat
-eat-past b x [] h = refl
-eat-past b x (c ∷ y) h = go (eqb b c)
+eat_past b x [] h = refl
+eat_past b x (c ∷ y) h = go (eqb b c)
   where
     go : (t : Bool) → cond t (eat x y) (eat x (c ∷ y)) ≡ []
     go true = eat-less x y c h
     go false = h
 
-strikes-eat : {x : List ℕ} {k : ℕ} {y : List ℕ} → Strikes x k y → eat x y ≡ []
+strikes_eat : {x : List ℕ} {k : ℕ} {y : List ℕ} → Strikes x k y → eat x y ≡ []
 unfolding eat
-strikes-eat done = refl
-strikes-eat (stays {b} {k} {x} {y} s) = rw (eq-eqb b b refl) (strikes-eat s)
-strikes-eat (struck {b} {k} {x} {y} s) = eat-past b x y (strikes-eat s)
+strikes_eat done = refl
+strikes_eat (stays {b} {k} {x} {y} s) = rw (eq-eqb b b refl) (strikes_eat s)
+strikes_eat (struck {b} {k} {x} {y} s) = eat_past b x y (strikes_eat s)
 
 -- where y comes from x by deleting bits, x takes all of it
-pub comes-eat : (x : List ℕ) (k : ℕ) (y : List ℕ) → comesFrom x k y ≡ true → eat x y ≡ []
-comes-eat x k y h = strikes-eat (strikes x k y h)
+pub comes-eat : (x : List ℕ) (k : ℕ) (y : List ℕ) → comes_from x k y ≡ true → eat x y ≡ []
+comes-eat x k y h = strikes_eat (strikes x k y h)
 
 -- and loses as many bits as were deleted
-pub comes-losses : (x : List ℕ) (k : ℕ) (y : List ℕ) → comesFrom x k y ≡ true → losses x y ≡ k
+pub comes-losses : (x : List ℕ) (k : ℕ) (y : List ℕ) → comes_from x k y ≡ true → losses x y ≡ k
 comes-losses x k y h = omega (arith, ap (length {A = ℕ}) (comes-eat x k y h), length-eat x y, comes-length x k y h)
 
 -- where x takes all of y, y comes from it by deleting the bits that took nothing
-pub eat-comes : (x y : List ℕ) → eat x y ≡ [] → comesFrom x (length x - length y) y ≡ true
+pub eat-comes : (x y : List ℕ) → eat x y ≡ [] → comes_from x (length x - length y) y ≡ true
 eat-comes x y h =
     let t = taken x y in
     let k : losses x y ≡ length x - length y = omega (arith, length-eat x y, ap (length {A = ℕ}) h) in
@@ -146,13 +146,13 @@ eat-comes x y h =
 -- ---- a piece of w bits with a losses: "the next w − a bits" of the received row are what it took
 pub record Piece (w a : ℕ) (p y : List ℕ) : Type 0 where
   pub within : w - a ≤ length y
-  pub comes : comesFrom p a (take (w - a) y) ≡ true
+  pub comes : comes_from p a (take (w - a) y) ≡ true
   pub rest : eat p y ≡ drop (w - a) y
 
 pub piece : (w a : ℕ) (p y : List ℕ) → length p ≡ w → losses p y ≡ a → Piece w a p y
 piece w a p y n l =
     let t = taken p y in
-    let k : length t.bits ≡ w - a = omega (arith, strikes-length t.strikes) in
+    let k : length t.bits ≡ w - a = omega (arith, strikes_length t.strikes) in
     let e : take (w - a) y ≡ t.bits = ap (take (w - a)) t.splits ∙ take_at t.bits (eat p y) (w - a) k in
     let d : drop (w - a) y ≡ eat p y = ap (drop (w - a)) t.splits ∙ drop_at t.bits (eat p y) (w - a) k in
     record {
@@ -168,7 +168,7 @@ bits-eat p y a = rw (piece (length p) (losses p y) p y refl refl).rest (bits-dro
 -- a piece without a loss is the next bits of the received row
 pub whole : (p y : List ℕ) → losses p y ≡ 0 → p ≡ take (length p) y
 whole p y l =
-    strikes-none p (take (length p) y)
+    strikes_none p (take (length p) y)
     (strikes p 0 (take (length p) y) (rw sub-zero at (piece (length p) 0 p y refl l).comes))
 
 whole-first : (p r : List ℕ) → losses p (p ++ r) ≡ 0
@@ -184,13 +184,13 @@ reads_whole p y e =
     ap (losses p) s ∙ whole-first p (drop (length p) y)
 
 -- ---- the pieces of a row
-pub table-total : (ps : List (List ℕ)) (y : List ℕ) → inAll (table ps y) ≡ losses (flat ps) y
-unfolding inAll table flat losses
+pub table-total : (ps : List (List ℕ)) (y : List ℕ) → in_all (table ps y) ≡ losses (flat ps) y
+unfolding in_all table flat losses
 table-total [] y = refl
 table-total (p ∷ ps) y = ap (λ (n : ℕ). losses p y + n) (table-total ps (eat p y)) ∙ sym (losses-append p (flat ps) y)
 
 -- the losses of a row's pieces add up to the bits deleted
-pub table-cut : (n w k : ℕ) (x y : List ℕ) → length x ≡ n * w → comesFrom x k y ≡ true → inAll (table (cut n w x) y) ≡ k
+pub table-cut : (n w k : ℕ) (x y : List ℕ) → length x ≡ n * w → comes_from x k y ≡ true → in_all (table (cut n w x) y) ≡ k
 table-cut n w k x y e h =
     table-total (cut n w x) y ∙ ap (λ (t : List ℕ). losses t y) (flat-cut w n x ∙ take_all (n * w) x (omega arith))
     ∙ comes-losses x k y h

@@ -27,8 +27,8 @@ module _ (x y : List ℕ) where
       ∙ ap (λ (z : List ℕ). losses (take s x) y + losses (take w (drop s x)) z) (eat-at s h)
 
   -- a piece of w bits that starts after d losses and ends after d + a loses a, against y from place s − d on
-  pub piece-loses : (s w d a : ℕ) → s ≤ length x → losses (take s x) y ≡ d → losses (take (s + w) x) y ≡ d + a
+  pub piece_loses : (s w d a : ℕ) → s ≤ length x → losses (take s x) y ≡ d → losses (take (s + w) x) y ≡ d + a
       → losses (take w (drop s x)) (drop (s - d) y) ≡ a
-  piece-loses s w d a h e f =
+  piece_loses s w d a h e f =
       let m : losses (take (s + w) x) y ≡ d + losses (take w (drop s x)) (drop (s - d) y) = rw e at (lost-more s w h) in
       omega arith

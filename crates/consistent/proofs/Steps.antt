@@ -12,7 +12,7 @@ use lib.Dec.{eqb}
 use lib.ListN.{length, get_or, take, drop, drop_of_length-le, take-append-drop, length-drop}
 use lib.Seq.{drop-cons, drop-drop}
 use Rattle.bits.proofs.Laws.{both_ways}
-use Rattle.rows.specs.Deletion.{comesFrom}
+use Rattle.rows.specs.Deletion.{comes_from}
 use Rattle.consistent.specs.Greedy.{eat, losses}
 use Rattle.consistent.proofs.Greedy.{eat-append, losses-append, comes-eat, eat-comes, piece, reads_whole}
 
@@ -27,23 +27,23 @@ bit_past b y j h k =
     let e : drop j y ≡ [] = drop_of_length-le y k in
     (h, (rw e refl, rw e (omega arith)))
 
-pub bit-other : (b : ℕ) (y : List ℕ) (j : ℕ) → j < length y → (get_or y j 0 ≡ b → ⊥) → AfterBit b y j j
+pub bit_other : (b : ℕ) (y : List ℕ) (j : ℕ) → j < length y → (get_or y j 0 ≡ b → ⊥) → AfterBit b y j j
 unfolding eat losses
-bit-other b y j h n =
+bit_other b y j h n =
     let e : eqb b (get_or y j 0) ≡ false = ne_eqb b (get_or y j 0) (λ p. n (sym p)) in
     (omega arith, (rw (drop-cons y j 0 h, e) refl, rw (drop-cons y j 0 h, e) (omega arith)))
 
-pub bit-takes : (b : ℕ) (y : List ℕ) (j : ℕ) → j < length y → get_or y j 0 ≡ b → AfterBit b y j (j + 1)
+pub bit_takes : (b : ℕ) (y : List ℕ) (j : ℕ) → j < length y → get_or y j 0 ≡ b → AfterBit b y j (j + 1)
 unfolding eat losses
-bit-takes b y j h p =
+bit_takes b y j h p =
     let e : eqb b (get_or y j 0) ≡ true = eq-eqb b (get_or y j 0) (sym p) in
     (omega arith, (rw (drop-cons y j 0 h, e, add-one j) refl, rw (drop-cons y j 0 h, e) (omega arith)))
 
 -- the bits of x from i on against y from j on are the same a bit later
-pub bit-next : (x y : List ℕ) (i j r : ℕ) → i < length x → AfterBit (get_or x i 0) y j r
+pub bit_next : (x y : List ℕ) (i j r : ℕ) → i < length x → AfterBit (get_or x i 0) y j r
     → (eat (drop (i + 1) x) (drop r y) ≡ eat (drop i x) (drop j y))
     × (losses (drop i x) (drop j y) + r ≡ j + 1 + losses (drop (i + 1) x) (drop r y))
-bit-next x y i j r h s =
+bit_next x y i j r h s =
     let b : ℕ = get_or x i 0 in
     let z : List ℕ = drop j y in
     let d : drop i x ≡ (b ∷ []) ++ drop (i + 1) x = rw (add-one i) (drop-cons x i 0 h) in
@@ -62,24 +62,24 @@ bits-end x y i j h = rw (drop_of_length-le x h) (refl, refl)
 
 -- ---- the whole string
 -- y comes from x exactly when x takes all of it
-pub comes-is : (x y : List ℕ) (r : ℕ) → r ≤ length y → eat x y ≡ drop r y
-    → eqb r (length y) ≡ comesFrom x (length x - length y) y
-comes-is x y r h e =
-    both_ways (eqb r (length y)) (comesFrom x (length x - length y) y)
+pub comes_is : (x y : List ℕ) (r : ℕ) → r ≤ length y → eat x y ≡ drop r y
+    → eqb r (length y) ≡ comes_from x (length x - length y) y
+comes_is x y r h e =
+    both_ways (eqb r (length y)) (comes_from x (length x - length y) y)
     (λ t. eat-comes x y (e ∙ drop_of_length-le y {i = r} (omega (arith, eqb-true r (length y) t))))
     (λ t. eq-eqb r (length y) (omega (arith, length-drop r y, ap length (sym e ∙ comes-eat x (length x - length y) y t))))
 
 -- a piece that is the first bits of y takes just these
-pub whole-eats : (p y : List ℕ) → p ≡ take (length p) y → eat p y ≡ drop (length p) y
-whole-eats p y e = (piece (length p) 0 p y refl (reads_whole p y e)).rest ∙ ap (λ (n : ℕ). drop n y) (sub-zero (length p))
+pub whole_eats : (p y : List ℕ) → p ≡ take (length p) y → eat p y ≡ drop (length p) y
+whole_eats p y e = (piece (length p) 0 p y refl (reads_whole p y e)).rest ∙ ap (λ (n : ℕ). drop n y) (sub-zero (length p))
 
 -- what is left to be matched after the piece of x from i up to e, which takes r bits of y from place at on; the code
 -- has both as parts of their slices
-pub piece-eaten : (x y : List ℕ) (i e at r : ℕ) → i ≤ e → at ≤ length y
+pub piece_eaten : (x y : List ℕ) (i e at r : ℕ) → i ≤ e → at ≤ length y
     → (r ≤ length (take (length y - at) (drop at y)))
     × (eat (take (e - i) (drop i x)) (take (length y - at) (drop at y)) ≡ drop r (take (length y - at) (drop at y)))
     → (at + r ≤ length y) × (eat (drop e x) (drop (at + r) y) ≡ eat (drop i x) (drop at y))
-piece-eaten x y i e at r h k f =
+piece_eaten x y i e at r h k f =
     let p : List ℕ = take (e - i) (drop i x) in
     let g : (r ≤ length (drop at y)) × (eat p (drop at y) ≡ drop r (drop at y)) = rw (part_to_end y at) at f in
     let n : i + (e - i) ≡ e = omega arith in

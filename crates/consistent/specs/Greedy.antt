@@ -22,6 +22,6 @@ table [] y = []
 table (p ∷ ps) y = losses p y ∷ table ps (eat p y)
 
 -- the total of a table: "a loss pattern holds one count for each block and their sum"
-unfoldable pub inAll : List ℕ → ℕ
-inAll [] = 0
-inAll (a ∷ counts) = a + inAll counts
+unfoldable pub in_all : List ℕ → ℕ
+in_all [] = 0
+in_all (a ∷ counts) = a + in_all counts

@@ -2,10 +2,10 @@
 // specs/Consistent.antt and specs/Greedy.antt; strings are unpacked, one byte a bit.
 ghost use Rattle.std.specs.Prelude.{◌≡◌, true, [], ◌∷◌, ◌++◌, ◌+◌, ◌-◌, ◌*◌, ◌<◌, ◌≤◌, length, get_or, take, drop};
 ghost use Rattle.bits.specs.Bits.{AllBits, same};
-ghost use Rattle.rows.specs.Deletion.{comesFrom};
+ghost use Rattle.rows.specs.Deletion.{comes_from};
 ghost use Rattle.message.specs.Chunks.{row_of, Chunked};
-ghost use Rattle.message.specs.Layout.{layout, legal as isLegal, rowBits};
-ghost use Rattle.message.specs.Message.{blockSums, stringSums, checks};
+ghost use Rattle.message.specs.Layout.{layout, legal as isLegal, row_bits};
+ghost use Rattle.message.specs.Message.{block_sums, string_sums, checks};
 ghost use Rattle.consistent.specs.Consistent.{candidate};
 ghost use Rattle.consistent.specs.Greedy.{eat, losses};
 
@@ -74,7 +74,7 @@ fn piece_taken(p: &[u8], y: &[u8]) -> usize
 // Whether y comes from x by deleting bits, piece by piece.
 pub fn comes(x: &[u8], y: &[u8]) -> bool
     ensures { result
-        ≡ comesFrom x.now (length x.now - length y.now) y.now }
+        ≡ comes_from x.now (length x.now - length y.now) y.now }
 {
     let mut at: usize = 0;
     let mut i: usize = 0;
@@ -93,8 +93,8 @@ pub fn comes(x: &[u8], y: &[u8]) -> bool
 fn sums_agree(l1: usize, l2: usize, nc: usize, r: usize, chunks: &[u8], numbers: &[u16]) -> bool
     requires { (isLegal (layout l1 l2 nc r) ≡ true)
         × (Chunked (layout l1 l2 nc r) chunks.now × (length numbers.now ≡ l1 + l2)) }
-    ensures { result ≡ same (blockSums (layout l1 l2 nc r) (row_of nc chunks.now)
-        ++ stringSums (layout l1 l2 nc r) (row_of nc chunks.now)) numbers.now }
+    ensures { result ≡ same (block_sums (layout l1 l2 nc r) (row_of nc chunks.now)
+        ++ string_sums (layout l1 l2 nc r) (row_of nc chunks.now)) numbers.now }
 {
     let t = vt::weights();
     let mut k: usize = 0;
@@ -138,8 +138,8 @@ fn checks_agree(l1: usize, l2: usize, nc: usize, r: usize, chunks: &[u8], number
 fn chunks_agree(l1: usize, l2: usize, nc: usize, r: usize, chunks: &[u8], numbers: &[u16]) -> bool
     requires { (isLegal (layout l1 l2 nc r) ≡ true)
         × (Chunked (layout l1 l2 nc r) chunks.now × (length numbers.now ≡ l1 + l2 + r)) }
-    ensures { result ≡ same (blockSums (layout l1 l2 nc r) (row_of nc chunks.now)
-        ++ stringSums (layout l1 l2 nc r) (row_of nc chunks.now)
+    ensures { result ≡ same (block_sums (layout l1 l2 nc r) (row_of nc chunks.now)
+        ++ string_sums (layout l1 l2 nc r) (row_of nc chunks.now)
         ++ checks (layout l1 l2 nc r) (row_of nc chunks.now)) numbers.now }
 {
     let n = l1 + l2;
@@ -153,9 +153,9 @@ fn chunks_agree(l1: usize, l2: usize, nc: usize, r: usize, chunks: &[u8], number
 // message.
 fn agrees(l1: usize, l2: usize, nc: usize, r: usize, x: &[u8], numbers: &[u16]) -> bool
     requires { (isLegal (layout l1 l2 nc r) ≡ true) × (AllBits x.now
-        × ((length x.now ≡ rowBits (layout l1 l2 nc r)) × (length numbers.now ≡ l1 + l2 + r))) }
+        × ((length x.now ≡ row_bits (layout l1 l2 nc r)) × (length numbers.now ≡ l1 + l2 + r))) }
     ensures { result
-        ≡ same (blockSums (layout l1 l2 nc r) x.now ++ stringSums (layout l1 l2 nc r) x.now
+        ≡ same (block_sums (layout l1 l2 nc r) x.now ++ string_sums (layout l1 l2 nc r) x.now
         ++ checks (layout l1 l2 nc r) x.now) numbers.now }
 {
     let mut values: [u8; bits::MOST_CHUNKS] = [0; bits::MOST_CHUNKS];
@@ -175,7 +175,7 @@ pub fn is_consistent(
     numbers: &[u16],
 ) -> bool
     requires { (isLegal (layout l1 l2 nc r) ≡ true) × (AllBits x.now
-        × ((length x.now ≡ rowBits (layout l1 l2 nc r)) × (length numbers.now ≡ l1 + l2 + r))) }
+        × ((length x.now ≡ row_bits (layout l1 l2 nc r)) × (length numbers.now ≡ l1 + l2 + r))) }
     ensures { result ≡ candidate (layout l1 l2 nc r) numbers.now y.now x.now }
 {
     if !comes(x, y) {

@@ -15,10 +15,10 @@ gathered_none most n entries none =
     record { from = omega arith; few = omega arith; kept = λ k h. refl; all = λ w p. absurd (none w p) }
 
 -- v is the only number of the kind
-pub gathered-one : {P : ℕ → Type 0} (most n v : ℕ) (entries : List ℕ) → 0 < most → n < length entries
+pub gathered_one : {P : ℕ → Type 0} (most n v : ℕ) (entries : List ℕ) → 0 < most → n < length entries
     → ((w : ℕ) → P w → w ≡ v)
     → Gathered P most n entries (n + 1) (set entries n v)
-gathered-one most n v entries h g only =
+gathered_one most n v entries h g only =
     record {
       from = omega arith;
       few = omega arith;
@@ -27,9 +27,9 @@ gathered-one most n v entries h g only =
     }
 
 -- two steps, one after the other
-pub gathered-then : {P Q R : ℕ → Type 0} (most half n m l : ℕ) (a b c : List ℕ) → half + half ≤ most
+pub gathered_then : {P Q R : ℕ → Type 0} (most half n m l : ℕ) (a b c : List ℕ) → half + half ≤ most
     → Gathered P half n a m b → Gathered Q half m b l c → ((w : ℕ) → R w → P w ⊎ Q w) → Gathered R most n a l c
-gathered-then {P} {Q} most half n m l a b c h g k either =
+gathered_then {P} {Q} most half n m l a b c h g k either =
     record {
       from = omega (arith, g.from, k.from);
       few = omega (arith, g.few, k.few);
@@ -48,6 +48,6 @@ gathered-then {P} {Q} most half n m l a b c h g k either =
         (i.0, (omega (arith, i.1.0, g.from), i.1.1))
 
 -- a step for all numbers of one kind is one for a narrower kind
-pub gathered-weaken : {P Q : ℕ → Type 0} (most n m : ℕ) (a b : List ℕ) → ((w : ℕ) → Q w → P w) → Gathered P most n a m b
+pub gathered_weaken : {P Q : ℕ → Type 0} (most n m : ℕ) (a b : List ℕ) → ((w : ℕ) → Q w → P w) → Gathered P most n a m b
     → Gathered Q most n a m b
-gathered-weaken most n m a b f g = record { from = g.from; few = g.few; kept = g.kept; all = λ w q. g.all w (f w q) }
+gathered_weaken most n m a b f g = record { from = g.from; few = g.few; kept = g.kept; all = λ w q. g.all w (f w q) }

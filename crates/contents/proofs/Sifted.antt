@@ -6,7 +6,7 @@ use mathlib.Core.List.{List}
 use native.Mathlib.Omega.{arith}
 use lib.ListN.{length, get_or, set, length-set}
 use lib.Seq.{get_or-set_same, get_or-set_other}
-use Rattle.bits.proofs.Laws.{lt-or-ge}
+use Rattle.bits.proofs.Laws.{lt_or_ge}
 use Rattle.contents.specs.Asks.{Allows}
 use Rattle.contents.specs.Contents.{Among}
 use Rattle.contents.specs.declared.Ask.{Ask}
@@ -19,20 +19,20 @@ pub record Sifted (nc : ℕ) (a : Ask) (entry : List ℕ) (i : ℕ) (exit : List
   pub all : (w : ℕ) → Among entry 0 i w → Allows nc a w → Among exit 0 k w
 
 module _ (nc : ℕ) (a : Ask) (entry : List ℕ) where
-  pub sifted-none : Sifted nc a entry 0 entry 0
-  sifted-none =
+  pub sifted_none : Sifted nc a entry 0 entry 0
+  sifted_none =
       record { few = omega arith; long = refl; later = λ j h. refl; all = λ w m h. absurd (omega (arith, m.1.1.0)) }
 
   module _ (i : ℕ) (exit : List ℕ) (k : ℕ) (s : Sifted nc a entry i exit k) where
     -- an entry that is kept
-    pub sifted-kept : i < length entry → Sifted nc a entry (i + 1) (set exit k (get_or exit i 0)) (k + 1)
-    sifted-kept h =
+    pub sifted_kept : i < length entry → Sifted nc a entry (i + 1) (set exit k (get_or exit i 0)) (k + 1)
+    sifted_kept h =
         record {
           few = omega (arith, s.few);
           long = length-set exit k (get_or exit i 0) ∙ s.long;
           later =
               λ j g. get_or-set_other exit k j (get_or exit i 0) 0 (λ e. omega (arith, s.few)) ∙ s.later j (omega arith);
-          all = λ w m allows. ⊎_elim (earlier w m allows) (this w m) (lt-or-ge m.0 i);
+          all = λ w m allows. ⊎_elim (earlier w m allows) (this w m) (lt_or_ge m.0 i);
         }
       where
         earlier : (w : ℕ) (m : Among entry 0 (i + 1) w) → Allows nc a w → m.0 < i
@@ -49,8 +49,8 @@ module _ (nc : ℕ) (a : Ask) (entry : List ℕ) where
             (k, (omega arith, (omega arith, same ∙ s.later i (omega arith) ∙ rw e at m.1.1.1)))
 
     -- an entry that is left out
-    pub sifted-left : (Allows nc a (get_or exit i 0) → ⊥) → Sifted nc a entry (i + 1) exit k
-    sifted-left refused =
+    pub sifted_left : (Allows nc a (get_or exit i 0) → ⊥) → Sifted nc a entry (i + 1) exit k
+    sifted_left refused =
         record {
           few = omega (arith, s.few);
           long = s.long;
@@ -58,7 +58,7 @@ module _ (nc : ℕ) (a : Ask) (entry : List ℕ) where
           all = λ w m allows. ⊎_elim
               (λ g. s.all w (m.0, (m.1.0, (g, m.1.1.1))) allows)
               (λ g. absurd (refused (rw (sym (this w m g)) at allows)))
-              (lt-or-ge m.0 i);
+              (lt_or_ge m.0 i);
         }
       where
         this : (w : ℕ) (m : Among entry 0 (i + 1) w) → i ≤ m.0 → get_or exit i 0 ≡ w

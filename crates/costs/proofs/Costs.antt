@@ -10,34 +10,34 @@ use native.Mathlib.Nat.{mod-add-mod}
 use native.Mathlib.Omega.{arith}
 use borrow.Author.Tests.{eq-eqb, ne_eqb}
 use lib.ListN.{length, get_or}
-use Rattle.bits.specs.Bits.{longestLine}
+use Rattle.bits.specs.Bits.{longest_line}
 use Rattle.message.specs.declared.Layout.{Layout}
-use Rattle.message.proofs.Legal.{string-high}
+use Rattle.message.proofs.Legal.{string_high}
 use Rattle.states.specs.States.{each, firsts}
 use Rattle.column.specs.Column.{Fit, Light, Crosses}
 use Rattle.column.specs.declared.Heavy.{Heavy}
-use Rattle.whole.specs.Whole.{modulus, Source, bringsIn, OneLess}
-use Rattle.states.proofs.Sums.{firsts_same, firsts-but}
+use Rattle.whole.specs.Whole.{modulus, Source, brings_in, OneLess}
+use Rattle.states.proofs.Sums.{firsts_same, firsts_but}
 use Rattle.whole.proofs.Whole.{weightOf, weights-sum, kept-legible, kept_read}
-use Rattle.costs.specs.Costs.{ReadBut, bringsBut, Asked}
+use Rattle.costs.specs.Costs.{ReadBut, brings_but, Asked}
 
 -- ---- losses left in some blocks, and later
 module _ (left next : ℕ → ℕ) where
   -- where no block has more left, there are no more left together
-  pub firsts-fall : (n : ℕ) → ((s : ℕ) → s < n → next s ≤ left s) → firsts next n ≤ firsts left n
+  pub firsts_fall : (n : ℕ) → ((s : ℕ) → s < n → next s ≤ left s) → firsts next n ≤ firsts left n
   unfolding firsts
-  firsts-fall zero h = omega arith
-  firsts-fall (suc n) h = omega (arith, firsts-fall n (λ s k. h s (omega arith)), h n (omega arith))
+  firsts_fall zero h = omega arith
+  firsts_fall (suc n) h = omega (arith, firsts_fall n (λ s k. h s (omega arith)), h n (omega arith))
 
   -- and each has as many left, or there are fewer
-  pub kept-or-fewer : (n : ℕ) → ((s : ℕ) → s < n → next s ≤ left s)
+  pub kept_or_fewer : (n : ℕ) → ((s : ℕ) → s < n → next s ≤ left s)
       → ((s : ℕ) → s < n → next s ≡ left s) ⊎ (firsts next n < firsts left n)
   unfolding firsts
-  kept-or-fewer zero h = inl (λ s k. absurd (omega arith))
-  kept-or-fewer (suc n) h = go (ℕ_discrete (next n) (left n)) (kept-or-fewer n (λ s k. h s (omega arith)))
+  kept_or_fewer zero h = inl (λ s k. absurd (omega arith))
+  kept_or_fewer (suc n) h = go (ℕ_discrete (next n) (left n)) (kept_or_fewer n (λ s k. h s (omega arith)))
     where
       fall : firsts next n ≤ firsts left n
-      fall = firsts-fall n (λ s k. h s (omega arith))
+      fall = firsts_fall n (λ s k. h s (omega arith))
 
       go : Dec (next n ≡ left n) → ((s : ℕ) → s < n → next s ≡ left s) ⊎ (firsts next n < firsts left n)
           → ((s : ℕ) → s < suc n → next s ≡ left s) ⊎ (firsts next n + next n < firsts left n + left n)
@@ -63,7 +63,7 @@ module _ (left next : ℕ → ℕ) where
       lower s k = h s (omega arith)
 
       fall : firsts next n ≤ firsts left n
-      fall = firsts-fall n lower
+      fall = firsts_fall n lower
 
       go : Dec (next n ≡ left n)
           → (firsts next n + 1 ≡ firsts left n → (s : ℕ) × ((s < n) × OneLess n left next s))
@@ -81,15 +81,15 @@ module _ (left next : ℕ → ℕ) where
         where
           others : (t : ℕ) → t < n → next t ≡ left t
           others t k =
-              ⊎_elim (λ all. all t k) (λ f. absurd (omega (arith, f, h n (omega arith)))) (kept-or-fewer n lower)
+              ⊎_elim (λ all. all t k) (λ f. absurd (omega (arith, f, h n (omega arith)))) (kept_or_fewer n lower)
 
 -- ---- what the chunks but one bring
 module _ (l : Layout) (y : List ℕ) (heavy : Heavy) (j : ℕ) (left : ℕ → ℕ) (but : ℕ) where
-  pub but-own : bringsBut l y heavy j left but but ≡ 0
-  but-own = ap (λ (t : Bool). cond t 0 (bringsIn l y heavy j left but)) (eq-eqb but but refl)
+  pub but_own : brings_but l y heavy j left but but ≡ 0
+  but_own = ap (λ (t : Bool). cond t 0 (brings_in l y heavy j left but)) (eq-eqb but but refl)
 
-  pub but-other : (s : ℕ) → (s ≡ but → ⊥) → bringsBut l y heavy j left but s ≡ bringsIn l y heavy j left s
-  but-other s d = ap (λ (t : Bool). cond t 0 (bringsIn l y heavy j left s)) (ne_eqb s but d)
+  pub but_other : (s : ℕ) → (s ≡ but → ⊥) → brings_but l y heavy j left but s ≡ brings_in l y heavy j left s
+  but_other s d = ap (λ (t : Bool). cond t 0 (brings_in l y heavy j left s)) (ne_eqb s but d)
 
 -- ---- a row that crosses a column
 module _ {l : Layout} {y numbers : List ℕ} {heavy : Heavy} {row : List ℕ} {j : ℕ} {left next : ℕ → ℕ} {vs : List ℕ}
@@ -98,50 +98,50 @@ module _ {l : Layout} {y numbers : List ℕ} {heavy : Heavy} {row : List ℕ} {j
   module _ (f : Fit l y numbers heavy) (inside : j < l.l2) (known : List ℕ) (light : Light l heavy row known) where
     -- without a loss, no block being left out
     pub kept-sum : ((s : ℕ) → s < heavy.n → next s ≡ left s)
-        → (get_or known j 0 + firsts (bringsBut l y heavy j left heavy.n) heavy.n) % modulus l
+        → (get_or known j 0 + firsts (brings_but l y heavy j left heavy.n) heavy.n) % modulus l
         ≡ get_or numbers (l.l1 + j) 0
     kept-sum kept =
-        let same = firsts_same (bringsBut l y heavy j left heavy.n) (weightOf c) heavy.n
-        (λ s h. but-other l y heavy j left heavy.n s (λ e. omega (arith, h, e)) ∙ sym (kept_read c s h (kept s h))) in
+        let same = firsts_same (brings_but l y heavy j left heavy.n) (weightOf c) heavy.n
+        (λ s h. but_other l y heavy j left heavy.n s (λ e. omega (arith, h, e)) ∙ sym (kept_read c s h (kept s h))) in
         ap (λ (v : ℕ). (get_or known j 0 + v) % modulus l) same ∙ weights-sum c f inside known light
 
     -- block s being left out, where no other has a loss
     pub one-sum : (s : ℕ) → s < heavy.n → ((t : ℕ) → t < heavy.n → (t ≡ s → ⊥) → next t ≡ left t)
-        → ((get_or known j 0 + firsts (bringsBut l y heavy j left s) heavy.n) % modulus l + weightOf c s) % modulus l
+        → ((get_or known j 0 + firsts (brings_but l y heavy j left s) heavy.n) % modulus l + weightOf c s) % modulus l
         ≡ get_or numbers (l.l1 + j) 0
     one-sum s h kept =
-        let but : ℕ → ℕ = bringsBut l y heavy j left s in
-        let same = firsts-but but (weightOf c) heavy.n s h
-        (λ t k d. but-other l y heavy j left s t d ∙ sym (kept_read c t k (kept t k d))) in
+        let but : ℕ → ℕ = brings_but l y heavy j left s in
+        let same = firsts_but but (weightOf c) heavy.n s h
+        (λ t k d. but_other l y heavy j left s t d ∙ sym (kept_read c t k (kept t k d))) in
         let e : get_or known j 0 + firsts but heavy.n + weightOf c s ≡ get_or known j 0 + firsts (weightOf c) heavy.n =
-        omega (arith, same, but-own l y heavy j left s) in
+        omega (arith, same, but_own l y heavy j left s) in
         mod-add-mod (get_or known j 0 + firsts but heavy.n) (modulus l) (weightOf c s) ∙ ap (λ (v : ℕ). v % modulus l) e
         ∙ weights-sum c f inside known light
 
   -- chunks that lose no bit can be read whole
-  pub read-but : (size : List ℕ) (but : ℕ) → ((s : ℕ) → s < heavy.n → left s ≤ each size s)
+  pub read_but : (size : List ℕ) (but : ℕ) → ((s : ℕ) → s < heavy.n → left s ≤ each size s)
       → ((s : ℕ) → s < heavy.n → (s ≡ but → ⊥) → next s ≡ left s) → ReadBut l (length y) heavy size j left but heavy.n
-  read-but size but low kept s h d = (low s h, kept-legible c s h (kept s h d))
+  read_but size but low kept s h d = (low s h, kept-legible c s h (kept s h d))
 
 -- ---- what a column costs
 module _ {l : Layout} {y numbers : List ℕ} {heavy : Heavy} {row : List ℕ} {j : ℕ} {left next : ℕ → ℕ} {vs : List ℕ}
     (c : Crosses l y numbers heavy row j left next vs) where
-  pub costs-none : firsts next heavy.n + 0 ≤ firsts left heavy.n
-  costs-none = omega (arith, firsts-fall left next heavy.n c.falls)
+  pub costs_none : firsts next heavy.n + 0 ≤ firsts left heavy.n
+  costs_none = omega (arith, firsts_fall left next heavy.n c.falls)
 
   -- where it cannot be without a loss
-  pub costs-one : (whole : Bool) → (((s : ℕ) → s < heavy.n → next s ≡ left s) → whole ≡ true) → whole ≡ false
+  pub costs_one : (whole : Bool) → (((s : ℕ) → s < heavy.n → next s ≡ left s) → whole ≡ true) → whole ≡ false
       → firsts next heavy.n + 1 ≤ firsts left heavy.n
-  costs-one whole can e =
+  costs_one whole can e =
       ⊎_elim
       (λ kept. absurd (false≢true (sym e ∙ can kept)))
       (λ f. omega (arith, f))
-      (kept-or-fewer left next heavy.n c.falls)
+      (kept_or_fewer left next heavy.n c.falls)
 
   -- nor with just one
-  pub costs-two : (one : Bool) → ((s : ℕ) × ((s < heavy.n) × OneLess heavy.n left next s) → one ≡ true) → one ≡ false
+  pub costs_two : (one : Bool) → ((s : ℕ) × ((s < heavy.n) × OneLess heavy.n left next s) → one ≡ true) → one ≡ false
       → firsts next heavy.n + 1 ≤ firsts left heavy.n → firsts next heavy.n + 2 ≤ firsts left heavy.n
-  costs-two one can e fewer = go (ℕ_discrete (firsts next heavy.n + 1) (firsts left heavy.n))
+  costs_two one can e fewer = go (ℕ_discrete (firsts next heavy.n + 1) (firsts left heavy.n))
     where
       go : Dec (firsts next heavy.n + 1 ≡ firsts left heavy.n) → firsts next heavy.n + 2 ≤ firsts left heavy.n
       go (yes d) = absurd (false≢true (sym e ∙ can (one_of left next heavy.n c.falls d)))
@@ -150,14 +150,14 @@ module _ {l : Layout} {y numbers : List ℕ} {heavy : Heavy} {row : List ℕ} {j
 -- ---- what is asked of a column
 -- its sum is low
 pub asked_low : {l : Layout} {y totals counts numbers : List ℕ} {heavy : Heavy} {known : List ℕ} {j : ℕ}
-    → Asked l y totals counts numbers heavy known j → get_or numbers (l.l1 + j) 0 ≤ longestLine
-asked_low {l} {j = j} q = omega (arith, q.fit.low j q.column, string-high l q.fit.allowed)
+    → Asked l y totals counts numbers heavy known j → get_or numbers (l.l1 + j) 0 ≤ longest_line
+asked_low {l} {j = j} q = omega (arith, q.fit.low j q.column, string_high l q.fit.allowed)
 
 -- its chunks in the heavy blocks can be read
-pub asked-source : {l : Layout} {y totals counts numbers : List ℕ} {heavy : Heavy} {known : List ℕ} {j : ℕ}
+pub asked_source : {l : Layout} {y totals counts numbers : List ℕ} {heavy : Heavy} {known : List ℕ} {j : ℕ}
     → Asked l y totals counts numbers heavy known j → (s : ℕ) → s < heavy.n
     → Source l y totals counts (get_or heavy.block s 0) j
-asked-source q s h =
+asked_source q s h =
     record {
       allowed = q.fit.allowed;
       bits = q.fit.bits;

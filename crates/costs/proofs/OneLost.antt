@@ -13,7 +13,7 @@ use Rattle.consistent.specs.Greedy.{losses}
 use Rattle.weigh.specs.Weigh.{SeenIn, MoreOnes, Wider}
 use Rattle.weigh.specs.declared.Seen.{Seen}
 use Rattle.weigh.specs.declared.Span.{Span}
-use Rattle.weigh.proofs.Spans.{ones-between, one-wider}
+use Rattle.weigh.proofs.Spans.{ones_between, one_wider}
 use Rattle.column.specs.Column.{start_at}
 use Rattle.costs.specs.Costs.{Repairs}
 
@@ -25,15 +25,15 @@ module _ {l : Layout} {y : List ℕ} {block end j left sum : ℕ} {set : List �
   loses = ap (λ (p : ℕ). losses (digits l.nc v) (drop p y)) place ∙ r.loses
 
   -- it has at least the first number of ones more than the bits that it takes, and at most the last
-  pub lost-between : {first last : ℕ} → MoreOnes y at (l.nc - 1) 1 first last
+  pub lost_between : {first last : ℕ} → MoreOnes y at (l.nc - 1) 1 first last
       → (seen.ones + first ≤ ones (digits l.nc v)) × (ones (digits l.nc v) ≤ seen.ones + last)
-  lost-between more = ones-between l.nc 1 v at y some loses i more
+  lost_between more = ones_between l.nc 1 v at y some loses i more
 
   -- with just g of them it brings what lies in the span, its block being number k
-  pub brings-between : (k g : ℕ) (span wider : Span) → k ≡ block → span.low ≡ 0 → span.high ≡ 0
+  pub brings_between : (k g : ℕ) (span wider : Span) → k ≡ block → span.low ≡ 0 → span.high ≡ 0
       → ones (digits l.nc v) ≡ seen.ones + g → Wider l.nc (k * l.nc) 1 seen g span wider
       → (wider.low / 2 ≤ total (block * l.nc + 1) (digits l.nc v))
       × (total (block * l.nc + 1) (digits l.nc v) ≤ wider.high / 2)
-  brings-between k g span wider e low high just w =
-      let o = one-wider l.nc (block * l.nc) 1 v (drop at y) loses seen g span wider some i just (rw e at w) in
+  brings_between k g span wider e low high just w =
+      let o = one_wider l.nc (block * l.nc) 1 v (drop at y) loses seen g span wider some i just (rw e at w) in
       (omega (arith, o.0), omega (arith, o.1))

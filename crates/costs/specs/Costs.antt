@@ -9,7 +9,7 @@ use Rattle.consistent.specs.Greedy.{losses}
 use Rattle.states.specs.States.{each}
 use Rattle.column.specs.Column.{Fit, Light, Crosses, Readable, start_at}
 use Rattle.column.specs.declared.Heavy.{Heavy}
-use Rattle.whole.specs.Whole.{modulus, legibleIn, bringsIn}
+use Rattle.whole.specs.Whole.{modulus, legible_in, brings_in}
 use Rattle.sets.specs.Sets.{In}
 
 -- ---- a column whose heavy blocks have so many losses left
@@ -18,11 +18,11 @@ use Rattle.sets.specs.Sets.{In}
 -- of so many bits
 abbrev pub ReadBut : Layout → (bits : ℕ) → Heavy → (size : List ℕ) (j : ℕ) (left : ℕ → ℕ) (but n : ℕ) → Type 0
 ReadBut l bits heavy size j left but n =
-    (s : ℕ) → s < n → (s ≡ but → ⊥) → (left s ≤ each size s) × legibleIn l bits heavy j left s
+    (s : ℕ) → s < n → (s ≡ but → ⊥) → (left s ≤ each size s) × legible_in l bits heavy j left s
 
 -- what the chunk of heavy block s brings then, nothing where it is that one
-abbrev pub bringsBut : Layout → (y : List ℕ) → Heavy → (j : ℕ) (left : ℕ → ℕ) (but s : ℕ) → ℕ
-bringsBut l y heavy j left but s = cond (eqb s but) 0 (bringsIn l y heavy j left s)
+abbrev pub brings_but : Layout → (y : List ℕ) → Heavy → (j : ℕ) (left : ℕ → ℕ) (but s : ℕ) → ℕ
+brings_but l y heavy j left but s = cond (eqb s but) 0 (brings_in l y heavy j left s)
 
 -- column j of a received row, its heavy blocks and the sums that its other chunks have, of which something is asked
 pub record Asked (l : Layout) (y totals counts numbers : List ℕ) (heavy : Heavy) (known : List ℕ) (j : ℕ) : Type 0 where

@@ -2,16 +2,16 @@
 // blocks have. Sets hold what they are said to at least: a residue too many lets a column pass, and no row is lost by that.
 // Contracts cite specs/Costs.antt.
 ghost use Rattle.std.specs.Prelude.{◌≡◌, true, List, ℕ, ◌+◌, ◌*◌, ◌%◌, ◌<◌, ◌≤◌, length, get_or};
-ghost use Rattle.bits.specs.Bits.{mostInLine};
+ghost use Rattle.bits.specs.Bits.{most_in_line};
 ghost use Rattle.message.specs.Layout.{legal as isLegal};
 ghost use Rattle.windows.specs.Windows.{Tables};
 ghost use Rattle.states.specs.States.{each, firsts};
-ghost use Rattle.weigh.specs.Weigh.{chunkTop};
+ghost use Rattle.weigh.specs.Weigh.{chunk_top};
 ghost use Rattle.column.specs.Column.{Fit, Light, Crosses};
 ghost use Rattle.marks.specs.Marks.{Path};
 ghost use Rattle.whole.specs.Whole.{modulus, Source, OneLess, Legible, brings};
 ghost use Rattle.sets.specs.Sets.{In, Moved, MovedTwice, Long, Room};
-ghost use Rattle.costs.specs.Costs.{ReadBut, bringsBut, Asked, Tells, Repairs};
+ghost use Rattle.costs.specs.Costs.{ReadBut, brings_but, Asked, Tells, Repairs};
 
 use column::Heavy;
 use message::Layout;
@@ -116,7 +116,7 @@ pub fn fill_sums(
         × Room (modulus l) set.old other.old) }
     ensures { (left : ℕ → ℕ) → ReadBut l (length y.now) heavy size j left but heavy.n
         → In set.new ((get_or known.now j 0
-        + firsts (bringsBut l y.now heavy j left but) heavy.n) % modulus l) }
+        + firsts (brings_but l y.now heavy j left but) heavy.n) % modulus l) }
 {
     let n = heavy.n;
     let m = l.l1 * l.nc + 1;
@@ -170,7 +170,7 @@ fn can_be_whole(
 // Whether a residue of a set, with some number from low to high, makes up the sum modulo m: the residue that goes with a
 // number falls by one, modulo m, as the number rises.
 fn makes_up(m: usize, sum: usize, low: usize, high: usize, set: &[u64]) -> bool
-    requires { (sum < m) × ((high ≤ chunkTop) × Long m set.now) }
+    requires { (sum < m) × ((high ≤ chunk_top) × Long m set.now) }
     ensures { (part n : ℕ) → part < m → In set.now part → low ≤ n → n ≤ high
         → (part + n) % m ≡ sum → result ≡ true }
 {
@@ -393,7 +393,7 @@ fn columns_cost(
 ) -> usize
     requires { Fit l y.now numbers.now heavy × (Tables y.now 0 totals.now counts.now
         × ((l.l2 ≤ length known.now) × Room (modulus l) set.old other.old)) }
-    ensures { (result ≤ 2 * mostInLine) × ((row vs : List ℕ) (own : ℕ → ℕ → ℕ) → Light l heavy row known.now
+    ensures { (result ≤ 2 * most_in_line) × ((row vs : List ℕ) (own : ℕ → ℕ → ℕ) → Light l heavy row known.now
         → Path l y.now numbers.now heavy row (each size) vs own → result ≤ firsts (each size) heavy.n) }
 {
     let l2 = l.l2;

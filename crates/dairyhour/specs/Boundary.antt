@@ -12,9 +12,9 @@ abbrev pub answer_in : Answer → NumberedAnswer
 answer_in a = record { refusal = a.refusal; value = a.value }
 
 -- the refusal and the count in the dh_answer of dh_list
-abbrev pub listIn : ListAnswer → NumberedList
-listIn a = record { refusal = a.refusal; count = a.count }
+abbrev pub list_in : ListAnswer → NumberedList
+list_in a = record { refusal = a.refusal; count = a.count }
 
 -- the refusal and the layout in a dh_layout
-abbrev pub layoutIn : LayoutAnswer → NumberedLayout
-layoutIn a = record { refusal = a.refusal; layout = layout a.l1 a.l2 a.nc a.r }
+abbrev pub layout_in : LayoutAnswer → NumberedLayout
+layout_in a = record { refusal = a.refusal; layout = layout a.l1 a.l2 a.nc a.r }

@@ -1,12 +1,12 @@
 // The C boundary: each operation under its C name, with its answer as a plain struct. There is no logic here; each contract is
 // that of the operation which it wraps. include/dairyhour.h is this boundary in C.
 ghost use Rattle.std.specs.Prelude.{◌≡◌, length};
-ghost use Rattle.vt.specs.Mend.{mendRefusal, mendTarget};
+ghost use Rattle.vt.specs.Mend.{mend_refusal, mend_target};
 ghost use Rattle.message.specs.Layout.{layout};
-ghost use Rattle.message.specs.Write.{writeAnswer, writeTarget};
-ghost use Rattle.message.specs.Read.{readRefusal, layoutAnswer, readTarget};
-ghost use Rattle.consistent.specs.List.{listAnswer, listSlice};
-ghost use Rattle.dairyhour.specs.Boundary.{answer_in, listIn, layoutIn};
+ghost use Rattle.message.specs.Write.{write_answer, write_target};
+ghost use Rattle.message.specs.Read.{read_refusal, layout_answer, read_target};
+ghost use Rattle.consistent.specs.List.{list_answer, list_slice};
+ghost use Rattle.dairyhour.specs.Boundary.{answer_in, list_in, layout_in};
 
 use lister::Listed;
 use message::{Read, Written};
@@ -48,8 +48,8 @@ pub extern "C" fn dh_write(
     row: &[u8],
     out: &mut [u8],
 ) -> Answer
-    ensures { (answer_in result ≡ writeAnswer (layout l1 l2 nc r) row.now (length out.old))
-        × (out.new ≡ writeTarget (layout l1 l2 nc r) row.now out.old) }
+    ensures { (answer_in result ≡ write_answer (layout l1 l2 nc r) row.now (length out.old))
+        × (out.new ≡ write_target (layout l1 l2 nc r) row.now out.old) }
 {
     let answer = message::writing::write(l1, l2, nc, r, row, out);
     match answer {
@@ -66,9 +66,9 @@ pub extern "C" fn dh_write(
 
 #[unsafe(no_mangle)]
 pub extern "C" fn dh_read(msg: &[u8], out: &mut [u16]) -> LayoutAnswer
-    ensures { (layoutIn result
-        ≡ layoutAnswer (readRefusal msg.now (length out.old)) msg.now)
-        × (out.new ≡ readTarget msg.now out.old) }
+    ensures { (layout_in result
+        ≡ layout_answer (read_refusal msg.now (length out.old)) msg.now)
+        × (out.new ≡ read_target msg.now out.old) }
 {
     let answer = message::reading::read(msg, out);
     match answer {
@@ -92,8 +92,8 @@ pub extern "C" fn dh_read(msg: &[u8], out: &mut [u16]) -> LayoutAnswer
 #[unsafe(no_mangle)]
 pub extern "C" fn dh_mend(w: usize, sum: usize, bits: &[u8], out: &mut [u8]) -> Answer
     ensures { (answer_in result
-        ≡ record { refusal = mendRefusal w sum bits.now (length out.old); value = 0 })
-        × (out.new ≡ mendTarget w sum bits.now out.old) }
+        ≡ record { refusal = mend_refusal w sum bits.now (length out.old); value = 0 })
+        × (out.new ≡ mend_target w sum bits.now out.old) }
 {
     let answer = vt::mend(w, sum, bits, out);
     match answer {
@@ -112,8 +112,8 @@ pub extern "C" fn dh_mend(w: usize, sum: usize, bits: &[u8], out: &mut [u8]) -> 
 // else: what came out in March comes out of the archive in December.
 #[unsafe(no_mangle)]
 pub extern "C" fn dh_list(msg: &[u8], row: &[u8], m: usize, out: &mut [u8]) -> ListAnswer
-    ensures { (listIn result ≡ listAnswer msg.now row.now m (length out.old))
-        × (out.new ≡ listSlice msg.now row.now m out.old) }
+    ensures { (list_in result ≡ list_answer msg.now row.now m (length out.old))
+        × (out.new ≡ list_slice msg.now row.now m out.old) }
 {
     let answer = lister::list(msg, row, m, out);
     match answer {

@@ -11,15 +11,15 @@ use lib.ListN.{length, get_or, set}
 use lib.Seq.{get_or-set_same, get_or-set_other}
 use lib.Pow.{pow_pos}
 use Rattle.field.specs.Field.{Element, power, times}
-use Rattle.field.proofs.Double.{power-element}
-use Rattle.field.proofs.Generator.{log-unique, times-comm, times-assoc}
-use Rattle.field.proofs.Times.{times-xor, times-of-zero, times-element, times-of-xor, times-one, times_power, power-order}
-use Rattle.field.proofs.Xor.{xor_assoc, xor-cross, xor_same}
+use Rattle.field.proofs.Double.{power_element}
+use Rattle.field.proofs.Generator.{log_unique, times_comm, times_assoc}
+use Rattle.field.proofs.Times.{times-xor, times_of_zero, times_element, times_of_xor, times-one, times_power, power-order}
+use Rattle.field.proofs.Xor.{xor_assoc, xor_cross, xor_same}
 use Rattle.erasures.specs.Erasures.{brought, Brings, without, scaled, Places, Contents}
 
 -- a summand is the sum and the other summand
-pub other-summand : (a b : ℕ) → bit_xor (bit_xor a b) b ≡ a
-other-summand a b = xor_assoc a b b ∙ ap (bit_xor a) (xor_self b) ∙ xor_zero_r a
+pub other_summand : (a b : ℕ) → bit_xor (bit_xor a b) b ≡ a
+other_summand a b = xor_assoc a b b ∙ ap (bit_xor a) (xor_self b) ∙ xor_zero_r a
 
 -- ---- entries of a list, one of them set
 -- what holds of each entry, and of the new one, holds of each afterwards
@@ -54,15 +54,15 @@ module _ (nc : ℕ) (lo : 3 ≤ nc) (hi : nc ≤ 8) where
       → times nc (power nc (suc i * c)) e ≡ times nc (power nc c) (times nc (power nc (i * c)) e)
   term_up i c e h =
       ap (λ (p : ℕ). times nc p e) (power-up i c)
-      ∙ times-assoc nc lo hi (power nc c) (power nc (i * c)) e (power-element nc lo hi c)
-      (power-element nc lo hi (i * c)) h
+      ∙ times_assoc nc lo hi (power nc c) (power nc (i * c)) e (power_element nc lo hi c)
+      (power_element nc lo hi (i * c)) h
 
   -- factors change places
   swap : (s p e : ℕ) → Element nc s → Element nc p → Element nc e → times nc s (times nc p e) ≡ times nc p (times nc s e)
   swap s p e hs hp he =
-      sym (times-assoc nc lo hi s p e hs hp he)
-      ∙ ap (λ (t : ℕ). times nc t e) (times-comm nc lo hi s p hs hp)
-      ∙ times-assoc nc lo hi p s e hp hs he
+      sym (times_assoc nc lo hi s p e hs hp he)
+      ∙ ap (λ (t : ℕ). times nc t e) (times_comm nc lo hi s p hs hp)
+      ∙ times_assoc nc lo hi p s e hp hs he
 
   -- another chunk's term stays a term, of the content times the sum of the two powers
   pub other-term : (i c d e : ℕ) → Element nc e
@@ -73,34 +73,34 @@ module _ (nc : ℕ) (lo : 3 ≤ nc) (hi : nc ≤ 8) where
       ap (λ (t : ℕ). bit_xor t (times nc (power nc c) u)) (term_up i d e h)
       ∙ sym (times-xor nc (power nc d) (power nc c) u)
       ∙ swap (bit_xor (power nc d) (power nc c)) (power nc (i * d)) e
-      (xor_lt nc (power nc d) (power nc c) (power-element nc lo hi d) (power-element nc lo hi c))
-      (power-element nc lo hi (i * d)) h
+      (xor_lt nc (power nc d) (power nc c) (power_element nc lo hi d) (power_element nc lo hi c))
+      (power_element nc lo hi (i * d)) h
 
   module _ (c e : ℕ → ℕ) (he : Contents nc e) where
     term-element : (i z : ℕ) → Element nc (times nc (power nc (i * c z)) (e z))
-    term-element i z = times-element nc lo hi (power nc (i * c z)) (e z) (he z)
+    term-element i z = times_element nc lo hi (power nc (i * c z)) (e z) (he z)
 
-    pub brought-element : (i u k : ℕ) → Element nc (brought nc i c e u k)
+    pub brought_element : (i u k : ℕ) → Element nc (brought nc i c e u k)
     unfolding brought
-    brought-element i u zero = pow_pos nc
-    brought-element i u (suc k) =
+    brought_element i u zero = pow_pos nc
+    brought_element i u (suc k) =
         xor_lt nc (times nc (power nc (i * c u)) (e u)) (brought nc i c e (suc u) k) (term-element i u)
-        (brought-element i (suc u) k)
+        (brought_element i (suc u) k)
 
     -- what the chunks from the v-th on bring once the u-th is taken out
     others : (i u v k : ℕ)
         → bit_xor (brought nc (suc i) c e v k) (times nc (power nc (c u)) (brought nc i c e v k))
         ≡ brought nc i c (scaled nc c e u) v k
     unfolding brought
-    others i u v zero = ap (bit_xor 0) (times-of-zero nc (power nc (c u)))
+    others i u v zero = ap (bit_xor 0) (times_of_zero nc (power nc (c u)))
     others i u v (suc k) =
         let g : ℕ = power nc (c u) in
         let a : ℕ = times nc (power nc (suc i * c v)) (e v) in
         let t : ℕ = times nc (power nc (i * c v)) (e v) in
         let b : ℕ = brought nc (suc i) c e (suc v) k in
         let d : ℕ = brought nc i c e (suc v) k in
-        ap (bit_xor (bit_xor a b)) (times-of-xor nc lo hi g t d (term-element i v) (brought-element i (suc v) k))
-        ∙ xor-cross a b (times nc g t) (times nc g d)
+        ap (bit_xor (bit_xor a b)) (times_of_xor nc lo hi g t d (term-element i v) (brought_element i (suc v) k))
+        ∙ xor_cross a b (times nc g t) (times nc g d)
         ∙ ap₂ bit_xor (other-term i (c u) (c v) (e v) (he v)) (others i u (suc v) k)
 
     -- the u-th chunk is taken out: what the later ones bring is left, with their contents scaled
@@ -118,8 +118,8 @@ module _ (nc : ℕ) (lo : 3 ≤ nc) (hi : nc ≤ 8) where
         ap (λ (v : ℕ). bit_xor v (times nc g t)) (term_up i (c u) (e u) (he u)) ∙ xor_self (times nc g t)
         in
         ap₂ (λ (p q : ℕ). bit_xor p (times nc g q)) (h (suc i) (omega arith)) (h i (omega arith))
-        ∙ ap (bit_xor (bit_xor a b)) (times-of-xor nc lo hi g t d (term-element i u) (brought-element i (suc u) k))
-        ∙ xor-cross a b (times nc g t) (times nc g d)
+        ∙ ap (bit_xor (bit_xor a b)) (times_of_xor nc lo hi g t d (term-element i u) (brought_element i (suc u) k))
+        ∙ xor_cross a b (times nc g t) (times nc g d)
         ∙ ap₂ bit_xor gone (others i u (suc u) k)
         ∙ xor_zero_l (brought nc i c (scaled nc c e u) (suc u) k)
 
@@ -134,8 +134,8 @@ module _ (nc : ℕ) (lo : 3 ≤ nc) (hi : nc ≤ 8) where
         ∙ taken_out ss u (n - (u + 1)) (λ j q. b j (omega arith) ∙ ap (brought nc j c e u) k) i l
         ∙ ap (λ (m : ℕ). brought nc i c (scaled nc c e u) m (n - (u + 1))) up
 
-    pub scaled-contents : (u : ℕ) → Contents nc (scaled nc c e u)
-    scaled-contents u z = times-element nc lo hi (bit_xor (power nc (c z)) (power nc (c u))) (e z) (he z)
+    pub scaled_contents : (u : ℕ) → Contents nc (scaled nc c e u)
+    scaled_contents u z = times_element nc lo hi (bit_xor (power nc (c z)) (power nc (c u))) (e z) (he z)
 
     -- what the chunks bring to the first check is the sum of their contents
     pub first-check : (u k : ℕ) → brought nc 0 c e u (suc k) ≡ bit_xor (e u) (brought nc 0 c e (suc u) k)
@@ -149,7 +149,7 @@ module _ (nc : ℕ) (lo : 3 ≤ nc) (hi : nc ≤ 8) where
       → 0 < bit_xor (power nc (c z)) (power nc (c u))
   apart-power n c p z u hz hu ne =
       let same : power nc (c z) ≡ power nc (c u) → c z ≡ c u =
-      log-unique nc lo hi (c z) (c u) (p.low z hz) (p.low u hu) in
+      log_unique nc lo hi (c z) (c u) (p.low z hz) (p.low u hu) in
       let apart : bit_xor (power nc (c z)) (power nc (c u)) ≡ 0 → ⊥ =
       λ h. ne (p.apart z u hz hu (same (xor_same (power nc (c z)) (power nc (c u)) h)))
       in
@@ -161,19 +161,19 @@ module _ (nc : ℕ) (lo : 3 ≤ nc) (hi : nc ≤ 8) where
       → Element nc (bit_xor p q) × (0 < bit_xor p q)
   divisor n c places z u hz lt hu p q e f =
       rw (e, f) (
-        xor_lt nc (power nc (c z)) (power nc (c u)) (power-element nc lo hi (c z)) (power-element nc lo hi (c u)),
+        xor_lt nc (power nc (c z)) (power nc (c u)) (power_element nc lo hi (c z)) (power_element nc lo hi (c u)),
         apart-power n c places z u hz hu (λ s. omega arith),
       )
 
   -- what undoes a factor undoes it before any other
   undone : (q d e : ℕ) → Element nc q → Element nc d → Element nc e → times nc q d ≡ 1 → times nc q (times nc d e) ≡ e
   undone q d e hq hd he h =
-      sym (times-assoc nc lo hi q d e hq hd he) ∙ ap (λ (t : ℕ). times nc t e) h ∙ times-one nc lo hi e
+      sym (times_assoc nc lo hi q d e hq hd he) ∙ ap (λ (t : ℕ). times nc t e) h ∙ times-one nc lo hi e
 
   -- a quotient by 2 ^ 0
-  pub quotient-one : (x d e : ℕ) → power nc 0 ≡ d → x ≡ times nc d e → x ≡ e
+  pub quotient_one : (x d e : ℕ) → power nc 0 ≡ d → x ≡ times nc d e → x ≡ e
   unfolding power
-  quotient-one x d e h f = f ∙ ap (λ (t : ℕ). times nc t e) (sym h) ∙ times-one nc lo hi e
+  quotient_one x d e h f = f ∙ ap (λ (t : ℕ). times nc t e) (sym h) ∙ times-one nc lo hi e
 
   -- a quotient by 2 ^ j is a product with the power that j lacks to the order
   pub quotient : (x d e j r : ℕ) → Element nc e → j + 1 < 2 ^ nc → power nc j ≡ d
@@ -185,18 +185,18 @@ module _ (nc : ℕ) (lo : 3 ≤ nc) (hi : nc ≤ 8) where
       let one : times nc (power nc q) d ≡ 1 =
       ap (times nc (power nc q)) (sym h) ∙ times_power nc lo hi q j ∙ ap (power nc) m ∙ power-order nc lo hi
       in
-      let hd : Element nc d = rw h at (power-element nc lo hi j) in
-      g ∙ ap (times nc (power nc q)) f ∙ undone (power nc q) d e (power-element nc lo hi q) hd he one
+      let hd : Element nc d = rw h at (power_element nc lo hi j) in
+      g ∙ ap (times nc (power nc q)) f ∙ undone (power nc q) d e (power_element nc lo hi q) hd he one
 
   -- ---- the last step: the contents after the u-th unscaled one by one, and the sum of what is left for the u-th itself
   module _ (c : ℕ → ℕ) (n u first : ℕ) (rest : List ℕ) where
-    pub settled-start : Settled nc c n u first rest rest first (u + 1)
-    settled-start e he h = (λ w a b. absurd (omega arith), refl)
+    pub settled_start : Settled nc c n u first rest rest first (u + 1)
+    settled_start e he h = (λ w a b. absurd (omega arith), refl)
 
-    pub settled-next : (out : List ℕ) (sum z v : ℕ) → u < z → z < n → z < length out
+    pub settled_next : (out : List ℕ) (sum z v : ℕ) → u < z → z < n → z < length out
         → ((x : ℕ) → Element nc x → get_or rest z 0 ≡ times nc (bit_xor (power nc (c z)) (power nc (c u))) x → v ≡ x)
         → Settled nc c n u first rest out sum z → Settled nc c n u first rest (set out z v) (bit_xor sum v) (z + 1)
-    settled-next out sum z v a b l d s e he h =
+    settled_next out sum z v a b l d s e he h =
         let is : v ≡ e z = d (e z) (he z) (h z a b) in
         let k : n - z ≡ suc (n - (z + 1)) = omega arith in
         let up : suc z ≡ z + 1 = omega arith in
@@ -212,11 +212,11 @@ module _ (nc : ℕ) (lo : 3 ≤ nc) (hi : nc ≤ 8) where
               ∙ r.1,
         )
 
-    pub settled-end : (out : List ℕ) (sum z : ℕ) → n ≤ z → u < n → u < length out → Settled nc c n u first rest out sum z
+    pub settled_end : (out : List ℕ) (sum z : ℕ) → n ≤ z → u < n → u < length out → Settled nc c n u first rest out sum z
         → (e : ℕ → ℕ) → Contents nc e → Scaled nc c n u rest e → first ≡ brought nc 0 c e u (n - u)
         → (w : ℕ) → u ≤ w → w < n → get_or (set out u sum) w 0 ≡ e w
     unfolding brought
-    settled-end out sum z a b l s e he h f =
+    settled_end out sum z a b l s e he h f =
         let r = s e he h in
         let none : n - z ≡ 0 = omega arith in
         let k : n - u ≡ suc (n - (u + 1)) = omega arith in
@@ -228,7 +228,7 @@ module _ (nc : ℕ) (lo : 3 ≤ nc) (hi : nc ≤ 8) where
         in
         let is : sum ≡ e u =
         sym (xor_zero_r sum) ∙ ap (λ (m : ℕ). bit_xor sum (brought nc 0 c e z m)) (sym none) ∙ r.1
-        ∙ ap (λ (t : ℕ). bit_xor t others) whole ∙ other-summand (e u) others
+        ∙ ap (λ (t : ℕ). bit_xor t others) whole ∙ other_summand (e u) others
         in
         set-each (λ (v x : ℕ). u ≤ v → v < n → x ≡ e v) out u sum l (λ v ne p q. r.0 v (omega arith) (omega arith))
         (λ p q. is)

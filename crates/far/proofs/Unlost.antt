@@ -9,10 +9,10 @@ use lib.Dec.{eqb}
 use lib.ListN.{get_or}
 use Rattle.message.specs.declared.Layout.{Layout}
 use Rattle.lines.specs.Lines.{unlike}
-use Rattle.column.specs.Column.{chunkAt, Crosses}
+use Rattle.column.specs.Column.{chunk_at, Crosses}
 use Rattle.column.specs.declared.Heavy.{Heavy}
-use Rattle.column.proofs.Rows.{no-loss}
-use Rattle.far.specs.Far.{Reads, readApart}
+use Rattle.column.proofs.Rows.{no_loss}
+use Rattle.far.specs.Far.{Reads, read_apart}
 
 -- a chunk counts once at most
 pub one-most : (b : Bool) → cond b 0 1 ≤ 1
@@ -25,7 +25,7 @@ module _ {l : Layout} {y numbers : List ℕ} {heavy : Heavy} {row : List ℕ} {j
   pub reads-there : Reads l y heavy s j (left s)
   reads-there = (c.starts s h, omega (arith, c.there s h, e))
 
-  pub reads_same : (z : List ℕ) → unlike vs z (chunkAt l heavy j s) ≡ readApart l y heavy z s j (left s)
+  pub reads_same : (z : List ℕ) → unlike vs z (chunk_at l heavy j s) ≡ read_apart l y heavy z s j (left s)
   reads_same z =
-      let is = no-loss l.nc _ _ (c.small s h) (c.loses s h ∙ omega (arith, e)) in
-      ap (λ (v : ℕ). cond (eqb v (get_or z (chunkAt l heavy j s) 0)) 0 1) is
+      let is = no_loss l.nc _ _ (c.small s h) (c.loses s h ∙ omega (arith, e)) in
+      ap (λ (v : ℕ). cond (eqb v (get_or z (chunk_at l heavy j s) 0)) 0 1) is

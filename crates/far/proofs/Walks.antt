@@ -12,12 +12,12 @@ use lib.Seq.{get_or-set_same, get_or-set_other}
 use Rattle.message.specs.declared.Layout.{Layout}
 use Rattle.column.specs.declared.Heavy.{Heavy}
 use Rattle.states.specs.States.{lefts}
-use Rattle.far.specs.Far.{columnOf, left_of, Reads, readApart, Walk, stepAt, Covered, Stepped}
+use Rattle.far.specs.Far.{column_of, left_of, Reads, read_apart, Walk, step_at, Covered, Stepped}
 
 module _ (l : Layout) (y : List ℕ) (heavy : Heavy) (z : List ℕ) (s size : ℕ) (ahead : Bool) (at : ℕ)
     (small : size < lefts) where
   -- an entry of an earlier step stands before those of a later one
-  pub earlier : (i t w : ℕ) → i < t → w ≤ size → stepAt at i + w < stepAt at t
+  pub earlier : (i t w : ℕ) → i < t → w ≤ size → step_at at i + w < step_at at t
   earlier i t w h k = omega (arith, small, mul-le-mul_right {m = i + 1} {n = t} lefts (omega arith))
 
   -- no walk has counted anything at first
@@ -29,20 +29,20 @@ module _ (l : Layout) (y : List ℕ) (heavy : Heavy) (z : List ℕ) (s size : �
 
   -- what is changed after a step leaves the steps up to it
   pub covered-kept : (t : ℕ) → t ≤ l.l2 → (entry exit : List ℕ)
-      → ((i : ℕ) → i < stepAt at (t + 1) → get_or exit i 0 ≡ get_or entry i 0)
+      → ((i : ℕ) → i < step_at at (t + 1) → get_or exit i 0 ≡ get_or entry i 0)
       → Covered l y heavy z s size ahead at t entry → Covered l y heavy z s size ahead at t exit
   covered-kept t u entry exit k c w n walk i h =
-      rw (k (stepAt at i + w i) (earlier i (t + 1) (w i) (omega arith) (walk.within i (omega arith)))) (c w n walk i h)
+      rw (k (step_at at i + w i) (earlier i (t + 1) (w i) (omega arith) (walk.within i (omega arith)))) (c w n walk i h)
 
   -- one step more
   pub covered_next : (t : ℕ) → t < l.l2 → (entry exit : List ℕ) → Stepped l y heavy z s size ahead at t entry exit
       → Covered l y heavy z s size ahead at t entry → Covered l y heavy z s size ahead at (t + 1) exit
   covered_next t u entry exit d c w n walk i h = go (ℕ_discrete i (t + 1))
     where
-      here : n t ≤ get_or entry (stepAt at t + w t) 0
+      here : n t ≤ get_or entry (step_at at t + w t) 0
       here = c w n walk t (omega arith)
 
-      last : Dec (w (t + 1) ≡ w t) → n (t + 1) ≤ get_or exit (stepAt at (t + 1) + w (t + 1)) 0
+      last : Dec (w (t + 1) ≡ w t) → n (t + 1) ≤ get_or exit (step_at at (t + 1) + w (t + 1)) 0
       last (yes e) =
           rw e (omega (arith, here, walk.same t u e, d.whole (w t) (walk.within t (omega arith)) (walk.reads t u e)))
       last (no e) =
@@ -53,7 +53,7 @@ module _ (l : Layout) (y : List ℕ) (heavy : Heavy) (z : List ℕ) (s size : �
             d.lost (w t) (w (t + 1)) (omega (arith, walk.rises t u)) (walk.within (t + 1) (omega arith)),
           )
 
-      go : Dec (i ≡ t + 1) → n i ≤ get_or exit (stepAt at i + w i) 0
+      go : Dec (i ≡ t + 1) → n i ≤ get_or exit (step_at at i + w i) 0
       go (yes e) = rw e (last (ℕ_discrete (w (t + 1)) (w t)))
       go (no e) =
           covered-kept t (omega arith) entry exit d.before c w n walk i (omega arith)
@@ -65,18 +65,18 @@ module _ (l : Layout) (y : List ℕ) (heavy : Heavy) (z : List ℕ) (s size : �
   pub record Stepping (table : List ℕ) (most w : ℕ) : Type 0 where
     pub high : w ≤ size + 1
     pub long : length table ≡ length entry
-    pub before : (i : ℕ) → i < stepAt at (t + 1) → get_or table i 0 ≡ get_or entry i 0
+    pub before : (i : ℕ) → i < step_at at (t + 1) → get_or table i 0 ≡ get_or entry i 0
     pub few : most ≤ t + 1
-    pub above : (v : ℕ) → v < w → get_or entry (stepAt at t + v) 0 + 1 ≤ most
-    pub low : (v : ℕ) → v < w → get_or table (stepAt at (t + 1) + v) 0 ≤ t + 1
+    pub above : (v : ℕ) → v < w → get_or entry (step_at at t + v) 0 + 1 ≤ most
+    pub low : (v : ℕ) → v < w → get_or table (step_at at (t + 1) + v) 0 ≤ t + 1
     pub lost : (v : ℕ) → v < w → (u : ℕ) → u < v
-        → get_or entry (stepAt at t + u) 0 + 1 ≤ get_or table (stepAt at (t + 1) + v) 0
-    pub whole : (v : ℕ) → v < w → Reads l y heavy s (columnOf ahead l.l2 t) (left_of ahead size v)
-        → get_or entry (stepAt at t + v) 0 + readApart l y heavy z s (columnOf ahead l.l2 t) (left_of ahead size v)
-        ≤ get_or table (stepAt at (t + 1) + v) 0
+        → get_or entry (step_at at t + u) 0 + 1 ≤ get_or table (step_at at (t + 1) + v) 0
+    pub whole : (v : ℕ) → v < w → Reads l y heavy s (column_of ahead l.l2 t) (left_of ahead size v)
+        → get_or entry (step_at at t + v) 0 + read_apart l y heavy z s (column_of ahead l.l2 t) (left_of ahead size v)
+        ≤ get_or table (step_at at (t + 1) + v) 0
 
-  pub stepping-first : Stepping entry 0 0
-  stepping-first =
+  pub stepping_first : Stepping entry 0 0
+  stepping_first =
       record {
         high = omega arith;
         long = refl;
@@ -89,17 +89,17 @@ module _ (l : Layout) (y : List ℕ) (heavy : Heavy) (z : List ℕ) (s size : �
       }
 
   -- one entry more: a says whether the chunk as read is another, and new and more are the greater ones
-  pub stepping-next : (table : List ℕ) (most w a new more : ℕ) → size < lefts → stepAt at (t + 2) ≤ length table
+  pub stepping_next : (table : List ℕ) (most w a new more : ℕ) → size < lefts → step_at at (t + 2) ≤ length table
       → w ≤ size
-      → Stepping table most w → get_or entry (stepAt at t + w) 0 ≤ t → a ≤ 1
-      → (Reads l y heavy s (columnOf ahead l.l2 t) (left_of ahead size w)
-      → readApart l y heavy z s (columnOf ahead l.l2 t) (left_of ahead size w) ≤ a)
-      → ((most ≤ new) × (get_or entry (stepAt at t + w) 0 + a ≤ new))
-      × ((m : ℕ) → most ≤ m → get_or entry (stepAt at t + w) 0 + a ≤ m → new ≤ m)
-      → ((most ≤ more) × (get_or entry (stepAt at t + w) 0 + 1 ≤ more))
-      × ((m : ℕ) → most ≤ m → get_or entry (stepAt at t + w) 0 + 1 ≤ m → more ≤ m)
-      → Stepping (set table (stepAt at (t + 1) + w) new) more (w + 1)
-  stepping-next table most w a new more small room h c here one reads up on =
+      → Stepping table most w → get_or entry (step_at at t + w) 0 ≤ t → a ≤ 1
+      → (Reads l y heavy s (column_of ahead l.l2 t) (left_of ahead size w)
+      → read_apart l y heavy z s (column_of ahead l.l2 t) (left_of ahead size w) ≤ a)
+      → ((most ≤ new) × (get_or entry (step_at at t + w) 0 + a ≤ new))
+      × ((m : ℕ) → most ≤ m → get_or entry (step_at at t + w) 0 + a ≤ m → new ≤ m)
+      → ((most ≤ more) × (get_or entry (step_at at t + w) 0 + 1 ≤ more))
+      × ((m : ℕ) → most ≤ m → get_or entry (step_at at t + w) 0 + 1 ≤ m → more ≤ m)
+      → Stepping (set table (step_at at (t + 1) + w) new) more (w + 1)
+  stepping_next table most w a new more small room h c here one reads up on =
       record {
         high = omega arith;
         long = length-set table place new ∙ c.long;
@@ -114,18 +114,18 @@ module _ (l : Layout) (y : List ℕ) (heavy : Heavy) (z : List ℕ) (s size : �
       }
     where
       place : ℕ
-      place = stepAt at (t + 1) + w
+      place = step_at at (t + 1) + w
 
       same : get_or (set table place new) place 0 ≡ new
       same = get_or-set_same table place new 0 (omega (arith, small))
 
       other : (v : ℕ) → v < w
-          → get_or (set table place new) (stepAt at (t + 1) + v) 0 ≡ get_or table (stepAt at (t + 1) + v) 0
-      other v k = get_or-set_other table place (stepAt at (t + 1) + v) new 0 (λ e. omega arith)
+          → get_or (set table place new) (step_at at (t + 1) + v) 0 ≡ get_or table (step_at at (t + 1) + v) 0
+      other v k = get_or-set_other table place (step_at at (t + 1) + v) new 0 (λ e. omega arith)
 
-  pub stepping-last : (table : List ℕ) (most w : ℕ) → size < w → Stepping table most w
+  pub stepping_last : (table : List ℕ) (most w : ℕ) → size < w → Stepping table most w
       → Stepped l y heavy z s size ahead at t entry table
-  stepping-last table most w h c =
+  stepping_last table most w h c =
       record {
         long = c.long;
         before = c.before;

@@ -3,8 +3,8 @@
 ghost use Rattle.std.specs.Prelude.{◌≡◌, ℕ, ◌+◌, ◌*◌, ◌<◌, ◌≤◌, length, get_or};
 ghost use Rattle.states.specs.States.{lefts};
 ghost use Rattle.column.specs.Column.{Fit};
-ghost use Rattle.far.specs.Far.{columnOf, left_of, Reads, readApart, Asked};
-ghost use Rattle.far.specs.Far.{stepAt, Stepped, Swept, Covered, block_at};
+ghost use Rattle.far.specs.Far.{column_of, left_of, Reads, read_apart, Asked};
+ghost use Rattle.far.specs.Far.{step_at, Stepped, Swept, Covered, block_at};
 
 use column::Heavy;
 use message::Layout;
@@ -22,7 +22,7 @@ pub fn read_apart(
 ) -> u8
     requires { Asked l y.now heavy z.now s size × ((j < l.l2) × (e ≤ size)) }
     ensures { (result ≤ 1) × (Reads l y.now heavy s j e
-        → readApart l y.now heavy z.now s j e ≤ result) }
+        → read_apart l y.now heavy z.now s j e ≤ result) }
 {
     let left = e as u8;
     let p = column::place_of(l, y.len(), heavy.block[s], j, heavy.end[s], left, left);
@@ -49,8 +49,8 @@ fn step_apart(
     w: usize,
 ) -> u8
     requires { Asked l y.now heavy z.now s size × ((t < l.l2) × (w ≤ size)) }
-    ensures { (result ≤ 1) × (Reads l y.now heavy s (columnOf ahead l.l2 t) (left_of ahead size w)
-        → readApart l y.now heavy z.now s (columnOf ahead l.l2 t) (left_of ahead size w) ≤ result) }
+    ensures { (result ≤ 1) × (Reads l y.now heavy s (column_of ahead l.l2 t) (left_of ahead size w)
+        → read_apart l y.now heavy z.now s (column_of ahead l.l2 t) (left_of ahead size w) ≤ result) }
 {
     if ahead {
         return read_apart(l, y, heavy, z, s, size, t, size - w);
@@ -82,8 +82,8 @@ fn next_step(
     at: usize,
     table: &mut [u8],
 )
-    requires { Asked l y.now heavy z.now s size × ((t < l.l2) × ((stepAt at (t + 2) ≤ length table.old)
-        × ((w : ℕ) → w ≤ size → get_or table.old (stepAt at t + w) 0 ≤ t))) }
+    requires { Asked l y.now heavy z.now s size × ((t < l.l2) × ((step_at at (t + 2) ≤ length table.old)
+        × ((w : ℕ) → w ≤ size → get_or table.old (step_at at t + w) 0 ≤ t))) }
     ensures { Stepped l y.now heavy z.now s size ahead at t
         table.old table.new }
 {
@@ -102,7 +102,7 @@ fn next_step(
 
 // Clears the entries of the first step.
 fn first_step(size: usize, at: usize, table: &mut [u8])
-    requires { (size < lefts) × (stepAt at 1 ≤ length table.old) }
+    requires { (size < lefts) × (step_at at 1 ≤ length table.old) }
     ensures { (length table.new ≡ length table.old)
         × (((i : ℕ) → i < at → get_or table.new i 0 ≡ get_or table.old i 0)
         × ((w : ℕ) → w ≤ size → get_or table.new (at + w) 0 ≡ 0)) }
@@ -126,7 +126,7 @@ fn sweep(
     at: usize,
     table: &mut [u8],
 )
-    requires { Asked l y.now heavy z.now s size × (stepAt at (l.l2 + 1) ≤ length table.old) }
+    requires { Asked l y.now heavy z.now s size × (step_at at (l.l2 + 1) ≤ length table.old) }
     ensures { Swept l y.now heavy z.now s size ahead at
         table.old table.new }
 {

@@ -34,10 +34,10 @@ unfolding either
 has x [] = false
 has x (y ∷ ys) = either (eqb y x) (has x ys)
 
-pub has-at : (x : ℕ) (ys : List ℕ) → T (has x ys) → (k : ℕ) × (k < length ys) × (get_or ys k 0 ≡ x)
+pub has_at : (x : ℕ) (ys : List ℕ) → T (has x ys) → (k : ℕ) × (k < length ys) × (get_or ys k 0 ≡ x)
 unfolding has
-has-at x [] t = absurd t
-has-at x (y ∷ ys) t = go (eqb y x) refl t (has-at x ys)
+has_at x [] t = absurd t
+has_at x (y ∷ ys) t = go (eqb y x) refl t (has_at x ys)
   where
     go : (b : Bool) → eqb y x ≡ b → T (either b (has x ys))
         → (T (has x ys) → (k : ℕ) × (k < length ys) × (get_or ys k 0 ≡ x))
@@ -63,10 +63,10 @@ unfolding both has
 all_in zero ys = true
 all_in (suc n) ys = both (has (suc n) ys) (all_in n ys)
 
-pub all-in-has : (n : ℕ) (ys : List ℕ) → T (all_in n ys) → (x : ℕ) → 0 < x → x ≤ n → T (has x ys)
+pub all_in_has : (n : ℕ) (ys : List ℕ) → T (all_in n ys) → (x : ℕ) → 0 < x → x ≤ n → T (has x ys)
 unfolding all_in
-all-in-has zero ys t x p h = absurd (omega arith)
-all-in-has (suc n) ys t x p h = go (dec_le x n) (all-in-has n ys (both_right (has (suc n) ys) (all_in n ys) t))
+all_in_has zero ys t x p h = absurd (omega arith)
+all_in_has (suc n) ys t x p h = go (dec_le x n) (all_in_has n ys (both_right (has (suc n) ys) (all_in n ys) t))
   where
     go : Dec (x ≤ n) → ((y : ℕ) → 0 < y → y ≤ n → T (has y ys)) → T (has x ys)
     go (yes l) below = below x p l

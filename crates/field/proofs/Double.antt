@@ -10,7 +10,7 @@ use lib.Bits.{bit_xor, xor_lt, xor_shr, xor_zero_r, xor_self}
 use lib.Dec.{eqb}
 use lib.Pow.{pow_pos, pow_mono, pow-add}
 use Rattle.field.specs.Field.{polynomial, Element, double, power}
-use Rattle.field.proofs.Xor.{digit, xor-twice, xor-cross, xor_same}
+use Rattle.field.proofs.Xor.{digit, xor_twice, xor_cross, xor_same}
 
 -- a fact of each of the six fields
 pub each : (P : ℕ → Type 0) → P 3 → P 4 → P 5 → P 6 → P 7 → P 8 → (nc : ℕ) → 3 ≤ nc → nc ≤ 8 → P nc
@@ -33,34 +33,34 @@ pub size-high : (nc : ℕ) → nc ≤ 8 → 2 ^ nc ≤ 256
 size-high nc hi = pow_mono {i = nc} {j = 8} hi
 
 -- a multiple of 8
-pub size-eights : (nc : ℕ) → 3 ≤ nc → 2 ^ nc ≡ 8 * 2 ^ (nc - 3)
-size-eights nc lo = let e : nc ≡ 3 + (nc - 3) = omega arith in ap (λ (k : ℕ). 2 ^ k) e ∙ pow-add 2 3 (nc - 3)
+pub size_eights : (nc : ℕ) → 3 ≤ nc → 2 ^ nc ≡ 8 * 2 ^ (nc - 3)
+size_eights nc lo = let e : nc ≡ 3 + (nc - 3) = omega arith in ap (λ (k : ℕ). 2 ^ k) e ∙ pow-add 2 3 (nc - 3)
 
 -- b for a digit 1, 0 for a digit 0
 abbrev pub pick : ℕ → ℕ → ℕ
 pick d b = cond (eqb d 1) b 0
 
-pub pick-xor : (d e b : ℕ) → d < 2 → e < 2 → pick (bit_xor d e) b ≡ bit_xor (pick d b) (pick e b)
-pick-xor d e b hd he =
+pub pick_xor : (d e b : ℕ) → d < 2 → e < 2 → pick (bit_xor d e) b ≡ bit_xor (pick d b) (pick e b)
+pick_xor d e b hd he =
     digit (λ (n : ℕ). pick (bit_xor n e) b ≡ bit_xor (pick n b) (pick e b)) refl
     (digit (λ (n : ℕ). pick (bit_xor 1 n) b ≡ bit_xor b (pick n b)) (sym (xor_zero_r b)) (sym (xor_self b)) e he)
     d hd
 
-pub pick-of-xor : (d a b : ℕ) → d < 2 → pick d (bit_xor a b) ≡ bit_xor (pick d a) (pick d b)
-pick-of-xor d a b = digit (λ (n : ℕ). pick n (bit_xor a b) ≡ bit_xor (pick n a) (pick n b)) refl refl d
+pub pick_of_xor : (d a b : ℕ) → d < 2 → pick d (bit_xor a b) ≡ bit_xor (pick d a) (pick d b)
+pick_of_xor d a b = digit (λ (n : ℕ). pick n (bit_xor a b) ≡ bit_xor (pick n a) (pick n b)) refl refl d
 
 -- the digit that doubling carries out of the field
 abbrev pub carry : ℕ → ℕ → ℕ
 carry nc x = 2 * x / 2 ^ nc
 
-pub carry-digit : (nc x : ℕ) → Element nc x → carry nc x < 2
-carry-digit nc x h = (div-lt_iff_lt-mul (pow_pos nc)).1 (omega arith)
+pub carry_digit : (nc x : ℕ) → Element nc x → carry nc x < 2
+carry_digit nc x h = (div-lt_iff_lt-mul (pow_pos nc)).1 (omega arith)
 
-carry-none : (nc x : ℕ) → 2 * x < 2 ^ nc → carry nc x ≡ 0
-carry-none nc x h = div-eq_of_lt h
+carry_none : (nc x : ℕ) → 2 * x < 2 ^ nc → carry nc x ≡ 0
+carry_none nc x h = div-eq_of_lt h
 
-carry-one : (nc x : ℕ) → Element nc x → 2 ^ nc ≤ 2 * x → carry nc x ≡ 1
-carry-one nc x h l = div-eq_of_lt-le {k = 1} (2 ^ nc) (omega arith) (omega arith)
+carry_one : (nc x : ℕ) → Element nc x → 2 ^ nc ≤ 2 * x → carry nc x ≡ 1
+carry_one nc x h l = div-eq_of_lt-le {k = 1} (2 ^ nc) (omega arith) (omega arith)
 
 -- doubling where nothing is carried
 pub double-small : (nc x : ℕ) → 2 * x < 2 ^ nc → double nc x ≡ 2 * x
@@ -68,37 +68,37 @@ unfolding double
 double-small nc x l = ap (λ (t : Bool). cond t (2 * x) (bit_xor (2 * x) (polynomial nc))) (lt-ltb (2 * x) (2 ^ nc) l)
 
 -- and where a digit is
-double-large : (nc x : ℕ) → 2 ^ nc ≤ 2 * x → double nc x ≡ bit_xor (2 * x) (polynomial nc)
+double_large : (nc x : ℕ) → 2 ^ nc ≤ 2 * x → double nc x ≡ bit_xor (2 * x) (polynomial nc)
 unfolding double
-double-large nc x l = ap (λ (t : Bool). cond t (2 * x) (bit_xor (2 * x) (polynomial nc))) (le-ltb (2 * x) (2 ^ nc) l)
+double_large nc x l = ap (λ (t : Bool). cond t (2 * x) (bit_xor (2 * x) (polynomial nc))) (le-ltb (2 * x) (2 ^ nc) l)
 
 -- doubling takes the polynomial off where it carries
-pub double-carries : (nc x : ℕ) → Element nc x → double nc x ≡ bit_xor (2 * x) (pick (carry nc x) (polynomial nc))
-double-carries nc x h = go (dec_lt (2 * x) (2 ^ nc))
+pub double_carries : (nc x : ℕ) → Element nc x → double nc x ≡ bit_xor (2 * x) (pick (carry nc x) (polynomial nc))
+double_carries nc x h = go (dec_lt (2 * x) (2 ^ nc))
   where
     taken : {d : ℕ} → carry nc x ≡ d
         → bit_xor (2 * x) (pick d (polynomial nc)) ≡ bit_xor (2 * x) (pick (carry nc x) (polynomial nc))
     taken e = ap (λ (d : ℕ). bit_xor (2 * x) (pick d (polynomial nc))) (sym e)
 
     go : Dec (2 * x < 2 ^ nc) → double nc x ≡ bit_xor (2 * x) (pick (carry nc x) (polynomial nc))
-    go (yes l) = double-small nc x l ∙ sym (xor_zero_r (2 * x)) ∙ taken (carry-none nc x l)
+    go (yes l) = double-small nc x l ∙ sym (xor_zero_r (2 * x)) ∙ taken (carry_none nc x l)
     go (no n) =
         let l : 2 ^ nc ≤ 2 * x = omega arith in
-        double-large nc x l ∙ taken (carry-one nc x h l)
+        double_large nc x l ∙ taken (carry_one nc x h l)
 
-pub double-zero : (nc : ℕ) → double nc 0 ≡ 0
-double-zero nc = double-small nc 0 (pow_pos nc)
+pub double_zero : (nc : ℕ) → double nc 0 ≡ 0
+double_zero nc = double-small nc 0 (pow_pos nc)
 
 -- doubling is linear
 pub double-xor : (nc x y : ℕ) → Element nc x → Element nc y → double nc (bit_xor x y) ≡ bit_xor (double nc x) (double nc y)
 double-xor nc x y hx hy =
     let p = polynomial nc in
-    double-carries nc (bit_xor x y) (xor_lt nc x y hx hy)
-    ∙ ap₂ bit_xor (sym (xor-twice x y))
-    (ap (λ (d : ℕ). pick d p) (ap (λ (n : ℕ). n / 2 ^ nc) (sym (xor-twice x y)) ∙ xor_shr (2 * x) (2 * y) nc)
-    ∙ pick-xor (carry nc x) (carry nc y) p (carry-digit nc x hx) (carry-digit nc y hy))
-    ∙ xor-cross (2 * x) (2 * y) (pick (carry nc x) p) (pick (carry nc y) p)
-    ∙ sym (ap₂ bit_xor (double-carries nc x hx) (double-carries nc y hy))
+    double_carries nc (bit_xor x y) (xor_lt nc x y hx hy)
+    ∙ ap₂ bit_xor (sym (xor_twice x y))
+    (ap (λ (d : ℕ). pick d p) (ap (λ (n : ℕ). n / 2 ^ nc) (sym (xor_twice x y)) ∙ xor_shr (2 * x) (2 * y) nc)
+    ∙ pick_xor (carry nc x) (carry nc y) p (carry_digit nc x hx) (carry_digit nc y hy))
+    ∙ xor_cross (2 * x) (2 * y) (pick (carry nc x) p) (pick (carry nc y) p)
+    ∙ sym (ap₂ bit_xor (double_carries nc x hx) (double_carries nc y hy))
 
 module _ (nc : ℕ) (lo : 3 ≤ nc) (hi : nc ≤ 8) where
   -- the polynomial has nc + 1 digits, and its last digit is 1
@@ -108,14 +108,14 @@ module _ (nc : ℕ) (lo : 3 ≤ nc) (hi : nc ≤ 8) where
   polynomial-last : polynomial nc % 2 ≡ 1
   polynomial-last = each (λ (n : ℕ). polynomial n % 2 ≡ 1) refl refl refl refl refl refl nc lo hi
 
-  pub one-element : Element nc 1
-  one-element = omega (arith, size_low nc lo)
+  pub one_element : Element nc 1
+  one_element = omega (arith, size_low nc lo)
 
-  pub double-element : (x : ℕ) → Element nc x → Element nc (double nc x)
-  double-element x h =
+  pub double_element : (x : ℕ) → Element nc x → Element nc (double nc x)
+  double_element x h =
       let none =
-      ap (λ (n : ℕ). n / 2 ^ nc) (double-carries nc x h) ∙ xor_shr (2 * x) (pick (carry nc x) (polynomial nc)) nc
-      ∙ off (carry nc x) (carry-digit nc x h) in
+      ap (λ (n : ℕ). n / 2 ^ nc) (double_carries nc x h) ∙ xor_shr (2 * x) (pick (carry nc x) (polynomial nc)) nc
+      ∙ off (carry nc x) (carry_digit nc x h) in
       let low : double nc x < 1 * 2 ^ nc = (div-lt_iff_lt-mul (pow_pos nc)).0 (omega arith) in
       omega arith
     where
@@ -125,22 +125,22 @@ module _ (nc : ℕ) (lo : 3 ≤ nc) (hi : nc ≤ 8) where
           (ap (bit_xor 1) polynomial-first)
 
   -- only 0 doubles to 0
-  pub double-nonzero : (x : ℕ) → Element nc x → double nc x ≡ 0 → x ≡ 0
-  double-nonzero x h z =
-      only (carry nc x) (carry-digit nc x h)
-      (xor_same (2 * x) (pick (carry nc x) (polynomial nc)) (sym (double-carries nc x h) ∙ z))
+  pub double_nonzero : (x : ℕ) → Element nc x → double nc x ≡ 0 → x ≡ 0
+  double_nonzero x h z =
+      only (carry nc x) (carry_digit nc x h)
+      (xor_same (2 * x) (pick (carry nc x) (polynomial nc)) (sym (double_carries nc x h) ∙ z))
     where
       only : (d : ℕ) → d < 2 → 2 * x ≡ pick d (polynomial nc) → x ≡ 0
       only =
           digit (λ (d : ℕ). 2 * x ≡ pick d (polynomial nc) → x ≡ 0) (λ e. omega arith)
           (λ e. omega (arith, polynomial-last))
 
-  pub power-element : (e : ℕ) → Element nc (power nc e)
+  pub power_element : (e : ℕ) → Element nc (power nc e)
   unfolding power
-  power-element zero = one-element
-  power-element (suc e) = double-element (power nc e) (power-element e)
+  power_element zero = one_element
+  power_element (suc e) = double_element (power nc e) (power_element e)
 
-  pub power-nonzero : (e : ℕ) → power nc e ≡ 0 → ⊥
+  pub power_nonzero : (e : ℕ) → power nc e ≡ 0 → ⊥
   unfolding power
-  power-nonzero zero z = omega arith
-  power-nonzero (suc e) z = power-nonzero e (double-nonzero (power nc e) (power-element e) z)
+  power_nonzero zero z = omega arith
+  power_nonzero (suc e) z = power_nonzero e (double_nonzero (power nc e) (power_element e) z)

@@ -9,10 +9,10 @@ use native.Mathlib.Omega.{arith}
 use lib.Dec.{T, T_not}
 use Rattle.field.specs.Field.{Element, double, power, times}
 use Rattle.field.specs.Tables.{doubles}
-use Rattle.field.proofs.Among.{has, has-at, at_has, all_in, all-in-has}
-use Rattle.field.proofs.Double.{each, power-element, power-nonzero}
+use Rattle.field.proofs.Among.{has, has_at, at_has, all_in, all_in_has}
+use Rattle.field.proofs.Double.{each, power_element, power_nonzero}
 use Rattle.field.proofs.Powers.{doubles-at, length-doubles, powers-at}
-use Rattle.field.proofs.Times.{times-element, times_zero, times-of-zero, times-one, times-of-double, double-times, times_power, power-order, power-period}
+use Rattle.field.proofs.Times.{times_element, times_zero, times_of_zero, times-one, times_of_double, double-times, times_power, power-order, power_period}
 
 module _ (nc : ℕ) (lo : 3 ≤ nc) (hi : nc ≤ 8) where
   -- every element but 0 is among the powers, computed
@@ -26,10 +26,10 @@ module _ (nc : ℕ) (lo : 3 ≤ nc) (hi : nc ≤ 8) where
   one-once = each (λ (n : ℕ). T (not (has 1 (doubles n (power n 1) (2 ^ n - 2))))) tt tt tt tt tt tt nc lo hi
 
   -- every element but 0 is a power of 2
-  pub log-exists : (x : ℕ) → 0 < x → Element nc x → (e : ℕ) × (e + 1 < 2 ^ nc) × (power nc e ≡ x)
-  log-exists x p h =
+  pub log_exists : (x : ℕ) → 0 < x → Element nc x → (e : ℕ) × (e + 1 < 2 ^ nc) × (power nc e ≡ x)
+  log_exists x p h =
       let n : ℕ = 2 ^ nc - 1 in
-      let r = has-at x (doubles nc 1 n) (all-in-has n (doubles nc 1 n) all-powers x p (omega arith)) in
+      let r = has_at x (doubles nc 1 n) (all_in_has n (doubles nc 1 n) all-powers x p (omega arith)) in
       let l : r.0 + 1 < 2 ^ nc = omega (arith, length-doubles nc 1 n) in
       (r.0, l, sym (powers-at nc r.0 l) ∙ r.2)
 
@@ -39,7 +39,7 @@ module _ (nc : ℕ) (lo : 3 ≤ nc) (hi : nc ≤ 8) where
       let n : ℕ = 2 ^ nc - 1 in
       let up : n + (e - d) ≡ n - d + e = omega arith in
       let down : n - d + d ≡ n = omega arith in
-      sym (power-period nc lo hi (e - d)) ∙ ap (power nc) up ∙ sym (times_power nc lo hi (n - d) e)
+      sym (power_period nc lo hi (e - d)) ∙ ap (power nc) up ∙ sym (times_power nc lo hi (n - d) e)
       ∙ ap (times nc (power nc (n - d))) (sym s) ∙ times_power nc lo hi (n - d) d ∙ ap (power nc) down
       ∙ power-order nc lo hi
 
@@ -53,8 +53,8 @@ module _ (nc : ℕ) (lo : 3 ≤ nc) (hi : nc ≤ 8) where
       T_not (has 1 later) one-once (at_has 1 later j (rw (length-doubles nc (power nc 1) k) (omega arith)) one)
 
   -- of one exponent only
-  pub log-unique : (d e : ℕ) → d + 1 < 2 ^ nc → e + 1 < 2 ^ nc → power nc d ≡ power nc e → d ≡ e
-  log-unique d e hd he s = go (dec_lt d e) (dec_lt e d)
+  pub log_unique : (d e : ℕ) → d + 1 < 2 ^ nc → e + 1 < 2 ^ nc → power nc d ≡ power nc e → d ≡ e
+  log_unique d e hd he s = go (dec_lt d e) (dec_lt e d)
     where
       go : Dec (d < e) → Dec (e < d) → d ≡ e
       go (yes l) m = absurd (power-distinct d e l he s)
@@ -64,38 +64,38 @@ module _ (nc : ℕ) (lo : 3 ≤ nc) (hi : nc ≤ 8) where
   -- ---- the product through the powers
 
   -- what holds of 0 and of each power holds of each element
-  pub by-powers : (P : ℕ → Type 0) → P 0 → ((e : ℕ) → P (power nc e)) → (x : ℕ) → Element nc x → P x
-  by-powers P z f zero h = z
-  by-powers P z f (suc x) h =
-      let r = log-exists (suc x) (omega arith) h in
+  pub by_powers : (P : ℕ → Type 0) → P 0 → ((e : ℕ) → P (power nc e)) → (x : ℕ) → Element nc x → P x
+  by_powers P z f zero h = z
+  by_powers P z f (suc x) h =
+      let r = log_exists (suc x) (omega arith) h in
       subst P r.2 (f r.0)
 
-  pub times-nonzero : (a b : ℕ) → Element nc a → Element nc b → 0 < a → 0 < b → 0 < times nc a b
-  times-nonzero a b ha hb pa pb =
-      let r = log-exists a pa ha in
-      let s = log-exists b pb hb in
+  pub times_nonzero : (a b : ℕ) → Element nc a → Element nc b → 0 < a → 0 < b → 0 < times nc a b
+  times_nonzero a b ha hb pa pb =
+      let r = log_exists a pa ha in
+      let s = log_exists b pb hb in
       let e : power nc (r.0 + s.0) ≡ times nc a b =
       sym (times_power nc lo hi r.0 s.0) ∙ ap₂ (times nc) r.2 s.2 in
-      let n : times nc a b ≡ 0 → ⊥ = λ z. power-nonzero nc lo hi (r.0 + s.0) (e ∙ z) in
+      let n : times nc a b ≡ 0 → ⊥ = λ z. power_nonzero nc lo hi (r.0 + s.0) (e ∙ z) in
       omega arith
 
-  pub times-of-one : (a : ℕ) → Element nc a → times nc a 1 ≡ a
+  pub times_of_one : (a : ℕ) → Element nc a → times nc a 1 ≡ a
   unfolding power
-  times-of-one =
-      by-powers (λ (x : ℕ). times nc x 1 ≡ x) (times_zero nc 1)
+  times_of_one =
+      by_powers (λ (x : ℕ). times nc x 1 ≡ x) (times_zero nc 1)
       (λ e. times_power nc lo hi e 0 ∙ ap (power nc) (add-zero e))
 
   power-comm : (d b : ℕ) → Element nc b → times nc (power nc d) b ≡ times nc b (power nc d)
   unfolding power
-  power-comm zero b hb = times-one nc lo hi b ∙ sym (times-of-one b hb)
+  power-comm zero b hb = times-one nc lo hi b ∙ sym (times_of_one b hb)
   power-comm (suc d) b hb =
       let p = power nc d in
-      let hp = power-element nc lo hi d in
-      double-times nc lo hi p b hp hb ∙ ap (double nc) (power-comm d b hb) ∙ sym (times-of-double nc lo hi b p hp)
+      let hp = power_element nc lo hi d in
+      double-times nc lo hi p b hp hb ∙ ap (double nc) (power-comm d b hb) ∙ sym (times_of_double nc lo hi b p hp)
 
-  pub times-comm : (a b : ℕ) → Element nc a → Element nc b → times nc a b ≡ times nc b a
-  times-comm a b ha hb =
-      by-powers (λ (x : ℕ). times nc x b ≡ times nc b x) (times_zero nc b ∙ sym (times-of-zero nc b))
+  pub times_comm : (a b : ℕ) → Element nc a → Element nc b → times nc a b ≡ times nc b a
+  times_comm a b ha hb =
+      by_powers (λ (x : ℕ). times nc x b ≡ times nc b x) (times_zero nc b ∙ sym (times_of_zero nc b))
       (λ d. power-comm d b hb) a ha
 
   power-assoc : (d b c : ℕ) → Element nc b → Element nc c
@@ -105,15 +105,15 @@ module _ (nc : ℕ) (lo : 3 ≤ nc) (hi : nc ≤ 8) where
       ap (λ (n : ℕ). times nc n c) (times-one nc lo hi b) ∙ sym (times-one nc lo hi (times nc b c))
   power-assoc (suc d) b c hb hc =
       let p = power nc d in
-      let hp = power-element nc lo hi d in
+      let hp = power_element nc lo hi d in
       ap (λ (n : ℕ). times nc n c) (double-times nc lo hi p b hp hb)
-      ∙ double-times nc lo hi (times nc p b) c (times-element nc lo hi p b hb) hc
+      ∙ double-times nc lo hi (times nc p b) c (times_element nc lo hi p b hb) hc
       ∙ ap (double nc) (power-assoc d b c hb hc)
-      ∙ sym (double-times nc lo hi p (times nc b c) hp (times-element nc lo hi b c hc))
+      ∙ sym (double-times nc lo hi p (times nc b c) hp (times_element nc lo hi b c hc))
 
-  pub times-assoc : (a b c : ℕ) → Element nc a → Element nc b → Element nc c
+  pub times_assoc : (a b c : ℕ) → Element nc a → Element nc b → Element nc c
       → times nc (times nc a b) c ≡ times nc a (times nc b c)
-  times-assoc a b c ha hb hc =
-      by-powers (λ (x : ℕ). times nc (times nc x b) c ≡ times nc x (times nc b c))
+  times_assoc a b c ha hb hc =
+      by_powers (λ (x : ℕ). times nc (times nc x b) c ≡ times nc x (times nc b c))
       (ap (λ (n : ℕ). times nc n c) (times_zero nc b) ∙ times_zero nc c ∙ sym (times_zero nc (times nc b c)))
       (λ d. power-assoc d b c hb hc) a ha

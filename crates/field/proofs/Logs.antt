@@ -9,56 +9,56 @@ use native.Mathlib.Omega.{arith}
 use lib.ListN.{length, get_or, set, length-set}
 use lib.Seq.{get_or-set_same, get_or-set_other}
 use Rattle.field.specs.Field.{Element, power}
-use Rattle.field.specs.Tables.{withLogs, Logs}
-use Rattle.field.proofs.Double.{power-element}
-use Rattle.field.proofs.Generator.{log-exists, log-unique}
+use Rattle.field.specs.Tables.{with_logs, Logs}
+use Rattle.field.proofs.Double.{power_element}
+use Rattle.field.proofs.Generator.{log_exists, log_unique}
 
-pub length-withLogs : (nc k : ℕ) (xs : List ℕ) → length (withLogs nc k xs) ≡ length xs
-unfolding withLogs
-length-withLogs nc zero xs = refl
-length-withLogs nc (suc e) xs = length-set (withLogs nc e xs) (power nc e) e ∙ length-withLogs nc e xs
+pub length-with_logs : (nc k : ℕ) (xs : List ℕ) → length (with_logs nc k xs) ≡ length xs
+unfolding with_logs
+length-with_logs nc zero xs = refl
+length-with_logs nc (suc e) xs = length-set (with_logs nc e xs) (power nc e) e ∙ length-with_logs nc e xs
 
-pub logs-none : (nc : ℕ) (xs : List ℕ) → xs ≡ withLogs nc 0 xs
-unfolding withLogs
-logs-none nc xs = refl
+pub logs_none : (nc : ℕ) (xs : List ℕ) → xs ≡ with_logs nc 0 xs
+unfolding with_logs
+logs_none nc xs = refl
 
-pub logs-more : (nc e : ℕ) (xs : List ℕ) → set (withLogs nc e xs) (power nc e) e ≡ withLogs nc (e + 1) xs
-unfolding withLogs
-logs-more nc e xs = ap (λ (k : ℕ). withLogs nc k xs) (sym (add-one e))
+pub logs_more : (nc e : ℕ) (xs : List ℕ) → set (with_logs nc e xs) (power nc e) e ≡ with_logs nc (e + 1) xs
+unfolding with_logs
+logs_more nc e xs = ap (λ (k : ℕ). with_logs nc k xs) (sym (add-one e))
 
 module _ (nc : ℕ) (lo : 3 ≤ nc) (hi : nc ≤ 8) (xs : List ℕ) (long : 2 ^ nc ≤ length xs) where
-  log-at : (k d : ℕ) → k < 2 ^ nc → d < k → get_or (withLogs nc k xs) (power nc d) 0 ≡ d
-  unfolding withLogs
+  log-at : (k d : ℕ) → k < 2 ^ nc → d < k → get_or (with_logs nc k xs) (power nc d) 0 ≡ d
+  unfolding with_logs
   log-at zero d h l = absurd (not-suc-le-zero l)
   log-at (suc e) d h l = go (dec_lt d e) (log-at e d (omega arith))
     where
-      go : Dec (d < e) → (d < e → get_or (withLogs nc e xs) (power nc d) 0 ≡ d)
-          → get_or (withLogs nc (suc e) xs) (power nc d) 0 ≡ d
+      go : Dec (d < e) → (d < e → get_or (with_logs nc e xs) (power nc d) 0 ≡ d)
+          → get_or (with_logs nc (suc e) xs) (power nc d) 0 ≡ d
       go (yes m) below =
-          get_or-set_other (withLogs nc e xs) (power nc e) (power nc d) e 0
-          (λ s. omega (arith, log-unique nc lo hi d e (omega arith) (omega arith) s)) ∙ below m
+          get_or-set_other (with_logs nc e xs) (power nc e) (power nc d) e 0
+          (λ s. omega (arith, log_unique nc lo hi d e (omega arith) (omega arith) s)) ∙ below m
       go (no n) below =
           let same : d ≡ e = omega arith in
-          ap (λ (j : ℕ). get_or (withLogs nc (suc e) xs) (power nc j) 0) same
-          ∙ get_or-set_same (withLogs nc e xs) (power nc e) e 0
-          (omega (arith, power-element nc lo hi e, length-withLogs nc e xs)) ∙ sym same
+          ap (λ (j : ℕ). get_or (with_logs nc (suc e) xs) (power nc j) 0) same
+          ∙ get_or-set_same (with_logs nc e xs) (power nc e) e 0
+          (omega (arith, power_element nc lo hi e, length-with_logs nc e xs)) ∙ sym same
 
   -- all logs, and the one of x
   filled : List ℕ
-  filled = withLogs nc (2 ^ nc - 1) xs
+  filled = with_logs nc (2 ^ nc - 1) xs
 
   log-of : (x : ℕ) → 0 < x → Element nc x → (get_or filled x 0 + 1 < 2 ^ nc) × (power nc (get_or filled x 0) ≡ x)
   unfolding filled
   log-of x p h =
-      let r = log-exists nc lo hi x p h in
+      let r = log_exists nc lo hi x p h in
       let e = ap (λ (n : ℕ). get_or filled n 0) (sym r.2) ∙ log-at (2 ^ nc - 1) r.0 (omega arith) (omega arith) in
       (omega arith, ap (power nc) e ∙ r.2)
 
-  pub logs-filled : Logs nc (withLogs nc (2 ^ nc - 1) xs)
+  pub logs_filled : Logs nc (with_logs nc (2 ^ nc - 1) xs)
   unfolding filled
-  logs-filled =
+  logs_filled =
       record {
-        long = omega (arith, length-withLogs nc (2 ^ nc - 1) xs);
+        long = omega (arith, length-with_logs nc (2 ^ nc - 1) xs);
         low = λ x p h. (log-of x p h).0;
         log = λ x p h. (log-of x p h).1;
       }

@@ -12,9 +12,9 @@ use lib.ListN.{length, get_or, set, take, drop, replicate}
 use lib.Seq.{drop-cons, drop-length, get_or-set_same, get_or-set_other, get_or-take, length-take-le}
 use Rattle.bits.proofs.Laws.{zeros-at, entries-take}
 use Rattle.field.specs.Exponents.{Exponents, sum_to, term, Terms}
-use Rattle.field.specs.Field.{power, times, checkFrom, check}
+use Rattle.field.specs.Field.{power, times, check_from, check}
 use Rattle.field.proofs.Double.{size_low}
-use Rattle.field.proofs.Times.{times-of-zero, times_power, power-period}
+use Rattle.field.proofs.Times.{times_of_zero, times_power, power_period}
 use Rattle.field.proofs.Xor.{xor_assoc}
 
 -- ---- lists of exponents
@@ -59,22 +59,22 @@ sum_same (suc n) f g h = ap₂ bit_xor (sum_same n f g (λ k m. h k (omega arith
 
 -- what the chunks from c on leave of a check, taken apart at the first
 check-next : (nc i c : ℕ) (xs : List ℕ) → c < length xs
-    → checkFrom nc i c (drop c xs)
-    ≡ bit_xor (times nc (power nc (i * c)) (get_or xs c 0)) (checkFrom nc i (c + 1) (drop (c + 1) xs))
-unfolding checkFrom
+    → check_from nc i c (drop c xs)
+    ≡ bit_xor (times nc (power nc (i * c)) (get_or xs c 0)) (check_from nc i (c + 1) (drop (c + 1) xs))
+unfolding check_from
 check-next nc i c xs h = rw (drop-cons xs c 0 h, add-one c) refl
 
 -- ---- the list of terms
 
-pub terms-none : (nc : ℕ) (xs cs es : List ℕ) → Exponents nc cs → Exponents nc es → Terms nc 0 0 xs cs es
+pub terms_none : (nc : ℕ) (xs cs es : List ℕ) → Exponents nc cs → Exponents nc es → Terms nc 0 0 xs cs es
 unfolding sum_to check
-terms-none nc xs cs es p q =
+terms_none nc xs cs es p q =
     record { few = omega arith; places = p; exponents = q; bring = λ i. xor_zero_l (check nc i xs) }
 
 -- chunk c is 0: it brings nothing
-pub terms-zero : (nc n c : ℕ) (xs cs es : List ℕ) → Terms nc n c xs cs es → c < length xs → get_or xs c 0 ≡ 0
+pub terms_zero : (nc n c : ℕ) (xs cs es : List ℕ) → Terms nc n c xs cs es → c < length xs → get_or xs c 0 ≡ 0
     → Terms nc n (c + 1) xs cs es
-terms-zero nc n c xs cs es q h z =
+terms_zero nc n c xs cs es q h z =
     record {
       few = omega (arith, q.few);
       places = q.places;
@@ -82,18 +82,18 @@ terms-zero nc n c xs cs es q h z =
       bring = λ i. ap (bit_xor (sum_to n (term nc i cs es))) (sym (none i)) ∙ q.bring i;
     }
   where
-    none : (i : ℕ) → checkFrom nc i c (drop c xs) ≡ checkFrom nc i (c + 1) (drop (c + 1) xs)
+    none : (i : ℕ) → check_from nc i c (drop c xs) ≡ check_from nc i (c + 1) (drop (c + 1) xs)
     none i =
         check-next nc i c xs h
-        ∙ ap (λ (x : ℕ). bit_xor x (checkFrom nc i (c + 1) (drop (c + 1) xs)))
-        (ap (times nc (power nc (i * c))) z ∙ times-of-zero nc (power nc (i * c)))
-        ∙ xor_zero_l (checkFrom nc i (c + 1) (drop (c + 1) xs))
+        ∙ ap (λ (x : ℕ). bit_xor x (check_from nc i (c + 1) (drop (c + 1) xs)))
+        (ap (times nc (power nc (i * c))) z ∙ times_of_zero nc (power nc (i * c)))
+        ∙ xor_zero_l (check_from nc i (c + 1) (drop (c + 1) xs))
 
 -- chunk c is a power of 2: it is listed
-pub terms-some : (nc n c e : ℕ) (xs cs es : List ℕ) → Terms nc n c xs cs es → c < length xs → n < length cs
+pub terms_some : (nc n c e : ℕ) (xs cs es : List ℕ) → Terms nc n c xs cs es → c < length xs → n < length cs
     → n < length es
     → c + 1 < 2 ^ nc → e + 1 < 2 ^ nc → power nc e ≡ get_or xs c 0 → Terms nc (n + 1) (c + 1) xs (set cs n c) (set es n e)
-terms-some nc n c e xs cs es q h l m a b s =
+terms_some nc n c e xs cs es q h l m a b s =
     record {
       few = omega (arith, q.few);
       places = exponents-set nc n c cs q.places l a;
@@ -103,7 +103,7 @@ terms-some nc n c e xs cs es q h l m a b s =
     }
   where
     rest : ℕ → ℕ
-    rest i = checkFrom nc i (c + 1) (drop (c + 1) xs)
+    rest i = check_from nc i (c + 1) (drop (c + 1) xs)
 
     own : ℕ → ℕ
     own i = times nc (power nc (i * c)) (get_or xs c 0)
@@ -122,10 +122,10 @@ terms-some nc n c e xs cs es q h l m a b s =
     one_more i = sum-next n (term nc i (set cs n c) (set es n e)) ∙ ap₂ bit_xor (sum_same n _ _ (others i)) (here i)
 
 -- all chunks are listed or 0
-terms-all : (nc n i : ℕ) (xs cs es : List ℕ) → Terms nc n (length xs) xs cs es → sum_to n (term nc i cs es) ≡ check nc i xs
-unfolding checkFrom
-terms-all nc n i xs cs es q =
-    sym (ap (λ (l : List ℕ). bit_xor (sum_to n (term nc i cs es)) (checkFrom nc i (length xs) l)) (drop-length xs)
+terms_all : (nc n i : ℕ) (xs cs es : List ℕ) → Terms nc n (length xs) xs cs es → sum_to n (term nc i cs es) ≡ check nc i xs
+unfolding check_from
+terms_all nc n i xs cs es q =
+    sym (ap (λ (l : List ℕ). bit_xor (sum_to n (term nc i cs es)) (check_from nc i (length xs) l)) (drop-length xs)
     ∙ xor_zero_r (sum_to n (term nc i cs es)))
     ∙ q.bring i
 
@@ -136,26 +136,26 @@ abbrev pub AreTerms : (nc n i : ℕ) (cs es fs : List ℕ) → Type 0
 AreTerms nc n i cs es fs = (k : ℕ) → k < n → power nc (get_or fs k 0) ≡ term nc i cs es k
 
 -- the sum of these, of the exponents that are lent, is the check
-pub terms-check : (nc n i : ℕ) (xs cs es fs : List ℕ) → n ≤ length fs → Terms nc n (length xs) xs cs es
+pub terms_check : (nc n i : ℕ) (xs cs es fs : List ℕ) → n ≤ length fs → Terms nc n (length xs) xs cs es
     → AreTerms nc n i cs es fs
     → sum_to (length (take (n - 0) fs)) (λ k. power nc (get_or (take (n - 0) fs) k 0)) ≡ check nc i xs
-terms-check nc n i xs cs es fs l q t =
+terms_check nc n i xs cs es fs l q t =
     let z : n - 0 ≡ n = omega arith in
     rw (z, length-take-le n fs l)
-    (sum_same n _ _ (λ k h. rw (get_or-take n fs k 0 h) (t k h)) ∙ terms-all nc n i xs cs es q)
+    (sum_same n _ _ (λ k h. rw (get_or-take n fs k 0 h) (t k h)) ∙ terms_all nc n i xs cs es q)
 
 module _ (nc : ℕ) (lo : 3 ≤ nc) (hi : nc ≤ 8) where
   -- the listed exponents are the terms of check 0
-  pub first-terms : (n : ℕ) (cs es : List ℕ) → AreTerms nc n 0 cs es es
-  first-terms n cs es k h =
+  pub first_terms : (n : ℕ) (cs es : List ℕ) → AreTerms nc n 0 cs es es
+  first_terms n cs es k h =
       let z : 0 * get_or cs k 0 + get_or es k 0 ≡ get_or es k 0 = omega arith in
       sym (times_power nc lo hi (0 * get_or cs k 0) (get_or es k 0) ∙ ap (power nc) z)
 
   -- raised by their chunks' places they are those of the next check
-  pub next-terms : (n i j : ℕ) (cs es fs gs : List ℕ) → i + 1 ≡ j → AreTerms nc n i cs es fs
+  pub next_terms : (n i j : ℕ) (cs es fs gs : List ℕ) → i + 1 ≡ j → AreTerms nc n i cs es fs
       → ((k : ℕ) → k < n → power nc (get_or gs k 0) ≡ times nc (power nc (get_or cs k 0)) (power nc (get_or fs k 0)))
       → AreTerms nc n j cs es gs
-  next-terms n i j cs es fs gs s q r k h =
+  next_terms n i j cs es fs gs s q r k h =
       let c : ℕ = get_or cs k 0 in
       let e : ℕ = get_or es k 0 in
       let more : c + (i * c + e) ≡ j * c + e = rw (sym s) (omega arith) in
@@ -163,8 +163,8 @@ module _ (nc : ℕ) (lo : 3 ≤ nc) (hi : nc ≤ 8) where
       ∙ ap (power nc) more ∙ sym (times_power nc lo hi (j * c) e)
 
   -- an exponent raised by c, and one that comes round
-  pub raise-low : (e c : ℕ) → power nc (e + c) ≡ times nc (power nc c) (power nc e)
-  raise-low e c = ap (power nc) (add_comm e c) ∙ sym (times_power nc lo hi c e)
+  pub raise_low : (e c : ℕ) → power nc (e + c) ≡ times nc (power nc c) (power nc e)
+  raise_low e c = ap (power nc) (add_comm e c) ∙ sym (times_power nc lo hi c e)
 
-  pub raise-round : (e c k : ℕ) → 2 ^ nc - 1 + k ≡ c + e → power nc k ≡ times nc (power nc c) (power nc e)
-  raise-round e c k s = sym (power-period nc lo hi k) ∙ ap (power nc) s ∙ sym (times_power nc lo hi c e)
+  pub raise_round : (e c k : ℕ) → 2 ^ nc - 1 + k ≡ c + e → power nc k ≡ times nc (power nc c) (power nc e)
+  raise_round e c k s = sym (power_period nc lo hi k) ∙ ap (power nc) s ∙ sym (times_power nc lo hi c e)

@@ -12,15 +12,15 @@ digit P a b zero h = a
 digit P a b (suc zero) h = b
 digit P a b (suc (suc x)) h = absurd (omega arith)
 
-pub last-digit : (a : ℕ) → a % 2 < 2
-last-digit a = mod-lt a (omega arith)
+pub last_digit : (a : ℕ) → a % 2 < 2
+last_digit a = mod-lt a (omega arith)
 
-differ-digit : (x y : ℕ) → x < 2 → y < 2 → differ x y < 2
-differ-digit x y hx hy =
+differ_digit : (x y : ℕ) → x < 2 → y < 2 → differ x y < 2
+differ_digit x y hx hy =
     digit (λ (n : ℕ). differ n y < 2) hy (digit (λ (n : ℕ). differ 1 n < 2) (omega arith) (omega arith) y hy) x hx
 
-differ-assoc : (x y z : ℕ) → x < 2 → y < 2 → z < 2 → differ (differ x y) z ≡ differ x (differ y z)
-differ-assoc x y z hx hy hz =
+differ_assoc : (x y z : ℕ) → x < 2 → y < 2 → z < 2 → differ (differ x y) z ≡ differ x (differ y z)
+differ_assoc x y z hx hy hz =
     digit (λ (n : ℕ). differ (differ n y) z ≡ differ n (differ y z)) refl
     (digit (λ (n : ℕ). differ (differ 1 n) z ≡ differ 1 (differ n z)) refl
     (digit (λ (n : ℕ). differ 0 n ≡ differ 1 (differ 1 n)) refl refl z hz) y hy)
@@ -29,29 +29,29 @@ differ-assoc x y z hx hy hz =
 xor_low : (a b : ℕ) → bit_xor a b % 2 ≡ differ (a % 2) (b % 2)
 xor_low a b =
     ap (λ (x : ℕ). x % 2) (xor_step a b)
-    ∙ digits_mod (bit_xor (a / 2) (b / 2)) (differ-digit (a % 2) (b % 2) (last-digit a) (last-digit b))
+    ∙ digits_mod (bit_xor (a / 2) (b / 2)) (differ_digit (a % 2) (b % 2) (last_digit a) (last_digit b))
 
 -- the digits but the last, and the last digit, of an exclusive or
-pub xor-half : (a b : ℕ) → bit_xor a b / 2 ≡ bit_xor (a / 2) (b / 2)
-xor-half a b = xor_shr a b 1
+pub xor_half : (a b : ℕ) → bit_xor a b / 2 ≡ bit_xor (a / 2) (b / 2)
+xor_half a b = xor_shr a b 1
 
-pub xor-odd : (a b : ℕ) → bit_xor a b % 2 ≡ bit_xor (a % 2) (b % 2)
-xor-odd a b = xor_mod a b 1
+pub xor_odd : (a b : ℕ) → bit_xor a b % 2 ≡ bit_xor (a % 2) (b % 2)
+xor_odd a b = xor_mod a b 1
 
 pub xor_assoc : (a b c : ℕ) → bit_xor (bit_xor a b) c ≡ bit_xor a (bit_xor b c)
 xor_assoc a =
     bin_ind (λ (n : ℕ). (b c : ℕ) → bit_xor (bit_xor n b) c ≡ bit_xor n (bit_xor b c)) (λ b c. refl)
     (λ n ih b c. xor_step (bit_xor n b) c
     ∙ ap₂ (λ (x y : ℕ). x * 2 + y)
-    (ap (λ (x : ℕ). bit_xor x (c / 2)) (xor-half n b) ∙ ih (b / 2) (c / 2) ∙ ap (bit_xor (n / 2)) (sym (xor-half b c)))
+    (ap (λ (x : ℕ). bit_xor x (c / 2)) (xor_half n b) ∙ ih (b / 2) (c / 2) ∙ ap (bit_xor (n / 2)) (sym (xor_half b c)))
     (ap (λ (x : ℕ). differ x (c % 2)) (xor_low n b)
-    ∙ differ-assoc (n % 2) (b % 2) (c % 2) (last-digit n) (last-digit b) (last-digit c)
+    ∙ differ_assoc (n % 2) (b % 2) (c % 2) (last_digit n) (last_digit b) (last_digit c)
     ∙ ap (differ (n % 2)) (sym (xor_low b c)))
     ∙ sym (xor_step n (bit_xor b c))) a
 
 -- two pairs, joined crosswise
-pub xor-cross : (a b c d : ℕ) → bit_xor (bit_xor a b) (bit_xor c d) ≡ bit_xor (bit_xor a c) (bit_xor b d)
-xor-cross a b c d =
+pub xor_cross : (a b c d : ℕ) → bit_xor (bit_xor a b) (bit_xor c d) ≡ bit_xor (bit_xor a c) (bit_xor b d)
+xor_cross a b c d =
     xor_assoc a b (bit_xor c d)
     ∙ ap (bit_xor a) (sym (xor_assoc b c d) ∙ ap (λ (x : ℕ). bit_xor x d) (xor_comm b c) ∙ xor_assoc c b d)
     ∙ sym (xor_assoc a c (bit_xor b d))
@@ -61,8 +61,8 @@ pub xor_same : (a b : ℕ) → bit_xor a b ≡ 0 → a ≡ b
 xor_same a b h =
     sym (xor_zero_r a) ∙ ap (bit_xor a) (sym (xor_self b)) ∙ sym (xor_assoc a b b) ∙ ap (λ (x : ℕ). bit_xor x b) h
 
-pub xor-twice : (a b : ℕ) → bit_xor (2 * a) (2 * b) ≡ 2 * bit_xor a b
-xor-twice a b =
+pub xor_twice : (a b : ℕ) → bit_xor (2 * a) (2 * b) ≡ 2 * bit_xor a b
+xor_twice a b =
     ap₂ bit_xor (twice a) (twice b) ∙ xor_block 1 a b 0 0 (omega arith) (omega arith) ∙ sym (twice (bit_xor a b))
   where
     twice : (x : ℕ) → 2 * x ≡ x * 2 + 0

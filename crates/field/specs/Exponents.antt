@@ -1,7 +1,7 @@
 -- Elements but 0 given by exponents of 2, and the terms of the checks given so.
 use Rattle.std.specs.Prelude.{ℕ, zero, suc, ◌+◌, ◌*◌, ◌^◌, ◌<◌, ◌≤◌, ◌≡◌, List, length, get_or, drop}
 use Rattle.std.specs.Int.Bits.{bit_xor}
-use Rattle.field.specs.Field.{power, times, checkFrom, check}
+use Rattle.field.specs.Field.{power, times, check_from, check}
 
 -- a list of exponents, each below 2 ^ nc - 1 (past its end 0 stands, which is one)
 abbrev pub Exponents : (nc : ℕ) → List ℕ → Type 0
@@ -22,4 +22,4 @@ pub record Terms (nc n c : ℕ) (xs cs es : List ℕ) : Type 0 where
   pub few : n ≤ c
   pub places : Exponents nc cs
   pub exponents : Exponents nc es
-  pub bring : (i : ℕ) → bit_xor (sum_to n (term nc i cs es)) (checkFrom nc i c (drop c xs)) ≡ check nc i xs
+  pub bring : (i : ℕ) → bit_xor (sum_to n (term nc i cs es)) (check_from nc i c (drop c xs)) ≡ check nc i xs

@@ -27,26 +27,26 @@ power nc zero = 1
 power nc (suc e) = double nc (power nc e)
 
 -- the lowest k binary digits of a, lowest first, times b: b is added for a digit 1 and doubled for the next digit
-unfoldable pub timesDigits : (nc k a b : ℕ) → ℕ
+unfoldable pub times_digits : (nc k a b : ℕ) → ℕ
 unfolding double
-timesDigits nc zero a b = 0
-timesDigits nc (suc k) a b = bit_xor (cond (eqb (a % 2) 1) b 0) (timesDigits nc k (a / 2) (double nc b))
+times_digits nc zero a b = 0
+times_digits nc (suc k) a b = bit_xor (cond (eqb (a % 2) 1) b 0) (times_digits nc k (a / 2) (double nc b))
 
 -- a times b
 unfoldable pub times : (nc a b : ℕ) → ℕ
-unfolding timesDigits
-times nc a b = timesDigits nc nc a b
+unfolding times_digits
+times nc a b = times_digits nc nc a b
 
 -- the field sum of 2 ^ (i * c) times chunk c, over the chunks of the list, whose first is chunk c
-unfoldable pub checkFrom : (nc i c : ℕ) → List ℕ → ℕ
+unfoldable pub check_from : (nc i c : ℕ) → List ℕ → ℕ
 unfolding power times
-checkFrom nc i c [] = 0
-checkFrom nc i c (x ∷ xs) = bit_xor (times nc (power nc (i * c)) x) (checkFrom nc i (suc c) xs)
+check_from nc i c [] = 0
+check_from nc i c (x ∷ xs) = bit_xor (times nc (power nc (i * c)) x) (check_from nc i (suc c) xs)
 
 -- "check i (from 0) is the field sum over chunks c (from 0, in row order) of 2^(i × c) times chunk c"
 unfoldable pub check : (nc i : ℕ) → List ℕ → ℕ
-unfolding checkFrom
-check nc i xs = checkFrom nc i 0 xs
+unfolding check_from
+check nc i xs = check_from nc i 0 xs
 
 -- the first r of the numbers vs are the checks of the chunks xs, in order
 abbrev pub Checks : (nc r : ℕ) (xs vs : List ℕ) → Type 0

@@ -25,10 +25,10 @@ start nc zero = 0
 start nc (suc k) = 2 ^ nc - 1 + start (suc nc) k
 
 -- the list with each exponent below k written at the place that its power names
-unfoldable pub withLogs : (nc k : ℕ) → List ℕ → List ℕ
+unfoldable pub with_logs : (nc k : ℕ) → List ℕ → List ℕ
 unfolding power
-withLogs nc zero xs = xs
-withLogs nc (suc e) xs = set (withLogs nc e xs) (power nc e) e
+with_logs nc zero xs = xs
+with_logs nc (suc e) xs = set (with_logs nc e xs) (power nc e) e
 
 -- a list of logs: at the place of each element but 0 stands its exponent, the one below 2 ^ nc - 1 whose power it is
 pub record Logs (nc : ℕ) (logs : List ℕ) : Type 0 where

@@ -2,7 +2,7 @@
 // row's chunks. The contracts cite specs/Field.antt, specs/Tables.antt and specs/Exponents.antt.
 ghost use Rattle.std.specs.Prelude.{◌≡◌, ℕ, ◌+◌, ◌-◌, ◌*◌, ◌^◌, ◌<◌, ◌≤◌, length, get_or};
 ghost use Rattle.field.specs.Field.{Element, Elements, power, times, Checks};
-ghost use Rattle.field.specs.Tables.{powers, start, withLogs, Logs};
+ghost use Rattle.field.specs.Tables.{powers, start, with_logs, Logs};
 ghost use Rattle.field.specs.Exponents.{Exponents, sum_to, Terms};
 
 // The powers of 2 of the six fields one after another, 2 ^ nc - 1 for each.
@@ -76,7 +76,7 @@ fn reduce(nc: usize, e: usize) -> usize
 // Writes the log of each element but 0 at the element's place, and nothing else.
 pub fn fill_logs(t: &[u8; 498], nc: usize, logs: &mut [u8])
     requires { (t.now ≡ powers) × (3 ≤ nc) × (nc ≤ 8) × (2 ^ nc ≤ length logs.old) }
-    ensures { (logs.new ≡ withLogs nc (2 ^ nc - 1) logs.old) × Logs nc logs.new }
+    ensures { (logs.new ≡ with_logs nc (2 ^ nc - 1) logs.old) × Logs nc logs.new }
 {
     let n = order(nc);
     let mut e: usize = 0;

@@ -9,17 +9,17 @@ use native.Mathlib.Omega.{arith}
 use lib.ListN.{length, get_or, set, length-set}
 use lib.Seq.{get_or-set_same, get_or-set_other}
 use Rattle.message.specs.declared.Layout.{Layout}
-use Rattle.states.specs.States.{mostStates, stride, each, state_of}
+use Rattle.states.specs.States.{most_states, stride, each, state_of}
 use Rattle.states.specs.declared.Shape.{Shape}
-use Rattle.states.proofs.States.{stride-pos, state-same, state-lowered}
+use Rattle.states.proofs.States.{stride_pos, state-same, state_lowered}
 use Rattle.column.specs.Column.{Light}
 use Rattle.column.specs.declared.Heavy.{Heavy}
-use Rattle.marks.specs.Marks.{markAt, Path, Kept, Remade}
+use Rattle.marks.specs.Marks.{mark_at, Path, Kept, Remade}
 use Rattle.marks.specs.Digits.{Within}
-use Rattle.marks.proofs.Marks.{remade-none, remade-set, other-column}
+use Rattle.marks.proofs.Marks.{remade_none, remade_set, other-column}
 use Rattle.marks.proofs.Paths.{crosses-same, own-within, own-low, own-last}
 use Rattle.first.specs.First.{Goes, FirstMark}
-use Rattle.first.proofs.Levels.{Above, Levels, level-or, levels-next}
+use Rattle.first.proofs.Levels.{Above, Levels, level_or, levels_next}
 
 -- of a row, that it is not near is known of the states wide
 module _ (l : Layout) (y numbers : List ℕ) (heavy : Heavy) (known : List ℕ) (shape : Shape) (j at base : ℕ) (entry :
@@ -34,21 +34,21 @@ module _ (l : Layout) (y numbers : List ℕ) (heavy : Heavy) (known : List ℕ) 
   -- the states below q have their marks and levels; most is the greatest mark
   pub record Completing (marks levels : List ℕ) (most q : ℕ) : Type 0 where
     pub low : q ≤ shape.states
-    pub long : length levels ≡ mostStates
+    pub long : length levels ≡ most_states
     pub column : Remade shape.states at entry marks
     pub levelled : Levels shape.n size next_marks (each levels) q
-    pub most-of : (p : ℕ) → p < q → get_or marks (at + p) 0 ≤ most
+    pub most_of_is : (p : ℕ) → p < q → get_or marks (at + p) 0 ≤ most
     pub goes : (left : ℕ → ℕ) → Within shape left → wide left → state_of shape left < q
         → Goes l y numbers heavy known shape j entry base left (get_or marks (at + state_of shape left) 0)
 
-  pub completing-starts : (levels : List ℕ) → length levels ≡ mostStates → Completing entry levels 0 0
-  completing-starts levels h =
+  pub completing_starts : (levels : List ℕ) → length levels ≡ most_states → Completing entry levels 0 0
+  completing_starts levels h =
       record {
         low = omega arith;
         long = h;
-        column = remade-none shape.states at entry;
+        column = remade_none shape.states at entry;
         levelled = record { own = λ p k. absurd (omega arith); down = λ left w k. absurd (omega arith) };
-        most-of = λ p k. absurd (omega arith);
+        most_of_is = λ p k. absurd (omega arith);
         goes = λ left w u k. absurd (omega arith);
       }
 
@@ -61,7 +61,7 @@ module _ (l : Layout) (y numbers : List ℕ) (heavy : Heavy) (known : List ℕ) 
     pub tested : (left : ℕ → ℕ) → Within shape left → state_of shape left ≡ q → wide left → f ≡ v
     pub first : FirstMark l y numbers heavy known shape j marks base found q f m
     pub most-more : most ≤ more
-    pub mark-more : m ≤ more
+    pub mark_more : m ≤ more
 
   module _ (kept : Kept heavy shape) (apart : at + shape.states ≤ base) (room : base + shape.states ≤ length entry)
       (marks levels : List ℕ) (most q : ℕ) (found : ℕ → ℕ) (v f m more : ℕ) (c : Completing marks levels most q)
@@ -75,9 +75,9 @@ module _ (l : Layout) (y numbers : List ℕ) (heavy : Heavy) (known : List ℕ) 
         → Above (each levels (q - stride size s)) v
     above left w e s k p u h₁ h₂ h₃ =
         let t : get_or shape.stride s 0 ≡ stride size s = kept.shaped.counts s k in
-        let d = state-lowered size left shape.n s k p in
+        let d = state_lowered size left shape.n s k p in
         let f = told.digits left w e s (omega (arith, kept.blocks)) in
-        told.down s u k (omega arith) (omega (arith, stride-pos size s)) (omega arith) h₁ h₂ (rw t h₃)
+        told.down s u k (omega arith) (omega (arith, stride_pos size s)) (omega arith) h₁ h₂ (rw t h₃)
 
     -- so state q is marked if a row can cross the column from it to a marked state
     here : (left : ℕ → ℕ) → Within shape left → wide left → state_of shape left ≡ q
@@ -102,39 +102,39 @@ module _ (l : Layout) (y numbers : List ℕ) (heavy : Heavy) (known : List ℕ) 
           arith,
           f-is,
           above left w e s a.1.0 (omega (arith, a.1.1.0.0)) 1 (omega arith) (omega arith)
-              (c.levelled.own (q - stride size s) (omega (arith, a.1.1.1.0, stride-pos size s))
+              (c.levelled.own (q - stride size s) (omega (arith, a.1.1.1.0, stride_pos size s))
               (rw a.1.1.1.1 at marked)),
         ))
         (rw t (rw (same_next (q - stride size s)) (rw a.1.1.1.1 at marked)))))
-        (level-or shape.n size next_marks (each levels) q c.levelled v left next e w falls marked
+        (level_or shape.n size next_marks (each levels) q c.levelled v left next e w falls marked
         (above left w e))
       where
         state-same' : (a b : ℕ → ℕ) → ((s : ℕ) → s < shape.n → a s ≡ b s) → state_of shape a ≡ state_of shape b
         state-same' a b k = state-same size a b shape.n k
 
-    pub completing-next : Completing (set marks (at + q) m) (set levels q v) more (q + 1)
-    completing-next =
+    pub completing_next : Completing (set marks (at + q) m) (set levels q v) more (q + 1)
+    completing_next =
         let k : at + q < length marks = omega (arith, c.column.long) in
         let few : q < length levels = omega (arith, c.long, kept.few) in
         let there : get_or (set levels q v) q 0 ≡ v = get_or-set_same levels q v 0 few in
         record {
           low = omega arith;
           long = length-set levels q v ∙ c.long;
-          column = remade-set shape.states at entry marks c.column q m h;
-          levelled = levels-next shape.n size next_marks (each levels) (each (set levels q v)) q
+          column = remade_set shape.states at entry marks c.column q m h;
+          levelled = levels_next shape.n size next_marks (each levels) (each (set levels q v)) q
               (λ p i. get_or-set_other levels q p v 0 (λ e. omega arith)) c.levelled
               (λ i. rw there (told.own (rw (same_next q) i)))
               (λ left w e s i p. rw there (above left w e s i p));
-          most-of = λ p i. most-at p i (ℕ_discrete p q);
+          most_of_is = λ p i. most-at p i (ℕ_discrete p q);
           goes = λ left w u i. goes_at left w u i (ℕ_discrete (state_of shape left) q);
         }
       where
         most-at : (p : ℕ) → p < q + 1 → Dec (p ≡ q) → get_or (set marks (at + q) m) (at + p) 0 ≤ more
         most-at p i (yes e) = rw (e, get_or-set_same marks (at + q) m 0 (omega (arith, c.column.long)))
-            told.mark-more
+            told.mark_more
         most-at p i (no e) =
             rw (get_or-set_other marks (at + q) (at + p) m 0 (λ d. e (omega arith)))
-            (omega (arith, c.most-of p (omega arith), told.most-more))
+            (omega (arith, c.most_of_is p (omega arith), told.most-more))
 
         goes_at : (left : ℕ → ℕ) → Within shape left → wide left → state_of shape left < q + 1
             → Dec (state_of shape left ≡ q)
@@ -162,11 +162,11 @@ module _ (l : Layout) (y numbers : List ℕ) (heavy : Heavy) (row : List ℕ) (s
       → ((left : ℕ → ℕ) → Within shape left → wide left
       → Goes l y numbers heavy known shape j entry ((j + 1) * shape.states) left
       (get_or marks (j * shape.states + state_of shape left) 0))
-      → ((i : ℕ) → j + 1 ≤ i → i ≤ l.l2 → 0 < get_or entry (markAt shape i (own i)) 0)
-      → (i : ℕ) → j ≤ i → i ≤ l.l2 → 0 < get_or marks (markAt shape i (own i)) 0
+      → ((i : ℕ) → j + 1 ≤ i → i ≤ l.l2 → 0 < get_or entry (mark_at shape i (own i)) 0)
+      → (i : ℕ) → j ≤ i → i ≤ l.l2 → 0 < get_or marks (mark_at shape i (own i)) 0
   first_next known light j entry marks wide hj u r g t i lo hi = go (ℕ_discrete i j)
     where
-      go : Dec (i ≡ j) → 0 < get_or marks (markAt shape i (own i)) 0
+      go : Dec (i ≡ j) → 0 < get_or marks (mark_at shape i (own i)) 0
       go (yes e) =
           rw e (g (own j) (within j (omega arith)) u row vs (own (j + 1)) light (path.crosses j hj)
           (t (j + 1) (omega arith) (omega arith)))
@@ -176,9 +176,9 @@ module _ (l : Layout) (y numbers : List ℕ) (heavy : Heavy) (row : List ℕ) (s
           (t i (omega arith) hi)
 
   -- the last state has a mark
-  pub last-let : (entry marks : List ℕ) → Remade shape.states (l.l2 * shape.states) entry marks → 0 < get_or marks
+  pub last_let : (entry marks : List ℕ) → Remade shape.states (l.l2 * shape.states) entry marks → 0 < get_or marks
       (l.l2 * shape.states + 0) 0
-      → (i : ℕ) → l.l2 ≤ i → i ≤ l.l2 → 0 < get_or marks (markAt shape i (own i)) 0
-  last-let entry marks r m i lo hi =
+      → (i : ℕ) → l.l2 ≤ i → i ≤ l.l2 → 0 < get_or marks (mark_at shape i (own i)) 0
+  last_let entry marks r m i lo hi =
       let e : i ≡ l.l2 = omega arith in
       rw (e, own-last l y numbers heavy row shape vs own kept path) m

@@ -6,7 +6,7 @@ use mathlib.Core.Logic.{◌⊎◌, inl, inr, ⊎_elim}
 use native.Mathlib.Decide.{ℕ_discrete, dec_lt}
 use native.Mathlib.Omega.{arith}
 use Rattle.states.specs.States.{stride, state}
-use Rattle.states.proofs.States.{lowered, lowered-there, lowered-other, stride-pos, state-same, state-lowered}
+use Rattle.states.proofs.States.{lowered, lowered_there, lowered_other, stride_pos, state-same, state_lowered}
 use Rattle.whole.specs.Whole.{OneLess}
 
 -- each of n blocks has at most its size left
@@ -40,19 +40,19 @@ differs (suc n) low high h = go (dec_lt (low n) (high n)) (differs n low high (�
         last s k (no e) = r s (omega arith)
 
 -- one loss less in a block that has more than the lower state
-lower-still : (low high : ℕ → ℕ) (s : ℕ) → low s < high s → (t : ℕ) → low t ≤ high t → low t ≤ lowered high s t
-lower-still low high s l t h = go (ℕ_discrete t s)
+lower_still : (low high : ℕ → ℕ) (s : ℕ) → low s < high s → (t : ℕ) → low t ≤ high t → low t ≤ lowered high s t
+lower_still low high s l t h = go (ℕ_discrete t s)
   where
     go : Dec (t ≡ s) → low t ≤ lowered high s t
-    go (yes e) = rw (e, lowered-there high s) (omega arith)
-    go (no e) = rw (lowered-other high s t e) h
+    go (yes e) = rw (e, lowered_there high s) (omega arith)
+    go (no e) = rw (lowered_other high s t e) h
 
-low-lowered : (n : ℕ) (size high : ℕ → ℕ) (s : ℕ) → Low n size high → Low n size (lowered high s)
-low-lowered n size high s w t l = go (ℕ_discrete t s)
+low_lowered : (n : ℕ) (size high : ℕ → ℕ) (s : ℕ) → Low n size high → Low n size (lowered high s)
+low_lowered n size high s w t l = go (ℕ_discrete t s)
   where
     go : Dec (t ≡ s) → lowered high s t ≤ size t
-    go (yes e) = rw (e, lowered-there high s) (omega (arith, w t l, ap high e, ap size e))
-    go (no e) = rw (lowered-other high s t e) (w t l)
+    go (yes e) = rw (e, lowered_there high s) (omega (arith, w t l, ap high e, ap size e))
+    go (no e) = rw (lowered_other high s t e) (w t l)
 
 module _ (n : ℕ) (size : ℕ → ℕ) where
   -- the number of a state with one loss less
@@ -60,8 +60,8 @@ module _ (n : ℕ) (size : ℕ → ℕ) where
       → (state size left n - stride size s ≡ state size (lowered left s) n) × (state size (lowered left s) n < state
       size left n)
   less left s h p =
-      let e = state-lowered size left n s h p in
-      let o = stride-pos size s in
+      let e = state_lowered size left n s h p in
+      let o = stride_pos size s in
       (omega arith, omega arith)
 
   module _ (next level : ℕ → ℕ) (q : ℕ) (c : Levels n size next level q) where
@@ -73,8 +73,8 @@ module _ (n : ℕ) (size : ℕ → ℕ) where
         ⊎_elim
         (λ r. let s = r.0 in
         let e = less high s r.1.0 (omega (arith, r.1.1)) in
-        let still : (t : ℕ) → t < n → low t ≤ lowered high s t = λ t l. lower-still low high s r.1.1 t (h t l) in
-        let down = reach fuel low (lowered high s) (omega (arith, e.1)) (omega (arith, e.1)) (low-lowered n size high
+        let still : (t : ℕ) → t < n → low t ≤ lowered high s t = λ t l. lower_still low high s r.1.1 t (h t l) in
+        let down = reach fuel low (lowered high s) (omega (arith, e.1)) (omega (arith, e.1)) (low_lowered n size high
         s w) still p in
         omega (
           arith,
@@ -92,14 +92,14 @@ module _ (n : ℕ) (size : ℕ → ℕ) where
       two s t a b d f =
           let e = less left s a (omega arith) in
           let g = less (lowered left s) t d (omega arith) in
-          let still : (i : ℕ) → i < n → after i ≤ lowered left s i = λ i l. lower-still after left s b i (falls i l) in
+          let still : (i : ℕ) → i < n → after i ≤ lowered left s i = λ i l. lower_still after left s b i (falls i l) in
           let again : (i : ℕ) → i < n → after i ≤ lowered (lowered left s) t i =
-          λ i l. lower-still after (lowered left s) t f i (still i l)
+          λ i l. lower_still after (lowered left s) t f i (still i l)
           in
-          let w' = low-lowered n size left s w in
+          let w' = low_lowered n size left s w in
           let one : 0 < level (state size (lowered (lowered left s) t) n) =
           reach (suc (state size (lowered (lowered left s) t) n)) after (lowered (lowered left s) t) (omega arith)
-          (omega (arith, e.1, g.1)) (low-lowered n size (lowered left s) t w') again marked
+          (omega (arith, e.1, g.1)) (low_lowered n size (lowered left s) t w') again marked
           in
           let second : 2 ≤ level (state size (lowered left s) n) =
           c.down (lowered left s) w' (omega (arith, e.1)) t d (omega arith) 1 (omega arith) (omega arith)
@@ -109,14 +109,14 @@ module _ (n : ℕ) (size : ℕ → ℕ) where
           omega (arith, above s a (omega arith) 2 (omega arith) (omega arith) (rw k second))
 
       -- so a state from which a row goes on to a marked one has the highest level, or goes on with no loss or one
-      pub level-or : (2 < v) ⊎ (((s : ℕ) → s < n → after s ≡ left s)
+      pub level_or : (2 < v) ⊎ (((s : ℕ) → s < n → after s ≡ left s)
           ⊎ ((s : ℕ) × ((s < n) × (OneLess n left after s × ((stride size s ≤ q) × (state size after n ≡ q - stride
           size s))))))
-      level-or = ⊎_elim (λ r. inner r (differs n after (lowered left r.0) (still r))) (λ r. inr (inl r)) (differs n
+      level_or = ⊎_elim (λ r. inner r (differs n after (lowered left r.0) (still r))) (λ r. inr (inl r)) (differs n
           after left falls)
         where
           still : (r : (s : ℕ) × ((s < n) × (after s < left s))) → (t : ℕ) → t < n → after t ≤ lowered left r.0 t
-          still r t l = lower-still after left r.0 r.1.1 t (falls t l)
+          still r t l = lower_still after left r.0 r.1.1 t (falls t l)
 
           inner : (r : (s : ℕ) × ((s < n) × (after s < left s)))
               → ((t : ℕ) × ((t < n) × (after t < lowered left r.0 t))) ⊎ ((t : ℕ) → t < n → after t ≡ lowered left
@@ -127,28 +127,28 @@ module _ (n : ℕ) (size : ℕ → ℕ) where
           inner r (inl d) = inl (two r.0 d.0 r.1.0 r.1.1 d.1.0 d.1.1)
           inner r (inr d) =
               let s = r.0 in
-              let e = state-lowered size left n s r.1.0 (omega (arith, r.1.1)) in
+              let e = state_lowered size left n s r.1.0 (omega (arith, r.1.1)) in
               let f = state-same size after (lowered left s) n d in
-              let g : after s ≡ left s - 1 = rw (← lowered-there left s) (d s r.1.0) in
+              let g : after s ≡ left s - 1 = rw (← lowered_there left s) (d s r.1.0) in
               inr (inr (
                 s,
                 (
                   r.1.0,
                   (
-                    (omega (arith, r.1.1), λ t h o. rw (← lowered-other left s t o) (d t h)),
+                    (omega (arith, r.1.1), λ t h o. rw (← lowered_other left s t o) (d t h)),
                     (omega arith, omega arith),
                   ),
                 ),
               ))
 
   -- one level more
-  pub levels-next : (next level more : ℕ → ℕ) (q : ℕ) → ((p : ℕ) → p < q → more p ≡ level p) → Levels n size next level
+  pub levels_next : (next level more : ℕ → ℕ) (q : ℕ) → ((p : ℕ) → p < q → more p ≡ level p) → Levels n size next level
       q
       → (0 < next q → 0 < more q)
       → ((left : ℕ → ℕ) → Low n size left → state size left n ≡ q → (s : ℕ) → s < n → 0 < left s
       → Above (level (q - stride size s)) (more q))
       → Levels n size next more (q + 1)
-  levels-next next level more q same c own down =
+  levels_next next level more q same c own down =
       record {
         own = λ p h m. ownward p h m (ℕ_discrete p q);
         down = λ left w b s h p. downward left w b s h p (ℕ_discrete (state size left n) q);

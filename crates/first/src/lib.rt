@@ -1,9 +1,9 @@
 // The first pass over the marks of loss states, from the last column to the first: a state is marked if a row that is not near can still come
 // to the end from it, as far as steps of none or one loss tell. Contracts cite specs/First.antt.
 ghost use Rattle.std.specs.Prelude.{◌≡◌, true, List, ℕ, ◌+◌, ◌-◌, ◌*◌, ◌%◌, ◌<◌, ◌≤◌, length, get_or};
-ghost use Rattle.bits.specs.Bits.{mostInLine, longestLine};
+ghost use Rattle.bits.specs.Bits.{most_in_line, longest_line};
 ghost use Rattle.windows.specs.Windows.{Tables};
-ghost use Rattle.states.specs.States.{lefts, each, state_of, entry_at, addedUp};
+ghost use Rattle.states.specs.States.{lefts, each, state_of, entry_at, added_up};
 ghost use Rattle.column.specs.Column.{Fit, Light, Crosses};
 ghost use Rattle.whole.specs.Whole.{modulus, OneLess, Readings};
 ghost use Rattle.marks.specs.Marks.{Path, Through, Kept, Remade};
@@ -84,7 +84,7 @@ fn level_of(
 // Whether a state is marked after column j and the column has its sum where no chunk of a heavy block loses a bit there; part is what all
 // chunks of the column bring then.
 fn stays(l: Layout, numbers: &[u16], j: usize, part: usize, mark: u8) -> bool
-    requires { (l.l1 * l.nc ≤ longestLine) × ((j < l.l2) × ((l.l1 ≤ mostInLine) × (l.l1 + l.l2 ≤ length numbers.now))) }
+    requires { (l.l1 * l.nc ≤ longest_line) × ((j < l.l2) × ((l.l1 ≤ most_in_line) × (l.l1 + l.l2 ≤ length numbers.now))) }
     ensures { part % modulus l ≡ get_or numbers.now (l.l1 + j) 0 → 0 < mark → result ≡ true }
 {
     if mark == 0 {
@@ -124,10 +124,10 @@ fn loses_one(
 ) -> bool
     requires { (Fit l y.now numbers.now heavy × (Tables y.now 0 totals.now counts.now × ((j < l.l2)
         × (Readings l y.now heavy left j readings.now × (entry_at heavy.n 0 ≤ length readings.now)))))
-        × ((((t : ℕ) → t < heavy.n → get_or left t 0 < lefts) × (addedUp readings.now (each left) heavy.n ≤ part))
+        × ((((t : ℕ) → t < heavy.n → get_or left t 0 < lefts) × (added_up readings.now (each left) heavy.n ≤ part))
         × ((s < heavy.n) × (0 < get_or left s 0))) }
     ensures { (row vs known : List ℕ) (next : ℕ → ℕ) → Light l heavy row known
-        → part ≡ get_or known j 0 + addedUp readings.now (each left) heavy.n
+        → part ≡ get_or known j 0 + added_up readings.now (each left) heavy.n
         → Crosses l y.now numbers.now heavy row j (each left) next vs
         → OneLess heavy.n (each left) next s → result ≡ true }
 {
@@ -166,10 +166,10 @@ fn loses(
 ) -> bool
     requires { (Read l y.now totals.now counts.now numbers.now heavy shape readings.now j
         × (((t : ℕ) → t < heavy.n → get_or left t 0 ≤ each shape.size t)
-        × (addedUp readings.now (each left) heavy.n ≤ part)))
+        × (added_up readings.now (each left) heavy.n ≤ part)))
         × ((q < shape.states) × (base + shape.states ≤ length marks.now)) }
     ensures { (row vs known : List ℕ) (next : ℕ → ℕ) (s : ℕ) → s < heavy.n → Light l heavy row known
-        → part ≡ get_or known j 0 + addedUp readings.now (each left) heavy.n
+        → part ≡ get_or known j 0 + added_up readings.now (each left) heavy.n
         → Crosses l y.now numbers.now heavy row j (each left) next vs
         → OneLess heavy.n (each left) next s → get_or shape.stride s 0 ≤ q
         → 0 < get_or marks.now (base + (q - get_or shape.stride s 0)) 0 → result ≡ true }

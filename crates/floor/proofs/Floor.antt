@@ -9,22 +9,22 @@ use native.Mathlib.Nat.{add-mul, one-mul, mul-le-mul_right}
 use native.Mathlib.Omega.{arith}
 use lib.ListN.{length, get_or, take, drop, length-map, get_or-map}
 use lib.Seq.{take-nil}
-use Rattle.bits.specs.Bits.{AllBits, cut, bytesFor, number, unpack}
+use Rattle.bits.specs.Bits.{AllBits, cut, bytes_for, number, unpack}
 use Rattle.rows.specs.Held.{Known}
 use Rattle.rows.specs.Order.{Less, Row}
 use Rattle.rows.specs.declared.Kept.{Kept}
 use Rattle.rows.proofs.Slice.{length_cut, row_at, row_fits}
-use Rattle.message.specs.Layout.{rowBits, block_bits}
+use Rattle.message.specs.Layout.{row_bits, block_bits}
 use Rattle.message.specs.declared.Layout.{Layout}
 use Rattle.message.proofs.Fields.{field_room}
-use Rattle.consistent.specs.Greedy.{losses, inAll}
+use Rattle.consistent.specs.Greedy.{losses, in_all}
 use Rattle.lines.specs.Lines.{values}
 use Rattle.lines.proofs.Lines.{value-at}
 use Rattle.found.specs.Sought.{Sought, held_of, Holding}
 use Rattle.anchor.specs.Anchor.{OwnCounts}
 use Rattle.anchor.proofs.Totals.{total-next}
-use Rattle.floor.specs.Floor.{nextBit, leastLost, bit_of, AtLeast, Compared, BlockLoses}
-use Rattle.floor.proofs.Prefix.{less-take, part-after, part_same, after-all}
+use Rattle.floor.specs.Floor.{next_bit, least_lost, bit_of, AtLeast, Compared, BlockLoses}
+use Rattle.floor.proofs.Prefix.{less-take, part_after, part_same, after-all}
 use Rattle.floor.proofs.Least.{first_bit}
 
 -- at bit g of a block: x comes after z, or has its first g bits, and left losses more make all
@@ -35,22 +35,22 @@ Stands y z x g left all = Less z x ⊎ ((take g x ≡ take g z) × (losses (take
 -- lost all
 pub record Rest (y z x : List ℕ) (g w left all p : ℕ) : Type 0 where
   pub some : 0 < w
-  pub in-z : g + w ≤ length z
-  pub in-x : g + w ≤ length x
+  pub in_z : g + w ≤ length z
+  pub in_x : g + w ≤ length x
   pub place : p + all ≡ g + left
   pub end : losses (take (g + w) x) y ≡ all
 
 -- the first bit of the least string there
 pub record Bit (y : List ℕ) (p left w next lost bit : ℕ) : Type 0 where
-  pub next-is : next ≡ nextBit y p
-  pub lost-is : lost ≡ leastLost next left w
+  pub next_is : next ≡ next_bit y p
+  pub lost_is : lost ≡ least_lost next left w
   pub bit_is : bit ≡ bit_of next lost
 
 module _ (z x : List ℕ) (zb : AllBits z) (xb : AllBits x) where
   -- ---- k bits of x that are known
   module _ (g k : ℕ) (zl : g + k ≤ length z) (xl : g + k ≤ length x) where
     pub known-after : number k (drop g z) < number k (drop g x) → AtLeast g z x → Less z x
-    known-after l = ⊎_elim (λ a. a) (λ e. part-after z x zb xb g k zl xl e l)
+    known-after l = ⊎_elim (λ a. a) (λ e. part_after z x zb xb g k zl xl e l)
 
     pub known_same : number k (drop g x) ≡ number k (drop g z) → AtLeast g z x → AtLeast (g + k) z x
     known_same s = ⊎_elim inl (λ e. inr (part_same z x zb xb g k zl xl e s))
@@ -58,11 +58,11 @@ module _ (z x : List ℕ) (zb : AllBits z) (xb : AllBits x) where
   -- ---- the next bit of x, by the least
   module _ (y : List ℕ) (yb : AllBits y) {g w left all p next lost bit : ℕ} (r : Rest y z x g w left all p)
       (b : Bit y p left w next lost bit) where
-    in-z : g + 1 ≤ length z
-    in-z = omega (arith, r.some, r.in-z)
+    in_z : g + 1 ≤ length z
+    in_z = omega (arith, r.some, r.in_z)
 
-    in-x : g + 1 ≤ length x
-    in-x = omega (arith, r.some, r.in-x)
+    in_x : g + 1 ≤ length x
+    in_x = omega (arith, r.some, r.in_x)
 
     first : losses (take g x) y + left ≡ all
         → (bit < number 1 (drop g x))
@@ -70,27 +70,27 @@ module _ (z x : List ℕ) (zb : AllBits z) (xb : AllBits x) where
     first s =
         let end = r.end in
         let e : ℕ = losses (take g x) y in
-        rw (b.bit_is, b.lost-is, b.next-is)
-        (first_bit x y xb yb g e left p (omega (arith, r.place)) refl w r.some r.in-x (omega arith))
+        rw (b.bit_is, b.lost_is, b.next_is)
+        (first_bit x y xb yb g e left p (omega (arith, r.place)) refl w r.some r.in_x (omega arith))
 
     -- where the least is above z's, x comes after z
-    pub bit-after : number 1 (drop g z) < bit → Stands y z x g left all → Less z x
-    bit-after l = ⊎_elim (λ a. a) (λ s.
-        part-after z x zb xb g 1 in-z in-x s.0 (⊎_elim (λ i. omega arith) (λ i. omega (arith, i.0)) (first s.1)))
+    pub bit_after : number 1 (drop g z) < bit → Stands y z x g left all → Less z x
+    bit_after l = ⊎_elim (λ a. a) (λ s.
+        part_after z x zb xb g 1 in_z in_x s.0 (⊎_elim (λ i. omega arith) (λ i. omega (arith, i.0)) (first s.1)))
 
     -- where it is z's, x stands with it at the next bit
-    pub bit-same : bit ≡ number 1 (drop g z) → (rest : ℕ) → rest + lost ≡ left → Stands y z x g left all
+    pub bit_same : bit ≡ number 1 (drop g z) → (rest : ℕ) → rest + lost ≡ left → Stands y z x g left all
         → Stands y z x (g + 1) rest all
-    bit-same e rest f = ⊎_elim inl (λ s.
+    bit_same e rest f = ⊎_elim inl (λ s.
         ⊎_elim
-        (λ i. inl (part-after z x zb xb g 1 in-z in-x s.0 (omega arith)))
-        (λ i. inr (part_same z x zb xb g 1 in-z in-x s.0 (i.0 ∙ e), omega (arith, i.1, s.1)))
+        (λ i. inl (part_after z x zb xb g 1 in_z in_x s.0 (omega arith)))
+        (λ i. inr (part_same z x zb xb g 1 in_z in_x s.0 (i.0 ∙ e), omega (arith, i.1, s.1)))
         (first s.1))
 
 -- ---- chunk c of a row in hand
-module _ (l : Layout) (z x : List ℕ) (zb : AllBits z) (row : Row (rowBits l) x) (long : rowBits l ≤ length z) (c v : ℕ)
+module _ (l : Layout) (z x : List ℕ) (zb : AllBits z) (row : Row (row_bits l) x) (long : row_bits l ≤ length z) (c v : ℕ)
     (h : c < l.l1 * l.l2) (own : get_or (values l x) c 0 ≡ v) where
-  room : c * l.nc + l.nc ≤ rowBits l
+  room : c * l.nc + l.nc ≤ row_bits l
   room = field_room (l.l1 * l.l2) l.nc c h
 
   value : number l.nc (drop (c * l.nc) x) ≡ v
@@ -108,30 +108,30 @@ module _ (l : Layout) (z x : List ℕ) (zb : AllBits z) (row : Row (rowBits l) x
       rw e (known_same z x zb row.1 (c * l.nc) l.nc (omega arith) (omega (arith, row.0)) (value ∙ i))
 
 -- ---- block b of a row under the first i counts of a pattern loses just its count
-next-block : (b w : ℕ) → (b + 1) * w ≡ b * w + w
-next-block b w = omega (arith, add-mul b 1 w, one-mul w)
+next_block : (b w : ℕ) → (b + 1) * w ≡ b * w + w
+next_block b w = omega (arith, add-mul b 1 w, one-mul w)
 
 pub own-loses : (l : Layout) (y counts : List ℕ) (i : ℕ) (x : List ℕ) → OwnCounts l y counts i x → (b : ℕ) → b < i
-    → b < length counts → BlockLoses l y b (inAll (take b counts)) (get_or counts b 0) x
+    → b < length counts → BlockLoses l y b (in_all (take b counts)) (get_or counts b 0) x
 own-loses l y counts i x own b h k =
     record {
       before = own b (omega arith);
-      inside = rw (← next-block b (block_bits l), ← total-next counts b k) (own (b + 1) (omega arith));
+      inside = rw (← next_block b (block_bits l), ← total-next counts b k) (own (b + 1) (omega arith));
     }
 
 pub next-at-least : (b w : ℕ) (z x : List ℕ) → AtLeast (b * w + w) z x → AtLeast ((b + 1) * w) z x
-next-at-least b w z x h = rw (next-block b w) h
+next-at-least b w z x h = rw (next_block b w) h
 
 -- ---- the answers of a comparison
 module _ {g e : ℕ} {z x : List ℕ} where
-  pub compared-before : Compared g e z x 0
-  compared-before = record { after = λ i. absurd (omega (arith, i)); same = λ i. absurd (omega (arith, i)) }
+  pub compared_before : Compared g e z x 0
+  compared_before = record { after = λ i. absurd (omega (arith, i)); same = λ i. absurd (omega (arith, i)) }
 
   pub compared_same : (AtLeast g z x → AtLeast e z x) → Compared g e z x 1
   compared_same f = record { after = λ i. absurd (omega (arith, i)); same = λ i. f }
 
-  pub compared-after : (AtLeast g z x → Less z x) → Compared g e z x 2
-  compared-after f = record { after = λ i. f; same = λ i. absurd (omega (arith, i)) }
+  pub compared_after : (AtLeast g z x → Less z x) → Compared g e z x 2
+  compared_after f = record { after = λ i. f; same = λ i. absurd (omega (arith, i)) }
 
 -- ---- what comes after the last row held is known, where more were found than fit
 module _ (s : Sought) (list : List ℕ) (kept : Kept) where
@@ -140,7 +140,7 @@ module _ (s : Sought) (list : List ℕ) (kept : Kept) where
 
   -- the bytes of a row
   abbrev w : ℕ
-  w = bytesFor s.bits
+  w = bytes_for s.bits
 
   -- the last row, packed
   abbrev pub lastRow : List ℕ

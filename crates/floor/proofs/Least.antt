@@ -14,8 +14,8 @@ use Rattle.bits.specs.Bits.{AllBits, number}
 use Rattle.bits.proofs.Laws.{bit_at, bits-drop}
 use Rattle.consistent.specs.Greedy.{losses}
 use Rattle.consistent.proofs.Greedy.{losses-most}
-use Rattle.consistent.proofs.Shift.{lost-more, piece-loses}
-use Rattle.floor.specs.Floor.{nextBit, leastLost, bit_of}
+use Rattle.consistent.proofs.Shift.{lost-more, piece_loses}
+use Rattle.floor.specs.Floor.{next_bit, least_lost, bit_of}
 use Rattle.floor.proofs.Prefix.{number-one}
 
 -- where the received row has ended all bits are lost
@@ -26,10 +26,10 @@ all-lost (b ∷ x) = ap suc (all-lost x)
 
 -- the first bit b is above the least, or it is the least, and it is lost just where that is
 abbrev First : (b : ℕ) (y : List ℕ) (lost : ℕ) → Type 0
-First b y lost = (bit_of (nextBit y 0) lost < b) ⊎ ((b ≡ bit_of (nextBit y 0) lost) × (losses (b ∷ []) y ≡ lost))
+First b y lost = (bit_of (next_bit y 0) lost < b) ⊎ ((b ≡ bit_of (next_bit y 0) lost) × (losses (b ∷ []) y ≡ lost))
 
 -- a bit that takes the next one, where not all bits are lost
-takes : (c : ℕ) (y : List ℕ) (a w : ℕ) → c < 2 → a < w → First c (c ∷ y) (leastLost c a w)
+takes : (c : ℕ) (y : List ℕ) (a w : ℕ) → c < 2 → a < w → First c (c ∷ y) (least_lost c a w)
 unfolding losses
 takes c y a w h l = go c (eqb a 0) (eqb a w) refl h
   where
@@ -43,7 +43,7 @@ takes c y a w h l = go c (eqb a 0) (eqb a w) refl h
     go (suc (suc c)) t u e h = absurd (omega arith)
 
 -- a bit that is lost
-loses : (b c : ℕ) (y : List ℕ) (a w : ℕ) → b < 2 → c < 2 → (b ≡ c → ⊥) → First b (c ∷ y) (leastLost c (suc a) w)
+loses : (b c : ℕ) (y : List ℕ) (a w : ℕ) → b < 2 → c < 2 → (b ≡ c → ⊥) → First b (c ∷ y) (least_lost c (suc a) w)
 unfolding losses
 loses b c y a w h k n = rw (ne_eqb (suc a) 0 (λ e. absurd (omega arith))) (go b c (eqb (suc a) w) h k n)
   where
@@ -60,7 +60,7 @@ loses b c y a w h k n = rw (ne_eqb (suc a) 0 (λ e. absurd (omega arith))) (go b
 
 -- the first bit of a string of bits, whatever it loses
 least_first : (b : ℕ) (z y : List ℕ) → b < 2 → AllBits y
-    → First b y (leastLost (nextBit y 0) (losses (b ∷ z) y) (suc (length z)))
+    → First b y (least_lost (next_bit y 0) (losses (b ∷ z) y) (suc (length z)))
 unfolding losses
 least_first b z [] h q =
     let n : ℕ = suc (length z) in
@@ -73,7 +73,7 @@ least_first b z [] h q =
 least_first b z (c ∷ y) h q = go (eqb b c) refl
   where
     go : (t : Bool) → eqb b c ≡ t
-        → First b (c ∷ y) (leastLost c (cond t (losses z y) (suc (losses z (c ∷ y)))) (suc (length z)))
+        → First b (c ∷ y) (least_lost c (cond t (losses z y) (suc (losses z (c ∷ y)))) (suc (length z)))
     go true e = rw (← eqb-true b c e) (takes b y (losses z y) (suc (length z)) h (omega (arith, losses-most z y)))
     go false e = loses b c y (losses z (c ∷ y)) (suc (length z)) h q.0 (λ i. true≢false (sym (eq-eqb b c i) ∙ e))
 
@@ -82,7 +82,7 @@ module _ (x y : List ℕ) (xb : AllBits x) (yb : AllBits y) (g e left p : ℕ) (
     (lost : losses (take g x) y ≡ e) where
   -- it is above the least bit, or it is that, and then as many are lost
   pub first_bit : (w : ℕ) → 0 < w → g + w ≤ length x → losses (take (g + w) x) y ≡ e + left
-      → let r = leastLost (nextBit y p) left w in let b = bit_of (nextBit y p) r in
+      → let r = least_lost (next_bit y p) left w in let b = bit_of (next_bit y p) r in
       (b < number 1 (drop g x)) ⊎ ((number 1 (drop g x) ≡ b) × (losses (take (g + 1) x) y ≡ e + r))
   first_bit zero h long l = absurd (omega arith)
   first_bit (suc w) h long l =
@@ -90,11 +90,11 @@ module _ (x y : List ℕ) (xb : AllBits x) (yb : AllBits y) (g e left p : ℕ) (
       let t : List ℕ = drop (suc g) x in
       let split : drop g x ≡ b ∷ t = drop-cons x g 0 (omega arith) in
       let place : g - e ≡ p = omega arith in
-      let piece = piece-loses x y g (suc w) e left (omega arith) lost l in
+      let piece = piece_loses x y g (suc w) e left (omega arith) lost l in
       let lose : losses (b ∷ take w t) (drop p y) ≡ left = rw (split, place) at piece in
       let many : length (take w t) ≡ w = length-take-le w t (omega (arith, length-drop (suc g) x)) in
       let zero-on : p + 0 ≡ p = omega arith in
-      let next : nextBit (drop p y) 0 ≡ nextBit y p = rw zero-on at (get_or-drop p y 0 1) in
+      let next : next_bit (drop p y) 0 ≡ next_bit y p = rw zero-on at (get_or-drop p y 0 1) in
       let one = lost-more x y g 1 (omega arith) in
       let more : losses (take (g + 1) x) y ≡ e + losses (b ∷ []) (drop p y) = rw (lost, place, split) at one in
       let bit : number 1 (drop g x) ≡ b = ap (number 1) split ∙ number-one (b ∷ t) in

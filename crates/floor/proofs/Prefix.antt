@@ -9,7 +9,7 @@ use lib.Seq.{take-add}
 use Rattle.bits.specs.Bits.{AllBits, number}
 use Rattle.bits.proofs.Laws.{number_lt, bits-drop}
 use Rattle.rows.specs.Order.{Less, Ascending, After}
-use Rattle.rows.proofs.Order.{less-trans}
+use Rattle.rows.proofs.Order.{less_trans}
 
 -- the order of the rest is theirs
 pub less-drop : (g : ℕ) (z x : List ℕ) → take g x ≡ take g z → Less (drop g z) (drop g x) → Less z x
@@ -79,8 +79,8 @@ number-one (b ∷ x) = omega arith
 -- two strings with their first g bits in common, and the k bits behind these
 module _ (z x : List ℕ) (zb : AllBits z) (xb : AllBits x) (g k : ℕ) (zl : g + k ≤ length z) (xl : g + k ≤ length x)
     (common : take g x ≡ take g z) where
-  pub part-after : number k (drop g z) < number k (drop g x) → Less z x
-  part-after l =
+  pub part_after : number k (drop g z) < number k (drop g x) → Less z x
+  part_after l =
       let zn = length-drop g z in
       let xn = length-drop g x in
       less-drop g z x common
@@ -102,4 +102,4 @@ after-all (y ∷ z ∷ rows) x a h l =
     let n : suc (suc (length rows)) - 1 ≡ suc (length rows) = omega arith in
     let m : suc (length rows) - 1 ≡ length rows = omega arith in
     let rest = after-all (z ∷ rows) x a.1 (omega arith) (rw m (rw n at l)) in
-    (less-trans y z x a.0.0 rest.0, rest)
+    (less_trans y z x a.0.0 rest.0, rest)

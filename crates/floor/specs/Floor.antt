@@ -9,14 +9,14 @@ use Rattle.consistent.specs.Greedy.{losses}
 use Rattle.lines.specs.Lines.{values}
 
 -- the next bit of the received row at a place. Where it has ended every bit is lost and can be 0, as if ones went on
-abbrev pub nextBit : (y : List ℕ) (p : ℕ) → ℕ
-nextBit y p = get_or y p 1
+abbrev pub next_bit : (y : List ℕ) (p : ℕ) → ℕ
+next_bit y p = get_or y p 1
 
 -- of the least string of w bits that loses just a, whether the first bit is lost (1) or takes the next bit of the
 -- received row (0): with no loss left it takes it; where all bits are lost it is lost; else a 1 is lost, so that a 0
 -- stands there
-abbrev pub leastLost : (next a w : ℕ) → ℕ
-leastLost next a w = cond (eqb a 0) 0 (cond (eqb a w) 1 next)
+abbrev pub least_lost : (next a w : ℕ) → ℕ
+least_lost next a w = cond (eqb a 0) 0 (cond (eqb a w) 1 next)
 
 -- a bit that is lost is the complement of the next bit of the received row, a bit that takes it is the same
 abbrev pub bit_of : (next lost : ℕ) → ℕ

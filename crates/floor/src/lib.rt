@@ -2,14 +2,14 @@
 // parts of a search whose rows all come after the last row held are left out. Contracts cite specs/Floor.antt; the
 // received row is unpacked, one byte a bit, the rows held are packed.
 ghost use Rattle.std.specs.Prelude.{◌≡◌, true, List, ℕ, ◌+◌, ◌*◌, ◌<◌, ◌≤◌, length, drop};
-ghost use Rattle.bits.specs.Bits.{longest, AllBits, bytesFor, number, unpack as unpacked};
+ghost use Rattle.bits.specs.Bits.{longest, AllBits, bytes_for, number, unpack as unpacked};
 ghost use Rattle.rows.specs.Held.{Known};
 ghost use Rattle.rows.specs.Order.{Less, Row};
-ghost use Rattle.message.specs.Layout.{legal, rowBits};
+ghost use Rattle.message.specs.Layout.{legal, row_bits};
 ghost use Rattle.consistent.specs.Query.{query};
-ghost use Rattle.found.specs.Given.{Given, Sent, HoldsSent, heldSent};
+ghost use Rattle.found.specs.Given.{Given, Sent, HoldsSent, held_sent};
 ghost use Rattle.anchor.specs.Anchor.{OwnCounts, LightInHand};
-ghost use Rattle.floor.specs.Floor.{nextBit, leastLost, bit_of, BlockInHand, BlockLoses, BlockCompared};
+ghost use Rattle.floor.specs.Floor.{next_bit, least_lost, bit_of, BlockInHand, BlockLoses, BlockCompared};
 
 use bits::BitCursor;
 use message::Layout;
@@ -17,7 +17,7 @@ use rows::Kept;
 
 // The number that the k bits from a place of a packed row on spell.
 fn number_in(packed: &[u8], at: usize, k: usize) -> usize
-    requires { (k ≤ 8) × ((length packed.now ≤ bytesFor longest) × (at + k ≤ length packed.now * 8)) }
+    requires { (k ≤ 8) × ((length packed.now ≤ bytes_for longest) × (at + k ≤ length packed.now * 8)) }
     ensures { result ≡ number k (drop at (unpacked packed.now)) }
 {
     let c = BitCursor { at };
@@ -28,7 +28,7 @@ fn number_in(packed: &[u8], at: usize, k: usize) -> usize
 // The next bit of the received row at a place, 1 where it has ended.
 fn next_bit(y: &[u8], p: usize) -> usize
     requires { AllBits y.now }
-    ensures { (result ≡ nextBit y.now p) × (result ≤ 1) }
+    ensures { (result ≡ next_bit y.now p) × (result ≤ 1) }
 {
     if y.len() <= p {
         return 1;
@@ -40,7 +40,7 @@ fn next_bit(y: &[u8], p: usize) -> usize
 // (0).
 fn least_lost(next: usize, left: usize, bits: usize) -> usize
     requires { next ≤ 1 }
-    ensures { (result ≡ leastLost next left bits) × ((result ≤ 1) × (result ≤ left)) }
+    ensures { (result ≡ least_lost next left bits) × ((result ≤ 1) × (result ≤ left)) }
 {
     if left == 0 {
         return 0;
@@ -65,8 +65,8 @@ fn bit_of(next: usize, lost: usize) -> usize
 // Block b in hand compared with that of the row `last`: whether it comes before (0), is it (1) or comes after (2).
 fn light_block(l: Layout, row: &[u8], b: usize, last: &[u8]) -> u8
     requires { (legal l ≡ true) × ((b < l.l1) × ((l.l1 * l.l2 ≤ length row.now)
-        × (length last.now ≡ bytesFor (rowBits l)))) }
-    ensures { (x : List ℕ) → Row (rowBits l) x → BlockInHand l row.now b x
+        × (length last.now ≡ bytes_for (row_bits l)))) }
+    ensures { (x : List ℕ) → Row (row_bits l) x → BlockInHand l row.now b x
         → BlockCompared l b (unpacked last.now) x result }
 {
     let from = b * l.l2;
@@ -89,8 +89,8 @@ fn light_block(l: Layout, row: &[u8], b: usize, last: &[u8]) -> u8
 // The least block b that loses a bits, after d, compared with that of the row `last`: whether it comes before (0), is
 // it (1) or comes after (2).
 fn heavy_block(l: Layout, y: &[u8], b: usize, d: usize, a: usize, last: &[u8]) -> u8
-    requires { (legal l ≡ true) × (AllBits y.now × ((b < l.l1) × (length last.now ≡ bytesFor (rowBits l)))) }
-    ensures { (x : List ℕ) → Row (rowBits l) x → BlockLoses l y.now b d a x
+    requires { (legal l ≡ true) × (AllBits y.now × ((b < l.l1) × (length last.now ≡ bytes_for (row_bits l)))) }
+    ensures { (x : List ℕ) → Row (row_bits l) x → BlockLoses l y.now b d a x
         → BlockCompared l b (unpacked last.now) x result }
 {
     let nb = l.l2 * l.nc;
@@ -123,8 +123,8 @@ fn heavy_block(l: Layout, y: &[u8], b: usize, d: usize, a: usize, last: &[u8]) -
 // one loss is in hand, of another the least is taken.
 fn compare_block(l: Layout, y: &[u8], row: &[u8], b: usize, d: usize, a: usize, last: &[u8]) -> u8
     requires { (legal l ≡ true) × (AllBits y.now × ((b < l.l1) × ((l.l1 * l.l2 ≤ length row.now)
-        × (length last.now ≡ bytesFor (rowBits l))))) }
-    ensures { (x : List ℕ) → Row (rowBits l) x → BlockLoses l y.now b d a x
+        × (length last.now ≡ bytes_for (row_bits l))))) }
+    ensures { (x : List ℕ) → Row (row_bits l) x → BlockLoses l y.now b d a x
         → (a ≤ 1 → BlockInHand l row.now b x) → BlockCompared l b (unpacked last.now) x result }
 {
     if a <= 1 {
@@ -136,8 +136,8 @@ fn compare_block(l: Layout, y: &[u8], row: &[u8], b: usize, d: usize, a: usize, 
 // Whether every row under the first i counts of a loss pattern comes after the row `last`.
 fn after_row(l: Layout, y: &[u8], counts: &[u8], row: &[u8], i: usize, last: &[u8]) -> bool
     requires { (legal l ≡ true) × (AllBits y.now × (((l.l1 * l.l2 ≤ length row.now) × (l.l1 ≤ length counts.now))
-        × ((i ≤ l.l1) × (length last.now ≡ bytesFor (rowBits l))))) }
-    ensures { result ≡ true → (x : List ℕ) → Row (rowBits l) x → OwnCounts l y.now counts.now i x
+        × ((i ≤ l.l1) × (length last.now ≡ bytes_for (row_bits l))))) }
+    ensures { result ≡ true → (x : List ℕ) → Row (row_bits l) x → OwnCounts l y.now counts.now i x
         → LightInHand l counts.now i row.now x → Less (unpacked last.now) x }
 {
     let mut d: usize = 0;
@@ -173,7 +173,7 @@ pub fn above(
     ensures { result ≡ true → (x : List ℕ) → Sent (query l numbers.now y.now) x
         → OwnCounts l y.now counts.now i x
         → LightInHand l counts.now i row.now x
-        → Known (heldSent (query l numbers.now y.now) list.now kept) x }
+        → Known (held_sent (query l numbers.now y.now) list.now kept) x }
 {
     if !kept.more {
         return false;

@@ -4,17 +4,17 @@ use Prim.Native.Nat.{ℕ, ◌*◌, ◌≤◌}
 use mathlib.Core.Bool.{false}
 use mathlib.Core.List.{List}
 use lib.ListN.{length}
-use Rattle.bits.specs.Bits.{bytesFor}
-use Rattle.message.specs.Layout.{rowBits}
+use Rattle.bits.specs.Bits.{bytes_for}
+use Rattle.message.specs.Layout.{row_bits}
 use Rattle.message.specs.declared.Layout.{Layout}
 use Rattle.consistent.specs.Query.{query}
 use Rattle.found.specs.Found.{Holding}
-use Rattle.found.specs.Given.{consistentWith}
+use Rattle.found.specs.Given.{consistent_with}
 use Rattle.found.proofs.Steps as steps
-pub use Rattle.found.proofs.Steps.{grown-rows, grown-length, grown-holding, grown-then, grown-none, grown-nothing}
-pub use Rattle.found.proofs.Steps.{grown-row, grown-weaken, grown-turn, grown-all}
-pub use Rattle.found.proofs.Sent.{Parts, sent-parts}
+pub use Rattle.found.proofs.Steps.{grown_rows, grown_length, grown_holding, grown_then, grown_none, grown_nothing}
+pub use Rattle.found.proofs.Steps.{grown_row, grown_weaken, grown_turn, grown_all}
+pub use Rattle.found.proofs.Sent.{Parts, sent_parts}
 
-pub holding-none : (l : Layout) (numbers y : List ℕ) (cap : ℕ) (s : List ℕ) → cap * bytesFor (rowBits l) ≤ length s
+pub holding_none : (l : Layout) (numbers y : List ℕ) (cap : ℕ) (s : List ℕ) → cap * bytes_for (row_bits l) ≤ length s
     → Holding l numbers y cap s 0 false
-holding-none l numbers y cap s h = steps.holding-none (consistentWith (query l numbers y)) cap s h
+holding_none l numbers y cap s h = steps.holding_none (consistent_with (query l numbers y)) cap s h

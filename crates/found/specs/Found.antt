@@ -20,8 +20,8 @@ abbrev pub Grown : (l : Layout) (numbers y : List ℕ) (cap : ℕ) (under : List
 Grown l numbers y cap under entry c m exit d o =
     given.AddsSent (query l numbers y) cap under entry (record { count = c; more = m }) exit (record { count = d; more = o })
 
-abbrev pub allSent : (l : Layout) (numbers y : List ℕ) → List (List ℕ)
-allSent l numbers y = given.allSent (query l numbers y)
+abbrev pub all_sent : (l : Layout) (numbers y : List ℕ) → List (List ℕ)
+all_sent l numbers y = given.all_sent (query l numbers y)
 
 abbrev pub Listed : (l : Layout) (numbers y : List ℕ) (cap : ℕ) (entry exit : List ℕ) (d : ℕ) (o : Bool) → Type 0
 Listed l numbers y cap entry exit d o =

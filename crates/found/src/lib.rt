@@ -2,7 +2,7 @@
 // are unpacked, one byte a bit.
 ghost use Rattle.std.specs.Prelude.{◌≡◌, ◌*◌, ◌≤◌, length};
 ghost use Rattle.rows.specs.Order.{Row};
-ghost use Rattle.message.specs.Layout.{rowBits};
+ghost use Rattle.message.specs.Layout.{row_bits};
 ghost use Rattle.consistent.specs.Query.{query};
 ghost use Rattle.found.specs.Given.{Given, Sent, HoldsSent, AddsSent, InHand};
 
@@ -43,7 +43,7 @@ pub fn add_bits(
     list: &mut [u8],
     kept: Kept,
 ) -> Kept
-    requires { Given (query l numbers.now y.now) × (Row (rowBits l) x.now
+    requires { Given (query l numbers.now y.now) × (Row (row_bits l) x.now
         × HoldsSent (query l numbers.now y.now) cap list.old kept) }
     ensures { AddsSent (query l numbers.now y.now) cap (λ z. z ≡ x.now)
         list.old kept list.new result }

@@ -6,7 +6,7 @@ use native.Mathlib.Omega.{arith}
 use lib.ListN.{take, set, replicate, length-take, length-replicate}
 use Rattle.bits.specs.Bits.{AllBits}
 use Rattle.bits.proofs.Laws.{bits-take}
-use Rattle.message.specs.Layout.{rowBits}
+use Rattle.message.specs.Layout.{row_bits}
 use Rattle.message.specs.declared.Layout.{Layout}
 use Rattle.hint.specs.Tries.{Hand}
 
@@ -22,7 +22,7 @@ bits-zeros zero = tt
 bits-zeros (suc n) = (omega arith, bits-zeros n)
 
 -- as many zeros as a row has bits are one in hand
-pub hand-zeros : (l : Layout) (m : ℕ) → rowBits l ≤ m → (n : ℕ) → n ≡ rowBits l → Hand l (take n (replicate m 0))
+pub hand-zeros : (l : Layout) (m : ℕ) → row_bits l ≤ m → (n : ℕ) → n ≡ row_bits l → Hand l (take n (replicate m 0))
 hand-zeros l m h n e =
     record {
       bits = bits-take n (replicate m 0) (bits-zeros m);

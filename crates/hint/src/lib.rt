@@ -5,7 +5,7 @@
 // one byte a bit.
 ghost use Rattle.std.specs.Prelude.{◌≡◌, ◌+◌, ◌*◌, ◌<◌, ◌≤◌, length};
 ghost use Rattle.bits.specs.Bits.{AllBits, longest};
-ghost use Rattle.consistent.specs.Consistent.{mostLosses};
+ghost use Rattle.consistent.specs.Consistent.{most_losses};
 ghost use Rattle.consistent.specs.Query.{query};
 ghost use Rattle.found.specs.Given.{Given, HoldsSent, AddsSent};
 ghost use Rattle.hint.specs.Tries.{Fit, Hand, Stands};
@@ -149,7 +149,7 @@ fn first_try(y: &[u8], p: usize, e: usize, g: usize) -> Try
 // The try after t in a block that is read from place p to place end: the next earlier run, the next run, the next
 // lengths. None is left where the lengths are more than most.
 fn next_try(y: &[u8], p: usize, end: usize, most: usize, t: Try) -> Try
-    requires { ((length y.now ≤ longest) × (most ≤ mostLosses))
+    requires { ((length y.now ≤ longest) × (most ≤ most_losses))
         × (Fit y.now t × ((0 < t.e) × (t.e + t.g ≤ most))) }
     ensures { Fit y.now result × (0 < result.e) }
 {
@@ -210,7 +210,7 @@ fn prolong(
     fuel: usize,
     x: &mut [u8],
 ) -> Outcome
-    requires { (Given (query l numbers.now y.now) × (left ≤ mostLosses)) × (Stands l at × Hand l x.old) }
+    requires { (Given (query l numbers.now y.now) × (left ≤ most_losses)) × (Stands l at × Hand l x.old) }
     ensures { Hand l x.new × (result.fuel ≤ fuel) }
 {
     let here = as_read(l, y, numbers, at, x);

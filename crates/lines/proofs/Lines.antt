@@ -13,13 +13,13 @@ use Rattle.bits.specs.Bits.{AllBits, number, digits}
 use Rattle.bits.proofs.Laws.{length_digits, bits-append, bits-digits, bits-drop}
 use Rattle.rows.specs.Order.{Row}
 use Rattle.vt.specs.Sum.{sum}
-use Rattle.message.specs.Layout.{legal, rowBits, block_bits, blocks, chunk, chunkString, chunks}
-use Rattle.message.specs.Message.{blockSums, stringSums}
+use Rattle.message.specs.Layout.{legal, row_bits, block_bits, blocks, chunk, chunk_string, chunks}
+use Rattle.message.specs.Message.{block_sums, string_sums}
 use Rattle.message.specs.Read.{fields}
 use Rattle.message.specs.declared.Layout.{Layout}
-use Rattle.message.proofs.Cutting.{chunk-numbers, joined-next, joined_end, length-blocks, chunk-at, block-sum-at, string-sum-at, chunk-elements}
+use Rattle.message.proofs.Cutting.{chunk-numbers, joined_next, joined_end, length-blocks, chunk-at, block_sum_at, string_sum_at, chunk_elements}
 use Rattle.message.proofs.Fields.{field_room, fields_at, flat-fields, length_fields}
-use Rattle.message.proofs.Legal.{legal-bounds, Sizes, sizes}
+use Rattle.message.proofs.Legal.{legal_bounds, Sizes, sizes}
 use Rattle.lines.specs.Lines.{values, line, Inside}
 
 -- ---- any line
@@ -38,21 +38,21 @@ bits-line nc start stride (suc n) vs =
     (bits-line nc (start + stride) stride n vs)
 
 -- the first chunk of a line
-pub line-cons : (nc start stride n : ℕ) (vs : List ℕ)
+pub line_cons : (nc start stride n : ℕ) (vs : List ℕ)
     → line nc start stride (suc n) vs ≡ digits nc (get_or vs start 0) ++ line nc (start + stride) stride n vs
 unfolding line
-line-cons nc start stride n vs = refl
+line_cons nc start stride n vs = refl
 
 -- a line splits after any of its chunks
-pub line-split : (nc start stride a b : ℕ) (vs : List ℕ)
+pub line_split : (nc start stride a b : ℕ) (vs : List ℕ)
     → line nc start stride (a + b) vs ≡ line nc start stride a vs ++ line nc (start + a * stride) stride b vs
 unfolding line
-line-split nc start stride zero b vs = let e : start + 0 * stride ≡ start = omega (arith, zero-mul stride) in
+line_split nc start stride zero b vs = let e : start + 0 * stride ≡ start = omega (arith, zero-mul stride) in
     rw (zero-add b, e) refl
-line-split nc start stride (suc a) b vs =
+line_split nc start stride (suc a) b vs =
     let e : start + stride + a * stride ≡ start + suc a * stride = omega (arith, suc-mul a stride) in
     let m : suc a + b ≡ suc (a + b) = omega arith in
-    rw (m, line-split nc (start + stride) stride a b vs, e, append_assoc) refl
+    rw (m, line_split nc (start + stride) stride a b vs, e, append_assoc) refl
 
 -- a line depends on its own chunks alone
 pub line_same : (nc start stride count : ℕ) (us vs : List ℕ)
@@ -72,21 +72,21 @@ line_same nc start stride (suc n) us vs h =
 module _ (l : Layout) (e : legal l ≡ true) (size : ℕ) (h : l.l1 * l.l2 ≤ size) where
   pub block_inside : (i : ℕ) → i < l.l1 → Inside l.nc (i * l.l2) 1 l.l2 size
   block_inside i k =
-      let z : Sizes l = sizes l (legal-bounds l e) in
+      let z : Sizes l = sizes l (legal_bounds l e) in
       record {
-        nc-high = (legal-bounds l e).nc-high;
+        nc_high = (legal_bounds l e).nc_high;
         short = z.block;
         stride-high = omega arith;
         last = omega (arith, z.chunks, mul-one l.l2, field_room l.l1 l.l2 i k);
       }
 
-  pub string-inside : (j : ℕ) → j < l.l2 → Inside l.nc j l.l2 l.l1 size
-  string-inside j k =
-      let z : Sizes l = sizes l (legal-bounds l e) in
+  pub string_inside : (j : ℕ) → j < l.l2 → Inside l.nc j l.l2 l.l1 size
+  string_inside j k =
+      let z : Sizes l = sizes l (legal_bounds l e) in
       record {
-        nc-high = (legal-bounds l e).nc-high;
+        nc_high = (legal_bounds l e).nc_high;
         short = omega (arith, z.string, mul_comm l.l1 l.nc);
-        stride-high = z.l2-high;
+        stride-high = z.l2_high;
         last = omega (arith, z.chunks);
       }
 
@@ -101,11 +101,11 @@ module _ (l : Layout) (x : List ℕ) where
   unfolding values
   value-at c h = rw (chunk-numbers l x) (fields_at (l.l1 * l.l2) l.nc c x h)
 
-  module _ (row : Row (rowBits l) x) where
+  module _ (row : Row (row_bits l) x) where
     -- a chunk has nc bits
     pub value_low : (c : ℕ) → get_or (values l x) c 0 < 2 ^ l.nc
     unfolding values
-    value_low c = chunk-elements l x row.1 c
+    value_low c = chunk_elements l x row.1 c
 
     pub chunk-digits : (c : ℕ) → c < l.l1 * l.l2
         → digits l.nc (get_or (values l x) c 0) ≡ take l.nc (drop (c * l.nc) x)
@@ -119,29 +119,29 @@ module _ (l : Layout) (x : List ℕ) where
         ap (digits l.nc) (value-at c h) ∙ rw (append-nil, one) at d
 
     -- neighbouring chunks are a piece of the row
-    pub piece-line : (start count : ℕ) → start + count ≤ l.l1 * l.l2
+    pub piece_line : (start count : ℕ) → start + count ≤ l.l1 * l.l2
         → line l.nc start 1 count (values l x) ≡ take (count * l.nc) (drop (start * l.nc) x)
     unfolding line
-    piece-line start zero h = rw (zero-mul l.nc) refl
-    piece-line start (suc n) h =
+    piece_line start zero h = rw (zero-mul l.nc) refl
+    piece_line start (suc n) h =
         let d : start * l.nc + l.nc ≡ (start + 1) * l.nc = omega (arith, add-mul start 1 l.nc, one-mul l.nc) in
         let m : suc n * l.nc ≡ l.nc + n * l.nc = omega (arith, suc-mul n l.nc) in
         let y : List ℕ = drop (start * l.nc) x in
-        rw (chunk-digits start (omega arith), piece-line (start + 1) n (omega arith), m)
+        rw (chunk-digits start (omega arith), piece_line (start + 1) n (omega arith), m)
         (rw (take-add l.nc (n * l.nc) y, drop-drop l.nc (start * l.nc) x, d) refl)
 
     -- all chunks are the row
     pub row_line : line l.nc 0 1 (l.l1 * l.l2) (values l x) ≡ x
     row_line =
-        piece-line 0 (l.l1 * l.l2) (omega arith)
-        ∙ rw (zero-mul l.nc) (take_all (rowBits l) x (omega (arith, row.0)))
+        piece_line 0 (l.l1 * l.l2) (omega arith)
+        ∙ rw (zero-mul l.nc) (take_all (row_bits l) x (omega (arith, row.0)))
 
     -- block i
-    pub block-line : (i : ℕ) → i < l.l1
-        → get_or (blockSums l x) i 0 ≡ sum (line l.nc (i * l.l2) 1 l.l2 (values l x))
-    block-line i h =
-        block-sum-at l x i h
-        ∙ ap sum (sym (piece-line (i * l.l2) l.l2 (field_room l.l1 l.l2 i h)
+    pub block_line : (i : ℕ) → i < l.l1
+        → get_or (block_sums l x) i 0 ≡ sum (line l.nc (i * l.l2) 1 l.l2 (values l x))
+    block_line i h =
+        block_sum_at l x i h
+        ∙ ap sum (sym (piece_line (i * l.l2) l.l2 (field_room l.l1 l.l2 i h)
         ∙ rw (mul_assoc i l.l2 l.nc) refl))
 
     -- chunk-string j from block i on
@@ -158,10 +158,10 @@ module _ (l : Layout) (x : List ℕ) where
         let c : i * l.l2 + j < l.l1 * l.l2 = omega (arith, field_room l.l1 l.l2 i h) in
         let b : i < length (blocks l x) = omega (arith, length-blocks l x) in
         rw (chunk-digits (i * l.l2 + j) c, m, s, string-from j k n (i + 1) (omega arith))
-        (rw (joined-next (chunk l j) (blocks l x) i b, chunk-at l x i j h k) refl)
+        (rw (joined_next (chunk l j) (blocks l x) i b, chunk-at l x i j h k) refl)
 
-    pub string-line : (j : ℕ) → j < l.l2 → get_or (stringSums l x) j 0 ≡ sum (line l.nc j l.l2 l.l1 (values l x))
-    unfolding chunkString
-    string-line j k =
+    pub string_line : (j : ℕ) → j < l.l2 → get_or (string_sums l x) j 0 ≡ sum (line l.nc j l.l2 l.l1 (values l x))
+    unfolding chunk_string
+    string_line j k =
         let z : 0 * l.l2 + j ≡ j = omega (arith, zero-mul l.l2) in
-        string-sum-at l x j k ∙ ap sum (sym (rw z at (string-from j k l.l1 0 (zero-add l.l1))))
+        string_sum_at l x j k ∙ ap sum (sym (rw z at (string-from j k l.l1 0 (zero-add l.l1))))

@@ -11,20 +11,20 @@ use lib.ListN.{length, get_or, take, drop}
 use lib.Seq.{take_at}
 use Rattle.bits.specs.Bits.{AllBits, number, digits}
 use Rattle.bits.proofs.Laws.{bits-digits, number_digits}
-use Rattle.rows.specs.Deletion.{comesFrom}
+use Rattle.rows.specs.Deletion.{comes_from}
 use Rattle.rows.specs.Order.{Row}
 use Rattle.rows.proofs.Deletion.{One, here, there, one, comes-length}
 use Rattle.vt.specs.Mend.{mended}
 use Rattle.vt.specs.Ones.{ones}
 use Rattle.vt.specs.Sum.{total, sum}
-use Rattle.vt.proofs.Mending.{mended-only, mended-mends, same-mod}
-use Rattle.vt.proofs.Totals.{ones-length, times-bit, total-put}
-use Rattle.vt.proofs.Weighing.{total-far}
+use Rattle.vt.proofs.Mending.{mended-only, mended-mends, same_mod}
+use Rattle.vt.proofs.Totals.{ones-length, times_bit, total-put}
+use Rattle.vt.proofs.Weighing.{total_far}
 use Rattle.message.proofs.Fields.{field_room}
 use Rattle.message.proofs.Positions.{total-high}
 use Rattle.lines.specs.Lines.{line, Mendable}
-use Rattle.lines.proofs.Parts.{total-but}
-use Rattle.lines.proofs.Turns.{sum-of-total}
+use Rattle.lines.proofs.Parts.{total_but}
+use Rattle.lines.proofs.Turns.{sum_of_total}
 
 -- ---- a bit put back
 -- x is y with a bit put in at a place
@@ -59,7 +59,7 @@ ones-behind (suc k) (b ∷ y) a h =
 
 -- a 0 that is put back adds at most the number of ones, a 1 at least as much and its position; so what it adds says
 -- which it is, and what it adds in the chunk itself
-pub adds : (first g : ℕ) (x y : List ℕ) → 1 ≤ first → AllBits x → AllBits y → comesFrom x 1 y ≡ true
+pub adds : (first g : ℕ) (x y : List ℕ) → 1 ≤ first → AllBits x → AllBits y → comes_from x 1 y ≡ true
     → total first x ≡ total first y + g
     → ((g ≤ ones y) × (total 1 x ≡ total 1 y + g))
     ⊎ (((ones y < g) × (first + ones y ≤ g)) × ((g ≤ first + length y) × (total 1 x + first ≡ total 1 y + g + 1)))
@@ -90,28 +90,28 @@ adds first g x y low ax ay c e = go p.bit refl p.small
     go (suc (suc n)) b h = absurd (omega arith)
 
 -- what it adds is at most the position behind the bits
-adds-most : (first : ℕ) (x y : List ℕ) → 1 ≤ first → AllBits x → AllBits y → comesFrom x 1 y ≡ true
+adds_most : (first : ℕ) (x y : List ℕ) → 1 ≤ first → AllBits x → AllBits y → comes_from x 1 y ≡ true
     → (g : ℕ) × ((g ≤ first + length y) × (total first x ≡ total first y + g))
-adds-most first x y low ax ay c =
+adds_most first x y low ax ay c =
     let p = put (one x y c) ax in
     let r = ones-behind p.at y ay p.inside in
     let gain = ap (total first) p.is ∙ total-put first p.at p.bit y p.inside in (
       (first + p.at) * p.bit + ones (drop p.at y),
-      (omega (arith, r.1.1, times-bit (first + p.at) p.bit p.small), gain),
+      (omega (arith, r.1.1, times_bit (first + p.at) p.bit p.small), gain),
     )
 
 -- the string that has a total and from which the bits at hand come is the mended one
-pub made_again : (w whole : ℕ) (x y : List ℕ) → AllBits x → comesFrom x 1 y ≡ true → length y + 1 ≡ w → total 1 x ≡ whole
+pub made_again : (w whole : ℕ) (x y : List ℕ) → AllBits x → comes_from x 1 y ≡ true → length y + 1 ≡ w → total 1 x ≡ whole
     → mended w (whole % (w + 1)) y ≡ x
 unfolding sum
 made_again w whole x y a c n e =
     let l : length x ≡ w = omega (arith, comes-length x 1 y c) in
-    sym (mended-only w (whole % (w + 1)) y x (record { row = (l, a); has-sum = rw (l, e) refl; comes = c }))
+    sym (mended-only w (whole % (w + 1)) y x (record { row = (l, a); has_sum = rw (l, e) refl; comes = c }))
 
 -- the front of a slice to which it was mended
-pub front-mended : (w s : ℕ) (y q z : List ℕ) → AllBits y → length y + 1 ≡ w → s ≤ w → q ≡ mended (length y + 1) s y ++ z
+pub front_mended : (w s : ℕ) (y q z : List ℕ) → AllBits y → length y + 1 ≡ w → s ≤ w → q ≡ mended (length y + 1) s y ++ z
     → (take (w - 0) q ≡ mended w s y) × Row w (mended w s y)
-front-mended w s y q z a n h e =
+front_mended w s y q z a n h e =
     let r = (mended-mends w s y a n h).row in
     (rw (e, n) (take_at (mended w s y) z (w - 0) (omega (arith, r.0))), r)
 
@@ -127,7 +127,7 @@ pub weighed : (rest before o t : ℕ) (y : List ℕ) → o ≡ ones y → t ≡ 
     → rest + (before * o + t) ≡ rest + total (before + 1) y
 weighed rest before o t y e f =
     let i : 1 + before ≡ before + 1 = omega arith in
-    let far = rw i at (total-far before 1 y) in
+    let far = rw i at (total_far before 1 y) in
     rw (e, f) (omega (arith, far))
 
 -- ---- a line that lost one bit in a chunk
@@ -138,22 +138,22 @@ module _ (nc start stride count hole s : ℕ) (bits vs us : List ℕ) (h : hole 
   value = get_or us (start + hole * stride) 0
 
   -- what its sum says that the lost bit adds, it adds
-  pub lost-adds : (rest g : ℕ) → total 1 (line nc start stride count vs)
+  pub lost_adds : (rest g : ℕ) → total 1 (line nc start stride count vs)
       ≡ rest + total (hole * nc + 1) (digits nc (get_or vs (start + hole * stride) 0))
       → g ≤ count * nc → (rest + total (hole * nc + 1) bits + g) % (count * nc + 1) ≡ s
       → total (hole * nc + 1) (digits nc value) ≡ total (hole * nc + 1) bits + g
-  lost-adds rest g e k f =
+  lost_adds rest g e k f =
       let first : ℕ = hole * nc + 1 in
       let x : List ℕ = digits nc value in
       let t : ℕ = total first bits in
-      let r = adds-most first x bits (omega arith) (bits-digits nc value) b m.comes in
+      let r = adds_most first x bits (omega arith) (bits-digits nc value) b m.comes in
       let whole : total 1 (line nc start stride count us) ≡ rest + t + r.0 =
-      omega (arith, total-but nc start stride count hole h us vs m.around, r.1.1)
+      omega (arith, total_but nc start stride count hole h us vs m.around, r.1.1)
       in
       let own : (rest + t + r.0) % (count * nc + 1) ≡ s =
-      ap (λ (v : ℕ). v % (count * nc + 1)) (sym whole) ∙ sum-of-total nc start stride count us ∙ m.has-sum
+      ap (λ (v : ℕ). v % (count * nc + 1)) (sym whole) ∙ sum_of_total nc start stride count us ∙ m.has_sum
       in
-      let same = same-mod (rest + t) g r.0 (count * nc + 1) (omega arith)
+      let same = same_mod (rest + t) g r.0 (count * nc + 1) (omega arith)
       (omega (arith, r.1.0, field_room count nc hole h)) (f ∙ sym own) in
       omega (arith, r.1.1)
 

@@ -12,14 +12,14 @@ use Rattle.bits.proofs.Laws.{length_digits}
 use Rattle.vt.specs.Sum.{total, sum}
 use Rattle.message.proofs.Positions.{total-append}
 use Rattle.lines.specs.Lines.{line}
-use Rattle.lines.proofs.Lines.{length-line, line-cons, line-split, line_same}
-use Rattle.lines.proofs.Turns.{sum-of-total}
+use Rattle.lines.proofs.Lines.{length-line, line_cons, line_split, line_same}
+use Rattle.lines.proofs.Turns.{sum_of_total}
 
 -- a zero brings nothing
-pub total-zero : (k i : ℕ) → total i (digits k 0) ≡ 0
+pub total_zero : (k i : ℕ) → total i (digits k 0) ≡ 0
 unfolding total digits
-total-zero zero i = refl
-total-zero (suc k) i = rw (zero-div, mul-zero) (omega (arith, total-zero k (suc i)))
+total_zero zero i = refl
+total_zero (suc k) i = rw (zero-div, mul-zero) (omega (arith, total_zero k (suc i)))
 
 module _ (nc start stride count t : ℕ) (h : t < count) where
   -- the chunks before it, the chunk and those behind it
@@ -37,8 +37,8 @@ module _ (nc start stride count t : ℕ) (h : t < count) where
       let m : length d ≡ nc = length_digits nc (get_or us (start + t * stride) 0) in
       ap (λ (c : ℕ). total 1 (line nc start stride c us)) e
       ∙ ap (total 1)
-      (line-split nc start stride t (suc rest) us
-      ∙ ap (λ (v : List ℕ). front ++ v) (line-cons nc (start + t * stride) stride rest us))
+      (line_split nc start stride t (suc rest) us
+      ∙ ap (λ (v : List ℕ). front ++ v) (line_cons nc (start + t * stride) stride rest us))
       ∙ total-append 1 front (d ++ back)
       ∙ ap (λ (v : ℕ). total 1 front + v)
       (ap (λ (i : ℕ). total i (d ++ back)) n ∙ total-append (t * nc + 1) d back
@@ -50,11 +50,11 @@ module _ (nc start stride count t : ℕ) (h : t < count) where
   total-own us = omega (arith, in_parts us)
 
   -- lines that are alike but for chunk t
-  pub total-but : (us vs : List ℕ)
+  pub total_but : (us vs : List ℕ)
       → ((i : ℕ) → i < count → (i ≡ t → ⊥) → get_or us (start + i * stride) 0 ≡ get_or vs (start + i * stride) 0)
       → total 1 (line nc start stride count us) + total (t * nc + 1) (digits nc (get_or vs (start + t * stride) 0))
       ≡ total 1 (line nc start stride count vs) + total (t * nc + 1) (digits nc (get_or us (start + t * stride) 0))
-  total-but us vs same =
+  total_but us vs same =
       let a = line_same nc start stride t us vs (λ i k. same i (omega arith) (λ e. omega arith)) in
       let b = line_same nc (start + t * stride + stride) stride (count - (t + 1)) us vs behind in
       omega (arith, in_parts us, in_parts vs, ap (total 1) a, ap (total (t * nc + 1 + nc)) b)
@@ -85,8 +85,8 @@ module _ (nc start stride count t : ℕ) (h : t < count) where
         ≡ total 1 (line nc start stride count (set vs (start + t * stride) 0)) + total (t * nc + 1) (digits nc v)
     total-set v =
         let at : ℕ = start + t * stride in
-        let both = total-but (set vs at v) (set vs at 0) (alike v 0) in
-        omega (arith, rw (get_or-set_same vs at 0 0 g, get_or-set_same vs at v 0 g, total-zero nc (t * nc + 1)) at both)
+        let both = total_but (set vs at v) (set vs at 0) (alike v 0) in
+        omega (arith, rw (get_or-set_same vs at 0 0 g, get_or-set_same vs at v 0 g, total_zero nc (t * nc + 1)) at both)
 
     -- what chunk t leaves of the total of its line gives the sum of the line with a zero there
     pub sum-rest : (whole own : ℕ) → whole ≡ total 1 (line nc start stride count vs)
@@ -100,7 +100,7 @@ module _ (nc start stride count t : ℕ) (h : t < count) where
         let both : whole ≡ total 1 (line nc start stride count bare) + own = omega (arith, total-set (get_or vs at 0)) in (
           omega arith,
           ap (λ (n : ℕ). n % (count * nc + 1)) {y = total 1 (line nc start stride count bare)} (omega arith)
-              ∙ sum-of-total nc start stride count bare,
+              ∙ sum_of_total nc start stride count bare,
         )
 
     -- the sum of a line with v as chunk t, from the sum of the line with a zero there
@@ -113,7 +113,7 @@ module _ (nc start stride count t : ℕ) (h : t < count) where
         let m : ℕ = count * nc + 1 in
         let bare : List ℕ = set vs at 0 in
         let b : ℕ = total (t * nc + 1) (digits nc v) in
-        ap (λ (n : ℕ). (n + b) % m) (sym (sum-of-total nc start stride count bare))
+        ap (λ (n : ℕ). (n + b) % m) (sym (sum_of_total nc start stride count bare))
         ∙ mod-add-mod (total 1 (line nc start stride count bare)) m b
         ∙ ap (λ (n : ℕ). n % m) (sym (total-set v))
-        ∙ sum-of-total nc start stride count (set vs at v)
+        ∙ sum_of_total nc start stride count (set vs at v)

@@ -1,8 +1,8 @@
 // A row as the numbers of its chunks, and the lines of chunks that have a sum: blocks and chunk-strings. Contracts cite
 // specs/Lines.antt; strings are unpacked, one byte a bit.
 ghost use Rattle.std.specs.Prelude.{◌≡◌, true, List, ◌++◌, ℕ, ◌+◌, ◌-◌, ◌*◌, ◌<◌, ◌≤◌, length, get_or, take, drop};
-ghost use Rattle.bits.specs.Bits.{AllBits, mostChunks, longestLine, number, digits};
-ghost use Rattle.rows.specs.Deletion.{comesFrom};
+ghost use Rattle.bits.specs.Bits.{AllBits, most_chunks, longest_line, number, digits};
+ghost use Rattle.rows.specs.Deletion.{comes_from};
 ghost use Rattle.vt.specs.Ones.{ones};
 ghost use Rattle.vt.specs.Sum.{total, sum as sum_of};
 ghost use Rattle.vt.specs.Weights.{weights};
@@ -52,7 +52,7 @@ pub fn spread(
 // The total of the positions of a chunk's ones, where its first bit stands at a position. The chunk is the last nc bits of v; the
 // table is that of what each byte weighs.
 pub fn chunk_total(t: &[u16; 256], nc: usize, v: u8, first: usize) -> usize
-    requires { ((t.now ≡ weights) × (nc ≤ 8)) × ((1 ≤ first) × (first ≤ longestLine + 1)) }
+    requires { ((t.now ≡ weights) × (nc ≤ 8)) × ((1 ≤ first) × (first ≤ longest_line + 1)) }
     ensures { (result ≡ total first (digits nc v)) × (result ≤ 20000) }
 {
     let ones = (bits::power(nc) - 1) as u8;
@@ -99,7 +99,7 @@ pub struct Mended {
 // The chunk of nc bits whose positions have this total in the chunk itself, and from which the bits at hand come by one deletion.
 fn put_back(nc: usize, whole: usize, bits: &[u8]) -> Mended
     requires { ((length bits.now + 1 ≡ nc) × (nc ≤ 8)) × AllBits bits.now }
-    ensures { (x : List ℕ) → AllBits x → comesFrom x 1 bits.now ≡ true → total 1 x ≡ whole
+    ensures { (x : List ℕ) → AllBits x → comes_from x 1 bits.now ≡ true → total 1 x ≡ whole
         → (result.ok ≡ true) × (result.value ≡ number nc x) }
 {
     let mut out: [u8; 8] = [0; 8];
@@ -114,9 +114,9 @@ fn put_back(nc: usize, whole: usize, bits: &[u8]) -> Mended
 // first of which is given. A 0 adds at most the number of their ones; a 1 adds at least that and the first position.
 fn mend_chunk(nc: usize, first: usize, w: Weight, g: usize, bits: &[u8]) -> Mended
     requires { (((length bits.now + 1 ≡ nc) × (nc ≤ 8)) × AllBits bits.now) × (((1 ≤ first)
-        × (first ≤ longestLine) × (g ≤ longestLine))
+        × (first ≤ longest_line) × (g ≤ longest_line))
         × ((w.total ≡ total 1 bits.now) × (w.ones ≡ ones bits.now))) }
-    ensures { (x : List ℕ) → AllBits x → comesFrom x 1 bits.now ≡ true
+    ensures { (x : List ℕ) → AllBits x → comes_from x 1 bits.now ≡ true
         → total first x ≡ total first bits.now + g → (result.ok ≡ true) × (result.value ≡ number nc x) }
 {
     let none = Mended {
@@ -147,7 +147,7 @@ pub fn mend_line(
     bits: &[u8],
     vs: &[u8],
 ) -> Mended
-    requires { (Inside nc start stride count (length vs.now) × (length vs.now ≤ mostChunks))
+    requires { (Inside nc start stride count (length vs.now) × (length vs.now ≤ most_chunks))
         × ((hole < count) × (((length bits.now + 1 ≡ nc) × AllBits bits.now) × (sum ≤ count * nc))) }
     ensures { (us : List ℕ) → Mendable nc start stride count hole sum bits.now vs.now us
         → (result.ok ≡ true) × (result.value ≡ get_or us (start + hole * stride) 0) }

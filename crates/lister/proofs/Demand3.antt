@@ -5,7 +5,7 @@
 -- - `at_most_one`: "with none or one deleted it holds at most one row".
 -- - `row_listed` and `row-among`: "for every legal layout, every row of its length and the row's own message under it:
 -- whichever of the row's bits, at most 12, were deleted, and only deleted, the row is listed whenever the list fits its
--- slice". - `same-again`: the same message, row, bit count and slice give the same answer and the same slice.
+-- slice". - `same_again`: the same message, row, bit count and slice give the same answer and the same slice.
 -- Assumes nothing.
 use Prim.Native.Nat.{ℕ, ◌-◌, ◌≤◌}
 use mathlib.Core.Path.{◌≡◌, refl, sym, ap, ◌∙◌}
@@ -16,32 +16,32 @@ use native.Mathlib.Omega.{arith}
 use borrow.Author.Tests.{ltb-false}
 use lib.Dec.{eqb}
 use lib.ListN.{length, take, drop}
-use Rattle.refusal.specs.Refusal.{number_of, firstRefusal}
+use Rattle.refusal.specs.Refusal.{number_of, first_refusal}
 use Rattle.refusal.specs.declared.Refusal.TheVariants.{NoMessage, Version, Layout as LayoutRefusal, MessageLength, Sum, SpareBit, Losses, Packing, ListFull, ShortTarget}
 use Rattle.refusal.specs.declared.Refusal.{Refusal}
 use Rattle.refusal.proofs.Laws.{numbered}
 use Rattle.bits.specs.Bits.{AllBits, pack, unpack}
 use Rattle.bits.proofs.Packing.{unpack-pack}
-use Rattle.rows.specs.Deletion.{comesFrom}
+use Rattle.rows.specs.Deletion.{comes_from}
 use Rattle.rows.specs.Order.{Mem, Ascending, Row}
 use Rattle.rows.specs.Slice.{flat}
 use Rattle.rows.proofs.Deletion.{comes-bits}
-use Rattle.message.specs.Layout.{legal, rowBits}
+use Rattle.message.specs.Layout.{legal, row_bits}
 use Rattle.message.specs.Message.{message}
 use Rattle.message.specs.declared.Layout.{Layout}
-use Rattle.consistent.specs.Consistent.{mostLosses, bits_of, theList}
-use Rattle.consistent.specs.List.{ListAnswer, room, wanted, inputChecks, listRefusal, listAnswer, listSlice}
-use Rattle.consistent.proofs.Consistent.{Consistent, of-consistent, is-consistent, list-exact, list-ascending}
+use Rattle.consistent.specs.Consistent.{most_losses, bits_of, the_list}
+use Rattle.consistent.specs.List.{ListAnswer, room, wanted, input_checks, list_refusal, list_answer, list_slice}
+use Rattle.consistent.proofs.Consistent.{Consistent, of_consistent, is_consistent, list_exact, list_ascending}
 use Rattle.consistent.proofs.Demand3.{one_at_most, own-consistent, own-listed}
-use Rattle.consistent.proofs.List.{input-passed, answer-is, list-writes}
+use Rattle.consistent.proofs.List.{input_passed, answer_is, list_writes}
 use Rattle.lister.specs.Answer.{listed_of}
 use Rattle.lister.specs.declared.Listed.TheVariants.{Count, Refused}
 use Rattle.lister.specs.declared.Listed.{Listed}
-use Rattle.lister.proofs.Answers.{by-room}
+use Rattle.lister.proofs.Answers.{by_room}
 
 -- the contract of `list`: s is the message, row the packed row of m bits, slice the list slice at entry
 abbrev pub Promised : (s row : List ℕ) (m : ℕ) (slice : List ℕ) (r : Listed) (exit : List ℕ) → Type 0
-Promised s row m slice r exit = (listed_of r ≡ listAnswer s row m (length slice)) × (exit ≡ listSlice s row m slice)
+Promised s row m slice r exit = (listed_of r ≡ list_answer s row m (length slice)) × (exit ≡ list_slice s row m slice)
 
 -- ---- what an answer says
 -- no refusal is a count, so what is answered says which of the two the result is
@@ -51,36 +51,36 @@ counted (Refused q) n e = absurd (omega (arith, numbered q, ap (λ (a : ListAnsw
 
 -- the number answered is that of the first check that applies
 pub number_is : (s row : List ℕ) (m : ℕ) (slice : List ℕ) (r : Listed) (exit : List ℕ) → Promised s row m slice r exit
-    → (listed_of r).refusal ≡ listRefusal s row m (length slice)
+    → (listed_of r).refusal ≡ list_refusal s row m (length slice)
 number_is s row m slice r exit p =
-    let q = listRefusal s row m (length slice) in
-    ap (λ (a : ListAnswer). a.refusal) (p.0 ∙ answer-is s row m (length slice) q refl)
+    let q = list_refusal s row m (length slice) in
+    ap (λ (a : ListAnswer). a.refusal) (p.0 ∙ answer_is s row m (length slice) q refl)
 
 module _ (s row : List ℕ) (m : ℕ) (slice : List ℕ) (r : Listed) (exit : List ℕ) (p : Promised s row m slice r exit)
     (n : ℕ) (e : r ≡ Count n) where
   -- a count: no check applies, all rows fit, and it is their number
-  pub not-refused : listRefusal s row m (length slice) ≡ 0
-  not-refused = sym (number_is s row m slice r exit p) ∙ ap (λ (v : Listed). (listed_of v).refusal) e
+  pub not_refused : list_refusal s row m (length slice) ≡ 0
+  not_refused = sym (number_is s row m slice r exit p) ∙ ap (λ (v : Listed). (listed_of v).refusal) e
 
-  pub input_fit : firstRefusal (inputChecks s row m) ≡ 0
-  input_fit = input-passed s row m (length slice) not-refused
+  pub input_fit : first_refusal (input_checks s row m) ≡ 0
+  input_fit = input_passed s row m (length slice) not_refused
 
   pub all_fit : length (wanted s row m) ≤ room s (length slice)
   all_fit =
       ltb-false (room s (length slice)) (length (wanted s row m))
-      (passes _ (sym (by-room s row m slice input_fit) ∙ not-refused))
+      (passes _ (sym (by_room s row m slice input_fit) ∙ not_refused))
     where
       passes : (t : Bool) → ◌≡◌ {A = ℕ} (cond t 9 0) 0 → t ≡ false
       passes true h = absurd (omega arith)
       passes false h = refl
 
-  pub count-is : n ≡ length (wanted s row m)
-  count-is =
+  pub count_is : n ≡ length (wanted s row m)
+  count_is =
       sym (ap (λ (v : Listed). (listed_of v).count) e)
-      ∙ ap (λ (a : ListAnswer). a.count) (p.0 ∙ answer-is s row m (length slice) 0 not-refused)
+      ∙ ap (λ (a : ListAnswer). a.count) (p.0 ∙ answer_is s row m (length slice) 0 not_refused)
 
   pub rows_written : exit ≡ flat (map pack (wanted s row m)) ++ drop (length (flat (map pack (wanted s row m)))) slice
-  rows_written = p.1 ∙ list-writes s row m slice input_fit all_fit
+  rows_written = p.1 ∙ list_writes s row m slice input_fit all_fit
 
 -- ---- "the list is exact"
 -- what a count of n says: there are rows, n of them, packed in the slice from its start, and beyond them the bytes as
@@ -93,10 +93,10 @@ pub record Exact (s row : List ℕ) (m : ℕ) (slice : List ℕ) (n : ℕ) (exit
   pub ascending : Ascending rows
   pub exactly : (x : List ℕ) → Mem x rows ↔ (AllBits x × Consistent s m (take m (unpack row)) x)
 
-members : (s : List ℕ) (m : ℕ) (y x : List ℕ) → Mem x (theList s m y) ↔ (AllBits x × Consistent s m y x)
+members : (s : List ℕ) (m : ℕ) (y x : List ℕ) → Mem x (the_list s m y) ↔ (AllBits x × Consistent s m y x)
 members s m y x = (
-  λ h. let k = (list-exact s m y x).0 h in (k.0.1, of-consistent s m y x k.1),
-  λ h. (list-exact s m y x).1 ((h.1.long, h.0), is-consistent s m y x h.1),
+  λ h. let k = (list_exact s m y x).0 h in (k.0.1, of_consistent s m y x k.1),
+  λ h. (list_exact s m y x).1 ((h.1.long, h.0), is_consistent s m y x h.1),
 )
 
 pub exact : (s row : List ℕ) (m : ℕ) (slice : List ℕ) (r : Listed) (exit : List ℕ) → Promised s row m slice r exit
@@ -104,9 +104,9 @@ pub exact : (s row : List ℕ) (m : ℕ) (slice : List ℕ) (r : Listed) (exit :
 unfolding wanted
 exact s row m slice r exit p n e = record {
   rows = wanted s row m;
-  count = count-is s row m slice r exit p n e;
+  count = count_is s row m slice r exit p n e;
   written = rows_written s row m slice r exit p n e;
-  ascending = list-ascending s m (take m (unpack row));
+  ascending = list_ascending s m (take m (unpack row));
   exactly = members s m (take m (unpack row));
 }
 
@@ -114,18 +114,18 @@ exact s row m slice r exit p n e = record {
 pub at_most_one : (s row : List ℕ) (m : ℕ) (slice : List ℕ) (r : Listed) (exit : List ℕ) → Promised s row m slice r exit
     → (n : ℕ) → r ≡ Count n → bits_of s - m ≤ 1 → n ≤ 1
 at_most_one s row m slice r exit p n e h =
-    let v : (listAnswer s row m (length slice)).count ≡ n =
+    let v : (list_answer s row m (length slice)).count ≡ n =
     ap (λ (t : ListAnswer). t.count) (sym p.0) ∙ ap (λ (t : Listed). (listed_of t).count) e in
     omega (arith, one_at_most s row m (length slice) h)
 
 -- ---- "the row is listed whenever the list fits its slice"
 -- x is a row of a legal layout l, y what is left of it where at most 12 bits were deleted
-module _ (l : Layout) (x : List ℕ) (k : ℕ) (y : List ℕ) (g : legal l ≡ true) (t : Row (rowBits l) x)
-    (most : k ≤ mostLosses)
-    (c : comesFrom x k y ≡ true) where
+module _ (l : Layout) (x : List ℕ) (k : ℕ) (y : List ℕ) (g : legal l ≡ true) (t : Row (row_bits l) x)
+    (most : k ≤ most_losses)
+    (c : comes_from x k y ≡ true) where
   -- the list for the row's own message and y
   abbrev pub own : List (List ℕ)
-  own = theList (message l x) (length y) y
+  own = the_list (message l x) (length y) y
 
   module _ (slice : List ℕ) (r : Listed) (exit : List ℕ)
       (p : Promised (message l x) (pack y) (length y) slice r exit) where
@@ -144,13 +144,13 @@ module _ (l : Layout) (x : List ℕ) (k : ℕ) (y : List ℕ) (g : legal l ≡ t
         let b = comes-bits x k y c t.1 in
         (e.exactly x).1 (
           t.1,
-          rw (unpack-pack y b) (of-consistent (message l x) (length y) y x (own-consistent l x k y t c)),
+          rw (unpack-pack y b) (of_consistent (message l x) (length y) y x (own-consistent l x k y t c)),
         )
 
 -- ---- the archive
 -- the refusal with a number
-abbrev numbered-by : ℕ → Refusal
-numbered-by n =
+abbrev numbered_by : ℕ → Refusal
+numbered_by n =
     cond (eqb n 1) NoMessage
     (cond (eqb n 2) Version
     (cond (eqb n 3) LayoutRefusal
@@ -161,26 +161,26 @@ numbered-by n =
     (cond (eqb n 8) Packing
     (cond (eqb n 9) ListFull ShortTarget))))))))
 
-number-names : (q : Refusal) → numbered-by (number_of q) ≡ q
-number-names NoMessage = refl
-number-names Version = refl
-number-names LayoutRefusal = refl
-number-names MessageLength = refl
-number-names Sum = refl
-number-names SpareBit = refl
-number-names Losses = refl
-number-names Packing = refl
-number-names ListFull = refl
-number-names ShortTarget = refl
+number_names : (q : Refusal) → numbered_by (number_of q) ≡ q
+number_names NoMessage = refl
+number_names Version = refl
+number_names LayoutRefusal = refl
+number_names MessageLength = refl
+number_names Sum = refl
+number_names SpareBit = refl
+number_names Losses = refl
+number_names Packing = refl
+number_names ListFull = refl
+number_names ShortTarget = refl
 
 -- results with the same number and count are the same
-same-result : (r t : Listed) → listed_of r ≡ listed_of t → r ≡ t
-same-result r (Count n) e = counted r n e
-same-result (Count n) (Refused q) e = absurd (omega (arith, numbered q, ap (λ (a : ListAnswer). a.refusal) e))
-same-result (Refused p) (Refused q) e =
-    ap Refused (sym (number-names p) ∙ ap (λ (a : ListAnswer). numbered-by a.refusal) e ∙ number-names q)
+same_result : (r t : Listed) → listed_of r ≡ listed_of t → r ≡ t
+same_result r (Count n) e = counted r n e
+same_result (Count n) (Refused q) e = absurd (omega (arith, numbered q, ap (λ (a : ListAnswer). a.refusal) e))
+same_result (Refused p) (Refused q) e =
+    ap Refused (sym (number_names p) ∙ ap (λ (a : ListAnswer). numbered_by a.refusal) e ∙ number_names q)
 
 -- two calls with the same message, row, bit count and slice answer the same and leave the same bytes
-pub same-again : (s row : List ℕ) (m : ℕ) (slice : List ℕ) (r t : Listed) (exit last : List ℕ)
+pub same_again : (s row : List ℕ) (m : ℕ) (slice : List ℕ) (r t : Listed) (exit last : List ℕ)
     → Promised s row m slice r exit → Promised s row m slice t last → (r ≡ t) × (exit ≡ last)
-same-again s row m slice r t exit last p q = (same-result r t (p.0 ∙ sym q.0), p.1 ∙ sym q.1)
+same_again s row m slice r t exit last p q = (same_result r t (p.0 ∙ sym q.0), p.1 ∙ sym q.1)

@@ -7,40 +7,40 @@ use native.Mathlib.Nat.{mul-le-mul, div-mul-le_self}
 use native.Mathlib.Omega.{arith}
 use lib.ListN.{length, take}
 use lib.Seq.{take_at}
-use Rattle.bits.specs.Bits.{longest, bytesFor, unpack}
-use Rattle.message.specs.Layout.{legal, rowBits}
+use Rattle.bits.specs.Bits.{longest, bytes_for, unpack}
+use Rattle.message.specs.Layout.{legal, row_bits}
 use Rattle.message.specs.declared.Layout.{Layout}
-use Rattle.message.proofs.Legal.{legal-bounds, sizes}
-use Rattle.consistent.specs.List.{usedBytes}
+use Rattle.message.proofs.Legal.{legal_bounds, sizes}
+use Rattle.consistent.specs.List.{used_bytes}
 use Rattle.found.specs.Found.{Given}
 use Rattle.lister.specs.Rows.{room_for}
 use Rattle.lister.proofs.Row.{length-bits}
 
 -- a row has at least one bit
-pub row_low : (l : Layout) → legal l ≡ true → 1 ≤ rowBits l
+pub row_low : (l : Layout) → legal l ≡ true → 1 ≤ row_bits l
 row_low l g =
-    let b = legal-bounds l g in
-    omega (arith, mul-le-mul (mul-le-mul b.l1-low b.l2-low) b.nc-low)
+    let b = legal_bounds l g in
+    omega (arith, mul-le-mul (mul-le-mul b.l1_low b.l2_low) b.nc_low)
 
 module _ (l : Layout) (numbers row : List ℕ) (m : ℕ) (g : Given l numbers (take m (unpack row)))
     (h : m ≤ length row * 8) where
   -- and at most 2,040
-  pub row-high : rowBits l ≤ longest
-  row-high = (sizes l (legal-bounds l g.is-legal)).row
+  pub row-high : row_bits l ≤ longest
+  row-high = (sizes l (legal_bounds l g.is_legal)).row
 
   -- and no more are received
   pub few_bits : m ≤ longest
-  few_bits = omega (arith, g.short, length-bits (rowBits l) row m h, row-high)
+  few_bits = omega (arith, g.short, length-bits (row_bits l) row m h, row-high)
 
   -- the bits of the row, lent from the array that they were unpacked to
-  pub bits-lent : (held rest : List ℕ) → held ≡ take m (unpack row) ++ rest → take (m - 0) held ≡ take m (unpack row)
-  bits-lent held rest e =
+  pub bits_lent : (held rest : List ℕ) → held ≡ take m (unpack row) ++ rest → take (m - 0) held ≡ take m (unpack row)
+  bits_lent held rest e =
       let n : m - 0 ≡ m = omega arith in
-      rw (n, e) (take_at (take m (unpack row)) rest m (length-bits (rowBits l) row m h))
+      rw (n, e) (take_at (take m (unpack row)) rest m (length-bits (row_bits l) row m h))
 
 -- the rows that fit take no more bytes than the slice has
-pub room_fits : (n slice : ℕ) → room_for n slice * bytesFor n ≤ slice
+pub room_fits : (n slice : ℕ) → room_for n slice * bytes_for n ≤ slice
 room_fits n slice =
-    let d = div-mul-le_self (min slice usedBytes) (bytesFor n) in
-    let u : min slice usedBytes ≤ slice = omega arith in
+    let d = div-mul-le_self (min slice used_bytes) (bytes_for n) in
+    let u : min slice used_bytes ≤ slice = omega arith in
     omega arith

@@ -2,11 +2,11 @@
 // in rising number; the search finds the rows. Contracts cite specs/ and consistent's specs/List.antt.
 ghost use Rattle.std.specs.Prelude.{◌≡◌, ◌*◌, ◌≤◌, length, take};
 ghost use Rattle.bits.specs.Bits.{longest, unpack as unpacked};
-ghost use Rattle.message.specs.Layout.{rowBits};
-ghost use Rattle.consistent.specs.List.{listAnswer, listSlice};
-ghost use Rattle.found.specs.Found.{Given, allSent};
+ghost use Rattle.message.specs.Layout.{row_bits};
+ghost use Rattle.consistent.specs.List.{list_answer, list_slice};
+ghost use Rattle.found.specs.Found.{Given, all_sent};
 ghost use Rattle.lister.specs.Answer.{listed_of};
-ghost use Rattle.lister.specs.Rows.{rowRefusal, room_for, rowsAnswer, rowsSlice};
+ghost use Rattle.lister.specs.Rows.{row_refusal, room_for, rows_answer, rows_slice};
 
 use message::{Layout, Read};
 use refusal::Refusal;
@@ -27,7 +27,7 @@ const USED_BYTES: usize = 65536;
 // The first check that applies to a received row of m bits where n were sent; the count 0 where none does.
 fn check_row(n: usize, m: usize, row: &[u8]) -> Listed
     requires { n ≤ longest }
-    ensures { listed_of result ≡ record { refusal = rowRefusal n row.now m; count = 0 } }
+    ensures { listed_of result ≡ record { refusal = row_refusal n row.now m; count = 0 } }
 {
     if n < m {
         return Listed::Refused(Refusal::Losses);
@@ -57,8 +57,8 @@ fn room(n: usize, slice: usize) -> usize
 fn list_rows(l: Layout, numbers: &[u16], row: &[u8], m: usize, out: &mut [u8]) -> Listed
     requires { Given l numbers.now (take m (unpacked row.now)) × (m ≤ length row.now * 8) }
     ensures { (listed_of result
-        ≡ rowsAnswer (room_for (rowBits l) (length out.old)) (allSent l numbers.now (take m (unpacked row.now))))
-        × (out.new ≡ rowsSlice (room_for (rowBits l) (length out.old)) (allSent l numbers.now (take m (unpacked row.now))) out.old) }
+        ≡ rows_answer (room_for (row_bits l) (length out.old)) (all_sent l numbers.now (take m (unpacked row.now))))
+        × (out.new ≡ rows_slice (room_for (row_bits l) (length out.old)) (all_sent l numbers.now (take m (unpacked row.now))) out.old) }
 {
     let mut y: [u8; bits::LONGEST] = [0; bits::LONGEST];
     bits::unpack(row, m, &mut y);
@@ -77,8 +77,8 @@ fn list_rows(l: Layout, numbers: &[u16], row: &[u8], m: usize, out: &mut [u8]) -
 // The contract gives the answer and every byte of the slice as a function of the message, the row, the bit count and the slice,
 // and of nothing else. So the archive gives in December the list that it gave in March.
 pub fn list(msg: &[u8], row: &[u8], m: usize, out: &mut [u8]) -> Listed
-    ensures { (listed_of result ≡ listAnswer msg.now row.now m (length out.old))
-        × (out.new ≡ listSlice msg.now row.now m out.old) }
+    ensures { (listed_of result ≡ list_answer msg.now row.now m (length out.old))
+        × (out.new ≡ list_slice msg.now row.now m out.old) }
 {
     let mut numbers: [u16; message::MOST_NUMBERS] = [0; message::MOST_NUMBERS];
     let answer = message::reading::read(msg, &mut numbers);

@@ -14,7 +14,7 @@ use Rattle.column.specs.declared.Heavy.{Heavy}
 use Rattle.marks.specs.Marks.{Kept}
 use Rattle.marks.specs.Digits.{Within, entry_of, Digits}
 use Rattle.live.specs.Passes.{Gains, Spread, SpreadBy, Gained}
-use Rattle.live.proofs.Steps.{gained-next}
+use Rattle.live.proofs.Steps.{gained_next}
 
 -- ---- fresh marks of a column
 module _ (l : Layout) (y numbers : List ℕ) (heavy : Heavy) (known z digits : List ℕ) (j : ℕ) (other : ℕ → ℕ) (there : ℕ)
@@ -23,11 +23,11 @@ module _ (l : Layout) (y numbers : List ℕ) (heavy : Heavy) (known z digits : L
   spread_none = record { long = refl; grows = λ q. omega arith; gains = λ q lo hi. absurd (omega arith) }
 
   -- one fresh mark more is raised
-  pub spread-next : (q v : ℕ) (fresh : List ℕ) → q < length fresh → get_or fresh q 0 ≤ v
+  pub spread_next : (q v : ℕ) (fresh : List ℕ) → q < length fresh → get_or fresh q 0 ≤ v
       → (0 < get_or marks (at + q) 0 → Gains l y numbers heavy known z j false (entry_of digits q) other there v)
       → Spread l y numbers heavy known z digits j other there marks at low q entry fresh
       → Spread l y numbers heavy known z digits j other there marks at low (q + 1) entry (set fresh q v)
-  spread-next q v fresh h up here s =
+  spread_next q v fresh h up here s =
       record {
         long = length-set fresh q v ∙ s.long;
         grows = λ i. grows_at i (ℕ_discrete i q);
@@ -51,15 +51,15 @@ module _ (l : Layout) (y numbers : List ℕ) (heavy : Heavy) (known z : List ℕ
     pub gained : (own : ℕ → ℕ) → Within shape own → 0 < get_or marks (at + state_of shape own) 0
         → Gained l y numbers heavy known z shape j ahead marks base p own (get_or fresh (state_of shape own) 0)
 
-  pub remaking-starts : (fresh : List ℕ) → Remaking fresh 0
-  remaking-starts fresh = record { gained = λ own w m other w' k. absurd (omega arith) }
+  pub remaking_starts : (fresh : List ℕ) → Remaking fresh 0
+  remaking_starts fresh = record { gained = λ own w m other w' k. absurd (omega arith) }
 
-  pub remaking-next : Kept heavy shape → (digits : List ℕ) → Digits shape digits → (fresh more : List ℕ) (p : ℕ)
+  pub remaking_next : Kept heavy shape → (digits : List ℕ) → Digits shape digits → (fresh more : List ℕ) (p : ℕ)
       → SpreadBy l y numbers heavy known z digits shape j ahead p (get_or marks (base + p) 0) marks at fresh more
       → Remaking fresh p → Remaking more (p + 1)
-  remaking-next kept digits d fresh more p s r =
+  remaking_next kept digits d fresh more p s r =
       record {
         gained = λ own w m.
-            gained-next l y numbers heavy known z j ahead kept d marks base p at fresh more marks s own w m
+            gained_next l y numbers heavy known z j ahead kept d marks base p at fresh more marks s own w m
             (r.gained own w m);
       }

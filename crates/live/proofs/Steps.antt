@@ -15,13 +15,13 @@ use Rattle.steps.specs.Steps.{Above}
 use Rattle.marks.specs.Marks.{Covers, Kept}
 use Rattle.marks.specs.Digits.{Within, Digits, entry_of}
 use Rattle.marks.proofs.Marks.{covers_more}
-use Rattle.marks.proofs.Digits.{number_up, entry-is}
+use Rattle.marks.proofs.Digits.{number_up, entry_is}
 use Rattle.marks.proofs.Paths.{crosses-same}
 use Rattle.live.specs.Passes.{Joined, Gains, SpreadBy, Gained}
 
 -- a mark that is above another one by so many chunks covers so many more
-pub above-covers : (there a mark n : ℕ) → Above there a mark → Covers there n → Covers mark (n + a)
-above-covers there a mark n u c =
+pub above_covers : (there a mark n : ℕ) → Above there a mark → Covers there n → Covers mark (n + a)
+above_covers there a mark n u c =
     ⊎_elim
     (λ h. (omega (arith, c.0), ⊎_elim (λ k. inl (omega arith)) (λ k. inr (omega arith)) c.1))
     (λ h. (omega arith, inr (omega arith)))
@@ -57,12 +57,12 @@ module _ (l : Layout) (y numbers : List ℕ) (heavy : Heavy) (known z : List ℕ
 
   module _ {shape : Shape} (kept : Kept heavy shape) {table : List ℕ} (digits : Digits shape table) where
     -- one other state more
-    pub gained-next : (marks : List ℕ) (base p at : ℕ) (entry exit column : List ℕ)
+    pub gained_next : (marks : List ℕ) (base p at : ℕ) (entry exit column : List ℕ)
         → SpreadBy l y numbers heavy known z table shape j ahead p (get_or marks (base + p) 0) column at entry exit
         → (own : ℕ → ℕ) → Within shape own → 0 < get_or column (at + state_of shape own) 0
         → Gained l y numbers heavy known z shape j ahead marks base p own (get_or entry (state_of shape own) 0)
         → Gained l y numbers heavy known z shape j ahead marks base (p + 1) own (get_or exit (state_of shape own) 0)
-    gained-next marks base p at entry exit column spread own w m before other w' h =
+    gained_next marks base p at entry exit column spread own w m before other w' h =
         go (ℕ_discrete (state_of shape other) p)
       where
         go : Dec (state_of shape other ≡ p)
@@ -72,7 +72,7 @@ module _ (l : Layout) (y numbers : List ℕ) (heavy : Heavy) (known z : List ℕ
             λ vs n k c.
             gains-same own own (entry_of table p) other (get_or marks (base + p) 0) (get_or exit (state_of shape own) 0)
             (λ t a. refl)
-            (entry-is kept digits other w' p e)
+            (entry_is kept digits other w' p e)
             (spread.gains own w (λ a. omega (arith, number_up kept other own (k.back a).falls)) m)
             vs n k (rw e at c)
         go (no e) =

@@ -4,9 +4,9 @@ use Rattle.message.specs.declared.Layout.{Layout}
 use Rattle.windows.specs.Windows.{Tables}
 use Rattle.states.specs.States.{each, state_of}
 use Rattle.states.specs.declared.Shape.{Shape}
-use Rattle.column.specs.Column.{Fit, Light, Crosses, apartIn}
+use Rattle.column.specs.Column.{Fit, Light, Crosses, apart_in}
 use Rattle.column.specs.declared.Heavy.{Heavy}
-use Rattle.marks.specs.Marks.{Covers, Path, apartFrom, Through}
+use Rattle.marks.specs.Marks.{Covers, Path, apart_from, Through}
 use Rattle.marks.specs.Digits.{Within, entry_of}
 
 -- all that is read to make the marks
@@ -31,7 +31,7 @@ abbrev pub Gains : Layout → (y numbers : List ℕ) → Heavy → (known z : Li
     (own other : ℕ → ℕ) (there mark : ℕ) → Type 0
 Gains l y numbers heavy known z j ahead own other there mark =
     (vs : List ℕ) (m : ℕ) → Joined l y numbers heavy known j ahead own other vs → Covers there m
-    → Covers mark (m + apartIn l heavy z vs j heavy.n)
+    → Covers mark (m + apart_in l heavy z vs j heavy.n)
 
 -- fresh marks are raised by the mark of the state other after the column: those of the marked states low to high - 1 of
 -- a column
@@ -68,8 +68,8 @@ abbrev pub Regained : Layout → (y numbers : List ℕ) → Heavy → (known z :
     (base floor : ℕ) (own : ℕ → ℕ) (mark : ℕ) → Type 0
 Regained l y numbers heavy known z shape j ahead marks base floor own mark =
     (other : ℕ → ℕ) → Within shape other → (vs : List ℕ) (m : ℕ) → Joined l y numbers heavy known j ahead own other vs
-    → Covers (get_or marks (base + state_of shape other) 0) m → floor ≤ m + apartIn l heavy z vs j heavy.n
-    → Covers mark (m + apartIn l heavy z vs j heavy.n)
+    → Covers (get_or marks (base + state_of shape other) 0) m → floor ≤ m + apart_in l heavy z vs j heavy.n
+    → Covers mark (m + apart_in l heavy z vs j heavy.n)
 
 -- a pass over the marks: every row that they let through at entry and that differs from z in room chunks of the heavy
 -- blocks they let through at exit, and cover the number f of it
@@ -78,5 +78,5 @@ pub record Pass (l : Layout) (y numbers : List ℕ) (heavy : Heavy) (known z : L
     (entry exit : List ℕ) : Type 0 where
   pub long : length exit ≡ length entry
   pub through : (row vs : List ℕ) (own : ℕ → ℕ → ℕ) → Light l heavy row known
-      → Path l y numbers heavy row (each shape.size) vs own → room ≤ apartFrom l heavy z vs 0
+      → Path l y numbers heavy row (each shape.size) vs own → room ≤ apart_from l heavy z vs 0
       → Through l shape entry own (λ j. 0) → Through l shape exit own (f vs)

@@ -3,12 +3,12 @@
 // specs/Floors.antt.
 ghost use Rattle.std.specs.Prelude.{◌≡◌, true, false, List, ℕ, ◌+◌, ◌*◌, ◌<◌, ◌≤◌, length, get_or};
 ghost use Rattle.windows.specs.Windows.{Tables};
-ghost use Rattle.states.specs.States.{mostStates, lefts, each, Shaped, state_of};
-ghost use Rattle.column.specs.Column.{Fit, Light, Crosses, apartIn};
+ghost use Rattle.states.specs.States.{most_states, lefts, each, Shaped, state_of};
+ghost use Rattle.column.specs.Column.{Fit, Light, Crosses, apart_in};
 ghost use Rattle.steps.specs.Steps.{Counts};
-ghost use Rattle.marks.specs.Marks.{many, Path, apartBefore, apartFrom, Covers, Through, Kept, Remade};
+ghost use Rattle.marks.specs.Marks.{many, Path, apart_before, apart_from, Covers, Through, Kept, Remade};
 ghost use Rattle.marks.specs.Digits.{Within, entry_of, Digits};
-ghost use Rattle.near.specs.Near.{CountedIn, Counted, Sized, mostAfter};
+ghost use Rattle.near.specs.Near.{CountedIn, Counted, Sized, most_after};
 ghost use Rattle.live.specs.Passes.{Ready, Gains, Spread, SpreadBy, Regained, Pass};
 ghost use Rattle.live.specs.Floors.{Floors};
 
@@ -60,7 +60,7 @@ fn between(
     requires { Ready l y.now totals.now counts.now numbers.now heavy known.now z.now × (j < l.l2) }
     ensures { (row vs : List ℕ) → Light l heavy row known.now
         → Crosses l y.now numbers.now heavy row j (each left) (each next) vs
-        → apartIn l heavy z.now vs j heavy.n < result }
+        → apart_in l heavy z.now vs j heavy.n < result }
 {
     if !no_more(heavy.n, next, left) {
         return 0;
@@ -301,7 +301,7 @@ fn remake(
     requires { Ready l y.now totals.now counts.now numbers.now heavy known.now z.now × ((j < l.l2)
         × (Kept heavy shape × (Digits shape digits.now
         × ((at + shape.states ≤ length marks.old) × ((base + shape.states ≤ length marks.old)
-        × ((q : ℕ) → q < mostStates → get_or floors q 0 < many)))))) }
+        × ((q : ℕ) → q < most_states → get_or floors q 0 < many)))))) }
     ensures { Remade shape.states at marks.old marks.new
         × (((p : ℕ) → p < shape.states → get_or marks.new (at + p) 0 ≤ result)
         × ((own : ℕ → ℕ) → Within shape own → 0 < get_or marks.old (at + state_of shape own) 0
@@ -368,7 +368,7 @@ fn floor_of(
     requires { Sized columns shape after.now × ((j ≤ columns) × ((q * 6 + 6 ≤ length digits.now)
         × ((s : ℕ) → s < shape.n → entry_of digits.now q s < lefts))) }
     ensures { (result < many) × ((n : ℕ)
-        → room ≤ n + mostAfter columns after.now (entry_of digits.now q) j shape.n → result ≤ n) }
+        → room ≤ n + most_after columns after.now (entry_of digits.now q) j shape.n → result ≤ n) }
 {
     if mark == 0 {
         return 0;
@@ -389,7 +389,7 @@ fn floors_of(
     at: usize,
 ) -> [u8; states::MOST_STATES]
     requires { Sized columns shape after.now × ((j ≤ columns) × (Digits shape digits.now
-        × ((Shaped shape.n shape.size shape.stride shape.states × (shape.states ≤ mostStates))
+        × ((Shaped shape.n shape.size shape.stride shape.states × (shape.states ≤ most_states))
         × (at + shape.states ≤ length marks.now)))) }
     ensures { Floors columns shape after.now room j result }
 {
@@ -425,10 +425,10 @@ fn ahead(
         × (0 < room → CountedIn l y.now heavy z.now shape.size false after.now))
         × ((l.l2 + 1) * shape.states ≤ length marks.old)))) }
     ensures { Pass l y.now numbers.now heavy known.now z.now shape room
-        (apartBefore l heavy z.now) marks.old marks.new
+        (apart_before l heavy z.now) marks.old marks.new
         × ((row vs : List ℕ) (own : ℕ → ℕ → ℕ) → Light l heavy row known.now
         → Path l y.now numbers.now heavy row (each shape.size) vs own
-        → room ≤ apartFrom l heavy z.now vs 0 → Through l shape marks.old own (λ j. 0) → result ≡ true) }
+        → room ≤ apart_from l heavy z.now vs 0 → Through l shape marks.old own (λ j. 0) → result ≡ true) }
 {
     let states = shape.states;
     let columns = l.l2;
@@ -480,7 +480,7 @@ fn back(
     requires { Ready l y.now totals.now counts.now numbers.now heavy known.now z.now
         × (Kept heavy shape × (Digits shape digits.now × ((l.l2 + 1) * shape.states ≤ length marks.old))) }
     ensures { Pass l y.now numbers.now heavy known.now z.now shape 0
-        (apartFrom l heavy z.now) marks.old marks.new }
+        (apart_from l heavy z.now) marks.old marks.new }
 {
     let states = shape.states;
     let none: [u8; states::MOST_STATES] = [0; states::MOST_STATES];
@@ -531,9 +531,9 @@ fn count_marks(
         × ((l.l2 + 1) * shape.states ≤ length marks.old)))) }
     ensures { (result.shape ≡ shape) × ((row vs : List ℕ) (own : ℕ → ℕ → ℕ) → Light l heavy row known.now
         → Path l y.now numbers.now heavy row (each shape.size) vs own
-        → room ≤ apartFrom l heavy z.now vs 0 → Through l shape marks.old own (λ j. 0)
+        → room ≤ apart_from l heavy z.now vs 0 → Through l shape marks.old own (λ j. 0)
         → (result.none ≡ true → ⊥)
-        × (result.kept ≡ true → Through l shape marks.new own (apartFrom l heavy z.now vs))) }
+        × (result.kept ≡ true → Through l shape marks.new own (apart_from l heavy z.now vs))) }
 {
     if !ahead(
         l, y, totals, counts, numbers, heavy, known, z, shape, digits, after, room, marks,
@@ -576,8 +576,8 @@ fn make_marks(
         × ((l.l2 + 1) * shape.states ≤ length marks.old)))) }
     ensures { (result.shape ≡ shape) × ((row vs : List ℕ) (own : ℕ → ℕ → ℕ) → Light l heavy row known.now
         → Path l y.now numbers.now heavy row (each shape.size) vs own
-        → room ≤ apartFrom l heavy z.now vs 0 → (result.none ≡ true → ⊥)
-        × (result.kept ≡ true → Through l shape marks.new own (apartFrom l heavy z.now vs))) }
+        → room ≤ apart_from l heavy z.now vs 0 → (result.none ≡ true → ⊥)
+        × (result.kept ≡ true → Through l shape marks.new own (apart_from l heavy z.now vs))) }
 {
     let mut digits: [u8; 4374] = [0; 4374];
     marks::fill_digits(shape, &mut digits);
@@ -616,8 +616,8 @@ fn fill_marks(
         × (Kept heavy shape × ((l.l2 + 1) * shape.states ≤ length marks.old)) }
     ensures { (result.shape ≡ shape) × ((row vs : List ℕ) (own : ℕ → ℕ → ℕ) → Light l heavy row known.now
         → Path l y.now numbers.now heavy row (each shape.size) vs own
-        → room ≤ apartFrom l heavy z.now vs 0 → (result.none ≡ true → ⊥)
-        × (result.kept ≡ true → Through l shape marks.new own (apartFrom l heavy z.now vs))) }
+        → room ≤ apart_from l heavy z.now vs 0 → (result.none ≡ true → ⊥)
+        × (result.kept ≡ true → Through l shape marks.new own (apart_from l heavy z.now vs))) }
 {
     if !near::few_losses(shape) {
         return Prepared {
@@ -664,8 +664,8 @@ pub fn prepare(
         × (Shaped result.shape.n result.shape.size result.shape.stride result.shape.states
         × ((row vs : List ℕ) (own : ℕ → ℕ → ℕ) → Light l heavy row known.now
         → Path l y.now numbers.now heavy row (each size) vs own
-        → room ≤ apartFrom l heavy z.now vs 0 → (result.none ≡ true → ⊥)
-        × (result.kept ≡ true → Through l result.shape marks.new own (apartFrom l heavy z.now vs)))) }
+        → room ≤ apart_from l heavy z.now vs 0 → (result.none ≡ true → ⊥)
+        × (result.kept ≡ true → Through l result.shape marks.new own (apart_from l heavy z.now vs)))) }
 {
     let shape = states::shape_of(heavy.n, size);
     if !wanted {

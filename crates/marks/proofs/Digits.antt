@@ -7,7 +7,7 @@ use native.Mathlib.Omega.{arith}
 use lib.ListN.{get_or}
 use Rattle.states.specs.States.{stride, each, state_of}
 use Rattle.states.specs.declared.Shape.{Shape}
-use Rattle.states.proofs.States.{stride-pos, state-low, state-up, digitsOf, state-of, digits-most}
+use Rattle.states.proofs.States.{stride_pos, state-low, state_up, digits_of, state_of_is, digits-most}
 use Rattle.column.specs.declared.Heavy.{Heavy}
 use Rattle.marks.specs.Marks.{Kept}
 use Rattle.marks.specs.Digits.{Within, Digits, PutAt, entry_of}
@@ -19,18 +19,18 @@ module _ {heavy : Heavy} {shape : Shape} (kept : Kept heavy shape) where
 
   -- there is a state
   pub some-state : 0 < shape.states
-  some-state = omega (arith, kept.shaped.all, stride-pos (each shape.size) shape.n)
+  some-state = omega (arith, kept.shaped.all, stride_pos (each shape.size) shape.n)
 
   -- with no more left in any block the number is no higher
   pub number_up : (low high : ℕ → ℕ) → ((s : ℕ) → s < heavy.n → low s ≤ high s) → state_of shape low ≤ state_of shape
       high
-  number_up low high h = state-up (each shape.size) low high shape.n (λ s k. h s (omega (arith, kept.blocks)))
+  number_up low high h = state_up (each shape.size) low high shape.n (λ s k. h s (omega (arith, kept.blocks)))
 
   -- the losses left that the table has for the number of a state are its own
-  pub entry-is : {table : List ℕ} → Digits shape table → (own : ℕ → ℕ) → Within shape own → (q : ℕ) → state_of shape
+  pub entry_is : {table : List ℕ} → Digits shape table → (own : ℕ → ℕ) → Within shape own → (q : ℕ) → state_of shape
       own ≡ q
       → (s : ℕ) → s < heavy.n → own s ≡ entry_of table q s
-  entry-is {table} d own w q e s h = rw (← e) (sym (d.entry own w s (omega (arith, kept.blocks))))
+  entry_is {table} d own w q e s h = rw (← e) (sym (d.entry own w s (omega (arith, kept.blocks))))
 
 -- no block has more left in a state than it has at most
 pub entry-low : {shape : Shape} {table : List ℕ} → shape.states ≡ stride (each shape.size) shape.n
@@ -38,9 +38,9 @@ pub entry-low : {shape : Shape} {table : List ℕ} → shape.states ≡ stride (
     → (q : ℕ) → q < shape.states → (s : ℕ) → s < shape.n → entry_of table q s ≤ each shape.size s
 entry-low {shape} all d q low s h =
     let size = each shape.size in
-    let most : Within shape (digitsOf size q) = λ t k. digits-most size q t in
-    let number = state-of size q shape.n (omega (arith, low, all)) in
-    omega (arith, rw number at (d.entry (digitsOf size q) most s h), most s h)
+    let most : Within shape (digits_of size q) = λ t k. digits-most size q t in
+    let number = state_of_is size q shape.n (omega (arith, low, all)) in
+    omega (arith, rw number at (d.entry (digits_of size q) most s h), most s h)
 
 -- ---- the table of the losses left, for the states below q
 pub record Tabled (shape : Shape) (q : ℕ) (table : List ℕ) : Type 0 where

@@ -27,13 +27,13 @@ covers_kept fresh floor mark n low kept h c =
 
 -- ---- the marks of one column
 module _ (states at : ℕ) (entry : List ℕ) where
-  pub remade-none : Remade states at entry entry
-  remade-none = record { long = refl; others = λ i h. refl }
+  pub remade_none : Remade states at entry entry
+  remade_none = record { long = refl; others = λ i h. refl }
 
   -- one mark of the column more
-  pub remade-set : (marks : List ℕ) → Remade states at entry marks → (p v : ℕ) → p < states
+  pub remade_set : (marks : List ℕ) → Remade states at entry marks → (p v : ℕ) → p < states
       → Remade states at entry (set marks (at + p) v)
-  remade-set marks r p v h =
+  remade_set marks r p v h =
       record {
         long = length-set marks (at + p) v ∙ r.long;
         others = λ i o.
@@ -50,7 +50,7 @@ other-column states c at entry marks e r i p n h = r.others (i * states + p) (go
     go (no d) = inr (omega (arith, mul-le-mul_right {m = c + 1} {n = i} states (omega arith)))
 
 -- two columns, one after the other, stand in marks that have room for all
-pub two-columns : (states j columns : ℕ) (marks : List ℕ) → j < columns → (columns + 1) * states ≤ length marks
+pub two_columns : (states j columns : ℕ) (marks : List ℕ) → j < columns → (columns + 1) * states ≤ length marks
     → (j + 1) * states + states ≤ length marks
-two-columns states j columns marks h room =
+two_columns states j columns marks h room =
     omega (arith, mul-le-mul_right {m = j + 2} {n = columns + 1} states (omega arith))

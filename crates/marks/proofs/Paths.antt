@@ -15,9 +15,9 @@ use Rattle.consistent.specs.Greedy.{losses}
 use Rattle.states.specs.States.{stride, state, each, state_of}
 use Rattle.states.specs.declared.Shape.{Shape}
 use Rattle.states.proofs.States.{state-none}
-use Rattle.column.specs.Column.{Crosses, chunkAt, apartIn}
+use Rattle.column.specs.Column.{Crosses, chunk_at, apart_in}
 use Rattle.column.specs.declared.Heavy.{Heavy}
-use Rattle.marks.specs.Marks.{markAt, Path, apartBefore, apartFrom, Through, Kept, Remade}
+use Rattle.marks.specs.Marks.{mark_at, Path, apart_before, apart_from, Through, Kept, Remade}
 use Rattle.marks.specs.Digits.{Within}
 use Rattle.marks.proofs.Marks.{other-column}
 use Rattle.marks.proofs.Digits.{number-low}
@@ -35,12 +35,12 @@ module _ (l : Layout) (y numbers : List ℕ) (heavy : Heavy) (row : List ℕ) (j
         there = λ s h. omega (arith, a s h, b s h, c.there s h);
         small = c.small;
         loses = λ s h.
-            let piece = digits l.nc (get_or vs (chunkAt l heavy j s) 0) in
-            ap (λ (v : ℕ). losses piece (drop (chunkAt l heavy j s * l.nc + v - get_or heavy.end s 0) y)) (sym (a s
+            let piece = digits l.nc (get_or vs (chunk_at l heavy j s) 0) in
+            ap (λ (v : ℕ). losses piece (drop (chunk_at l heavy j s * l.nc + v - get_or heavy.end s 0) y)) (sym (a s
             h))
             ∙ c.loses s h ∙ omega (arith, a s h, b s h);
         others = c.others;
-        has-sum = c.has-sum;
+        has_sum = c.has_sum;
       }
 
 -- the state with all losses left is the last
@@ -57,28 +57,28 @@ state-full size left (suc n) h =
 
 -- the chunks that are others than in z, in one column more
 pub before-next : (l : Layout) (heavy : Heavy) (z vs : List ℕ) (j : ℕ)
-    → apartBefore l heavy z vs (j + 1) ≡ apartBefore l heavy z vs j + apartIn l heavy z vs j heavy.n
-unfolding apartBefore
+    → apart_before l heavy z vs (j + 1) ≡ apart_before l heavy z vs j + apart_in l heavy z vs j heavy.n
+unfolding apart_before
 before-next l heavy z vs j = rw (add-one j) refl
 
-pub before-none : (l : Layout) (heavy : Heavy) (z vs : List ℕ) → apartBefore l heavy z vs 0 ≡ 0
-unfolding apartBefore
+pub before-none : (l : Layout) (heavy : Heavy) (z vs : List ℕ) → apart_before l heavy z vs 0 ≡ 0
+unfolding apart_before
 before-none l heavy z vs = refl
 
-before-up : (l : Layout) (heavy : Heavy) (z vs : List ℕ) (j k : ℕ)
-    → apartBefore l heavy z vs j ≤ apartBefore l heavy z vs (j + k)
-unfolding apartBefore
-before-up l heavy z vs j zero = let e : j + 0 ≡ j = omega arith in rw e (omega arith)
-before-up l heavy z vs j (suc k) =
+before_up : (l : Layout) (heavy : Heavy) (z vs : List ℕ) (j k : ℕ)
+    → apart_before l heavy z vs j ≤ apart_before l heavy z vs (j + k)
+unfolding apart_before
+before_up l heavy z vs j zero = let e : j + 0 ≡ j = omega arith in rw e (omega arith)
+before_up l heavy z vs j (suc k) =
     let e : j + suc k ≡ suc (j + k) = omega arith in
-    rw e (omega (arith, before-up l heavy z vs j k))
+    rw e (omega (arith, before_up l heavy z vs j k))
 
 -- from a column on they are those of the column itself and those after it
 pub apart_next : (l : Layout) (heavy : Heavy) (z vs : List ℕ) (j : ℕ) → j < l.l2
-    → apartFrom l heavy z vs j ≡ apartIn l heavy z vs j heavy.n + apartFrom l heavy z vs (j + 1)
+    → apart_from l heavy z vs j ≡ apart_in l heavy z vs j heavy.n + apart_from l heavy z vs (j + 1)
 apart_next l heavy z vs j h =
     let e : j + 1 + (l.l2 - (j + 1)) ≡ l.l2 = omega arith in
-    omega (arith, before-next l heavy z vs j, rw e at (before-up l heavy z vs (j + 1) (l.l2 - (j + 1))))
+    omega (arith, before-next l heavy z vs j, rw e at (before_up l heavy z vs (j + 1) (l.l2 - (j + 1))))
 
 -- a row never has more left than at first
 pub path-most : {l : Layout} {y numbers : List ℕ} {heavy : Heavy} {row : List ℕ} {size : ℕ → ℕ} {vs : List ℕ}
@@ -91,7 +91,7 @@ path-most path (suc j) s h k =
 
 -- the marks of the states own in every column
 abbrev pub Lets : Layout → Shape → (marks : List ℕ) (own : ℕ → ℕ → ℕ) → Type 0
-Lets l shape marks own = (i : ℕ) → i ≤ l.l2 → 0 < get_or marks (markAt shape i (own i)) 0
+Lets l shape marks own = (i : ℕ) → i ≤ l.l2 → 0 < get_or marks (mark_at shape i (own i)) 0
 
 module _ (l : Layout) (y numbers : List ℕ) (heavy : Heavy) (row : List ℕ) (shape : Shape) (vs : List ℕ)
     (own : ℕ → ℕ → ℕ) (kept : Kept heavy shape) (path : Path l y numbers heavy row (each shape.size) vs own) where
@@ -113,23 +113,23 @@ module _ (l : Layout) (y numbers : List ℕ) (heavy : Heavy) (row : List ℕ) (s
 
   -- the marks of the states own stand in a slice that has room for all columns
   own-place : (marks : List ℕ) → (l.l2 + 1) * shape.states ≤ length marks → (i : ℕ) → i ≤ l.l2
-      → markAt shape i (own i) < length marks
+      → mark_at shape i (own i) < length marks
   own-place marks room i h =
       omega (arith, own-low i h, mul-le-mul_right {m = i + 1} {n = l.l2 + 1} shape.states (omega arith))
 
-  pub through-lets : (marks : List ℕ) → (l.l2 + 1) * shape.states ≤ length marks
+  pub through_lets : (marks : List ℕ) → (l.l2 + 1) * shape.states ≤ length marks
       → Through l shape marks own (λ i. 0) → Lets l shape marks own
-  through-lets marks room t i h = (t i h (own-place marks room i h)).0
+  through_lets marks room t i h = (t i h (own-place marks room i h)).0
 
-  pub lets-through : (marks : List ℕ) → Lets l shape marks own → Through l shape marks own (λ i. 0)
-  lets-through marks t i h b = (t i h, inl (t i h))
+  pub lets_through : (marks : List ℕ) → Lets l shape marks own → Through l shape marks own (λ i. 0)
+  lets_through marks t i h b = (t i h, inl (t i h))
 
   -- one state of a column gets a mark: the own one
-  pub only-lets : (c at q : ℕ) (entry marks : List ℕ) → at ≡ c * shape.states → Remade shape.states at entry marks
+  pub only_lets : (c at q : ℕ) (entry marks : List ℕ) → at ≡ c * shape.states → Remade shape.states at entry marks
       → 0 < get_or marks (at + q) 0 → state_of shape (own c) ≡ q → Lets l shape entry own → Lets l shape marks own
-  only-lets c at q entry marks e r m o t i h = go (ℕ_discrete i c)
+  only_lets c at q entry marks e r m o t i h = go (ℕ_discrete i c)
     where
-      go : Dec (i ≡ c) → 0 < get_or marks (markAt shape i (own i)) 0
+      go : Dec (i ≡ c) → 0 < get_or marks (mark_at shape i (own i)) 0
       go (yes d) = rw (d, o, ← e) m
       go (no d) = rw (other-column shape.states c at entry marks e r i (state_of shape (own i)) d (own-low i h)) (t
           i h)

@@ -2,7 +2,7 @@
 // a row can differ from another one. Here is what all passes over the marks share: the table of the losses left in each state, and marks set
 // and read. Contracts cite specs/Marks.antt and specs/Digits.antt.
 ghost use Rattle.std.specs.Prelude.{◌≡◌, ◌⊎◌, ℕ, ◌+◌, ◌*◌, ◌<◌, ◌≤◌, length, get_or};
-ghost use Rattle.bits.specs.Bits.{mostInLine};
+ghost use Rattle.bits.specs.Bits.{most_in_line};
 ghost use Rattle.states.specs.States.{Shaped};
 ghost use Rattle.marks.specs.Marks.{Remade};
 ghost use Rattle.marks.specs.Digits.{Digits, PutAt};
@@ -81,7 +81,7 @@ pub fn only(states: usize, at: usize, q: usize, mark: u8, marks: &mut [u8])
 
 // The mark of a loss state in column j; where none is kept, it is 255.
 pub fn mark_at(shape: Shape, marks: &[u8], j: usize, q: usize) -> u8
-    requires { j ≤ mostInLine }
+    requires { j ≤ most_in_line }
     ensures { (result ≡ 255) ⊎ ((j * shape.states + q < length marks.now)
         × (result ≡ get_or marks.now (j * shape.states + q) 0)) }
 {

@@ -14,8 +14,8 @@ use Rattle.bits.proofs.Laws.{bits-take, bits-drop, number-take}
 use Rattle.field.specs.Field.{Elements, check}
 use Rattle.vt.specs.Sum.{sum}
 use Rattle.message.specs.Encoding.{FitAll}
-use Rattle.message.specs.Layout.{rowBits, block_bits, stringBits, numbers, blocks, chunk, chunkString, chunkStrings, chunks}
-use Rattle.message.specs.Message.{blockSums, stringSums, checks}
+use Rattle.message.specs.Layout.{row_bits, block_bits, string_bits, numbers, blocks, chunk, chunk_string, chunk_strings, chunks}
+use Rattle.message.specs.Message.{block_sums, string_sums, checks}
 use Rattle.message.specs.Read.{fields}
 use Rattle.message.specs.declared.Layout.{Layout}
 use Rattle.message.proofs.Fields.{fields_fit, field_room}
@@ -66,10 +66,10 @@ number_cut zero k x = refl
 number_cut (suc n) k x = ap₂ (λ (a : ℕ) (b : List ℕ). a ∷ b) (number-take k x) (number_cut n k (drop k x))
 
 -- numbers that fit k bits are elements of the field of k
-fit-elements : (k : ℕ) (vs : List ℕ) → FitAll k vs → Elements k vs
-fit-elements k [] f i = pow_pos k
-fit-elements k (v ∷ vs) f zero = f.0
-fit-elements k (v ∷ vs) f (suc i) = fit-elements k vs f.1 i
+fit_elements : (k : ℕ) (vs : List ℕ) → FitAll k vs → Elements k vs
+fit_elements k [] f i = pow_pos k
+fit_elements k (v ∷ vs) f zero = f.0
+fit_elements k (v ∷ vs) f (suc i) = fit_elements k vs f.1 i
 
 -- what stands inside a piece stands in the whole
 take-inside : (a b c : ℕ) (y : List ℕ) → b + a ≤ c → take a (drop b (take c y)) ≡ take a (drop b y)
@@ -80,19 +80,19 @@ take-inside a (suc b) (suc c) (v ∷ y) h = take-inside a b c y (omega arith)
 
 -- pieces joined, each of k bits
 module _ (f : List ℕ → List ℕ) where
-  pub length-joined : (k : ℕ) (ps : List (List ℕ)) → ((i : ℕ) → i < length ps → length (f (get_or ps i [])) ≡ k)
+  pub length_joined : (k : ℕ) (ps : List (List ℕ)) → ((i : ℕ) → i < length ps → length (f (get_or ps i [])) ≡ k)
       → length (flat_map f ps) ≡ length ps * k
   unfolding flat_map
-  length-joined k [] h = sym (zero-mul k)
-  length-joined k (p ∷ ps) h =
+  length_joined k [] h = sym (zero-mul k)
+  length_joined k (p ∷ ps) h =
       length-append (f p) (flat_map f ps)
-      ∙ omega (arith, h 0 (omega arith), length-joined k ps (λ i e. h (suc i) (omega arith)), suc-mul (length ps) k)
+      ∙ omega (arith, h 0 (omega arith), length_joined k ps (λ i e. h (suc i) (omega arith)), suc-mul (length ps) k)
 
   -- the pieces from piece i on, joined
-  pub joined-next : (ps : List (List ℕ)) (i : ℕ) → i < length ps
+  pub joined_next : (ps : List (List ℕ)) (i : ℕ) → i < length ps
       → flat_map f (drop i ps) ≡ f (get_or ps i []) ++ flat_map f (drop (i + 1) ps)
   unfolding flat_map
-  joined-next ps i h = rw (add-one i, drop-cons ps i [] h) refl
+  joined_next ps i h = rw (add-one i, drop-cons ps i [] h) refl
 
   pub joined_end : (ps : List (List ℕ)) (i : ℕ) → length ps ≤ i → flat_map f (drop i ps) ≡ []
   unfolding flat_map
@@ -108,34 +108,34 @@ module _ (l : Layout) (x : List ℕ) where
   unfolding blocks
   length-blocks = length_cut l.l1 (block_bits l) x
 
-  pub length-chunk-strings : length (chunkStrings l x) ≡ l.l2
-  unfolding chunkStrings
-  length-chunk-strings = length-map (numbers 0 l.l2) (chunkString l x) ∙ length-numbers 0 l.l2
+  pub length-chunk-strings : length (chunk_strings l x) ≡ l.l2
+  unfolding chunk_strings
+  length-chunk-strings = length-map (numbers 0 l.l2) (chunk_string l x) ∙ length-numbers 0 l.l2
 
   -- chunk-strings by their places
-  pub chunk-string-at : (j : ℕ) → j < l.l2 → get_or (chunkStrings l x) j [] ≡ chunkString l x j
-  unfolding chunkStrings
-  chunk-string-at j h =
-      map_at (chunkString l x) (numbers 0 l.l2) j 0 [] (omega (arith, length-numbers 0 l.l2))
-      ∙ ap (chunkString l x) (numbers-at 0 l.l2 j h ∙ zero-add j)
+  pub chunk_string-at : (j : ℕ) → j < l.l2 → get_or (chunk_strings l x) j [] ≡ chunk_string l x j
+  unfolding chunk_strings
+  chunk_string-at j h =
+      map_at (chunk_string l x) (numbers 0 l.l2) j 0 [] (omega (arith, length-numbers 0 l.l2))
+      ∙ ap (chunk_string l x) (numbers-at 0 l.l2 j h ∙ zero-add j)
 
   -- sums by the places of their strings
-  pub block-sum-at : (i : ℕ) → i < l.l1 → get_or (blockSums l x) i 0 ≡ sum (take (block_bits l) (drop (i * block_bits l) x))
-  unfolding blockSums
-  block-sum-at i h = map_at sum (blocks l x) i [] 0 (omega (arith, length-blocks)) ∙ ap sum (block_at i h)
+  pub block_sum_at : (i : ℕ) → i < l.l1 → get_or (block_sums l x) i 0 ≡ sum (take (block_bits l) (drop (i * block_bits l) x))
+  unfolding block_sums
+  block_sum_at i h = map_at sum (blocks l x) i [] 0 (omega (arith, length-blocks)) ∙ ap sum (block_at i h)
 
-  pub string-sum-at : (j : ℕ) → j < l.l2 → get_or (stringSums l x) j 0 ≡ sum (chunkString l x j)
-  unfolding stringSums
-  string-sum-at j h =
-      map_at sum (chunkStrings l x) j [] 0 (omega (arith, length-chunk-strings)) ∙ ap sum (chunk-string-at j h)
+  pub string_sum_at : (j : ℕ) → j < l.l2 → get_or (string_sums l x) j 0 ≡ sum (chunk_string l x j)
+  unfolding string_sums
+  string_sum_at j h =
+      map_at sum (chunk_strings l x) j [] 0 (omega (arith, length-chunk-strings)) ∙ ap sum (chunk_string-at j h)
 
-  pub length-block-sums : length (blockSums l x) ≡ l.l1
-  unfolding blockSums
-  length-block-sums = length-map (blocks l x) sum ∙ length-blocks
+  pub length_block_sums : length (block_sums l x) ≡ l.l1
+  unfolding block_sums
+  length_block_sums = length-map (blocks l x) sum ∙ length-blocks
 
-  pub length-string-sums : length (stringSums l x) ≡ l.l2
-  unfolding stringSums
-  length-string-sums = length-map (chunkStrings l x) sum ∙ length-chunk-strings
+  pub length_string_sums : length (string_sums l x) ≡ l.l2
+  unfolding string_sums
+  length_string_sums = length-map (chunk_strings l x) sum ∙ length-chunk-strings
 
   pub length-checks : length (checks l x) ≡ l.r
   unfolding checks
@@ -148,9 +148,9 @@ module _ (l : Layout) (x : List ℕ) where
   chunk-numbers = number_cut (l.l1 * l.l2) l.nc x
 
   -- chunks as numbers are elements of the field
-  pub chunk-elements : AllBits x → Elements l.nc (map (number l.nc) (chunks l x))
-  chunk-elements a =
-      rw chunk-numbers (fit-elements l.nc (fields (l.l1 * l.l2) l.nc x) (fields_fit (l.l1 * l.l2) l.nc x a))
+  pub chunk_elements : AllBits x → Elements l.nc (map (number l.nc) (chunks l x))
+  chunk_elements a =
+      rw chunk-numbers (fit_elements l.nc (fields (l.l1 * l.l2) l.nc x) (fields_fit (l.l1 * l.l2) l.nc x a))
 
   -- chunk j of block i stands in the row
   pub chunk-at : (i j : ℕ) → i < l.l1 → j < l.l2
@@ -162,19 +162,19 @@ module _ (l : Layout) (x : List ℕ) where
       ∙ ap (take l.nc) (drop-drop (j * l.nc) (i * block_bits l) x)
 
   -- pieces of a string of bits are bits
-  pub bits-block : AllBits x → (i : ℕ) → AllBits (take (block_bits l) (drop (i * block_bits l) x))
-  bits-block a i = bits-take (block_bits l) (drop (i * block_bits l) x) (bits-drop (i * block_bits l) x a)
+  pub bits_block : AllBits x → (i : ℕ) → AllBits (take (block_bits l) (drop (i * block_bits l) x))
+  bits_block a i = bits-take (block_bits l) (drop (i * block_bits l) x) (bits-drop (i * block_bits l) x a)
 
   -- a row of the length that its layout gives
-  module _ (n : length x ≡ rowBits l) where
+  module _ (n : length x ≡ row_bits l) where
     pub block_room : (i : ℕ) → i < l.l1 → i * block_bits l + block_bits l ≤ length x
     block_room i h = omega (arith, field_room l.l1 (block_bits l) i h, n, mul_assoc l.l1 l.l2 l.nc)
 
     pub chunk-room : (i j : ℕ) → i < l.l1 → j < l.l2 → i * block_bits l + j * l.nc + l.nc ≤ length x
     chunk-room i j h k = omega (arith, block_room i h, field_room l.l2 l.nc j k)
 
-    pub length-block : (i : ℕ) → i < l.l1 → length (take (block_bits l) (drop (i * block_bits l) x)) ≡ block_bits l
-    length-block i h =
+    pub length_block : (i : ℕ) → i < l.l1 → length (take (block_bits l) (drop (i * block_bits l) x)) ≡ block_bits l
+    length_block i h =
         length-take-le (block_bits l) (drop (i * block_bits l) x) (simp length-drop (omega (arith, block_room i h)))
 
     pub length-chunk : (i j : ℕ) → i < l.l1 → j < l.l2 → length (chunk l j (get_or (blocks l x) i [])) ≡ l.nc
@@ -183,19 +183,19 @@ module _ (l : Layout) (x : List ℕ) where
         ∙ length-take-le l.nc (drop (i * block_bits l + j * l.nc) x)
         (simp length-drop (omega (arith, chunk-room i j h k)))
 
-    pub length-chunk-string : (j : ℕ) → j < l.l2 → length (chunkString l x j) ≡ stringBits l
-    unfolding chunkString
-    length-chunk-string j k =
-        length-joined (chunk l j) l.nc (blocks l x) (λ i h. length-chunk i j (omega (arith, h, length-blocks)) k)
+    pub length-chunk_string : (j : ℕ) → j < l.l2 → length (chunk_string l x j) ≡ string_bits l
+    unfolding chunk_string
+    length-chunk_string j k =
+        length_joined (chunk l j) l.nc (blocks l x) (λ i h. length-chunk i j (omega (arith, h, length-blocks)) k)
         ∙ ap (λ (m : ℕ). m * l.nc) length-blocks ∙ mul_comm l.l1 l.nc
 
 -- ---- sums are in range
-module _ (l : Layout) (x : List ℕ) (n : length x ≡ rowBits l) where
-  pub block-sum-low : (i : ℕ) → i < l.l1 → get_or (blockSums l x) i 0 ≤ block_bits l
-  block-sum-low i h =
-      rw (block-sum-at l x i h)
-      (omega (arith, sum-high (take (block_bits l) (drop (i * block_bits l) x)), length-block l x n i h))
+module _ (l : Layout) (x : List ℕ) (n : length x ≡ row_bits l) where
+  pub block_sum_low : (i : ℕ) → i < l.l1 → get_or (block_sums l x) i 0 ≤ block_bits l
+  block_sum_low i h =
+      rw (block_sum_at l x i h)
+      (omega (arith, sum-high (take (block_bits l) (drop (i * block_bits l) x)), length_block l x n i h))
 
-  pub string-sum-low : (j : ℕ) → j < l.l2 → get_or (stringSums l x) j 0 ≤ stringBits l
-  string-sum-low j h =
-      rw (string-sum-at l x j h) (omega (arith, sum-high (chunkString l x j), length-chunk-string l x n j h))
+  pub string_sum_low : (j : ℕ) → j < l.l2 → get_or (string_sums l x) j 0 ≤ string_bits l
+  string_sum_low j h =
+      rw (string_sum_at l x j h) (omega (arith, sum-high (chunk_string l x j), length-chunk_string l x n j h))

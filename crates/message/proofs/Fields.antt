@@ -14,7 +14,7 @@ use Rattle.bits.specs.Bits.{AllBits, number, digits}
 use Rattle.bits.proofs.Laws.{neither_left, neither_right, bits-digits, bits-append, bits-drop, length_digits, number_digits, number_lt, digits_number, fill}
 use Rattle.message.specs.Encoding.{AtMost, FitAll}
 use Rattle.message.specs.Message.{halvings, width}
-use Rattle.message.specs.Read.{fields, someAbove}
+use Rattle.message.specs.Read.{fields, some_above}
 
 -- ---- as many bits as a number needs
 -- halving as often as the number itself is often enough
@@ -28,19 +28,19 @@ enough (suc f) zero (suc w) h k = absurd (omega arith)
 enough (suc f) (suc g) zero h k = refl
 enough (suc f) (suc g) (suc w) h k = ap suc (enough f g (suc w / 2) (omega arith) (omega arith))
 
-pub width-zero : width 0 ≡ 0
+pub width_zero : width 0 ≡ 0
 unfolding width
-width-zero = refl
+width_zero = refl
 
-pub width-half : (w : ℕ) → 0 < w → width w ≡ suc (width (w / 2))
+pub width_half : (w : ℕ) → 0 < w → width w ≡ suc (width (w / 2))
 unfolding width halvings
-width-half zero h = absurd (omega arith)
-width-half (suc w) h = ap suc (enough w (suc w / 2) (suc w / 2) (omega arith) (omega arith))
+width_half zero h = absurd (omega arith)
+width_half (suc w) h = ap suc (enough w (suc w / 2) (suc w / 2) (omega arith) (omega arith))
 
 -- a number is below 2 to the power of its width
-pub width-bound : (w : ℕ) → w < 2 ^ width w
+pub width_bound : (w : ℕ) → w < 2 ^ width w
 unfolding width halvings
-width-bound w = go w w (omega arith)
+width_bound w = go w w (omega arith)
   where
     go : (f w : ℕ) → w ≤ f → w < 2 ^ halvings f w
     go zero zero h = omega arith
@@ -50,14 +50,14 @@ width-bound w = go w w (omega arith)
 
 -- and what is below 2 ^ k needs at most k bits
 pub width-most : (k w : ℕ) → w < 2 ^ k → width w ≤ k
-width-most zero w h = rw (z w (omega arith), width-zero) (omega arith)
+width-most zero w h = rw (z w (omega arith), width_zero) (omega arith)
   where
     z : (w : ℕ) → w ≤ 0 → w ≡ 0
     z w h = omega arith
-width-most (suc k) zero h = rw width-zero (omega arith)
+width-most (suc k) zero h = rw width_zero (omega arith)
 width-most (suc k) (suc w) h =
     let p : suc w < 2 ^ k * 2 = rw (pow-suc 2 k) at h in
-    omega (arith, width-half (suc w) (omega arith), width-most k (suc w / 2) (omega arith))
+    omega (arith, width_half (suc w) (omega arith), width-most k (suc w / 2) (omega arith))
 
 -- ---- fields
 pub length_fields : (n k : ℕ) (x : List ℕ) → length (fields n k x) ≡ n
@@ -75,8 +75,8 @@ fields_at (suc n) k (suc i) x h =
     ∙ ap (number k) (drop-drop (i * k) k x ∙ ap (λ (m : ℕ). drop m x) (sym (suc-mul i k ∙ add_comm (i * k) k)))
 
 -- the field that a cursor reads after i fields
-pub field-value : (n k at i : ℕ) (x : List ℕ) → i < n → number k (drop (at + i * k) x) ≡ get_or (fields n k (drop at x)) i 0
-field-value n k at i x h = ap (number k) (sym (drop-drop (i * k) at x)) ∙ sym (fields_at n k i (drop at x) h)
+pub field_value : (n k at i : ℕ) (x : List ℕ) → i < n → number k (drop (at + i * k) x) ≡ get_or (fields n k (drop at x)) i 0
+field_value n k at i x h = ap (number k) (sym (drop-drop (i * k) at x)) ∙ sym (fields_at n k i (drop at x) h)
 
 -- and that there is room for it
 pub field_room : (n k i : ℕ) → i < n → i * k + k ≤ n * k
@@ -114,11 +114,11 @@ fields-flat (suc n) k (v ∷ vs) y e f =
     (ap (fields n k) (drop_at (digits k v) (flat_map (digits k) vs ++ y) k (length_digits k v))
     ∙ fields-flat n k vs y (omega arith) f.1))
 
-fill-all : (k : ℕ) (x : List ℕ) → k ≤ length x → fill k x ≡ take k x
+fill_all : (k : ℕ) (x : List ℕ) → k ≤ length x → fill k x ≡ take k x
 unfolding fill
-fill-all zero x h = refl
-fill-all (suc k) [] h = absurd (omega arith)
-fill-all (suc k) (b ∷ x) h = ap (λ (l : List ℕ). b ∷ l) (fill-all k x (omega arith))
+fill_all zero x h = refl
+fill_all (suc k) [] h = absurd (omega arith)
+fill_all (suc k) (b ∷ x) h = ap (λ (l : List ℕ). b ∷ l) (fill_all k x (omega arith))
 
 -- fields that were read, written again, are the bits that they stood in
 pub flat-fields : (n k : ℕ) (x : List ℕ) → AllBits x → n * k ≤ length x
@@ -128,37 +128,37 @@ flat-fields zero k x a h = rw (zero-mul k) refl
 flat-fields (suc n) k x a h =
     let e : suc n * k ≡ k + n * k = suc-mul n k ∙ add_comm (n * k) k in
     rw e
-    (ap₂ (λ (p q : List ℕ). p ++ q) (digits_number k x a ∙ fill-all k x (omega (arith, e)))
+    (ap₂ (λ (p q : List ℕ). p ++ q) (digits_number k x a ∙ fill_all k x (omega (arith, e)))
     (flat-fields n k (drop k x) (bits-drop k x a) (simp length-drop (omega (arith, e))))
     ∙ sym (take-add k (n * k) x))
 
 -- ---- ranges
-pub none_above : (w : ℕ) (vs : List ℕ) → AtMost w vs → someAbove w vs ≡ false
-unfolding someAbove
+pub none_above : (w : ℕ) (vs : List ℕ) → AtMost w vs → some_above w vs ≡ false
+unfolding some_above
 none_above w [] a = refl
 none_above w (v ∷ vs) a = rw (le-ltb w v a.0) (none_above w vs a.1)
 
-pub at_most : (w : ℕ) (vs : List ℕ) → someAbove w vs ≡ false → AtMost w vs
-unfolding someAbove
+pub at_most : (w : ℕ) (vs : List ℕ) → some_above w vs ≡ false → AtMost w vs
+unfolding some_above
 at_most w [] e = tt
 at_most w (v ∷ vs) e =
-    (ltb-false w v (neither_left (ltb w v) (someAbove w vs) e), at_most w vs (neither_right (ltb w v) (someAbove w vs) e))
+    (ltb-false w v (neither_left (ltb w v) (some_above w vs) e), at_most w vs (neither_right (ltb w v) (some_above w vs) e))
 
 -- looking at the numbers one by one
 pub above-next : (w : ℕ) (vs : List ℕ) (i : ℕ) → i < length vs → get_or vs i 0 ≤ w
-    → someAbove w (drop (i + 1) vs) ≡ someAbove w (drop i vs)
-unfolding someAbove
+    → some_above w (drop (i + 1) vs) ≡ some_above w (drop i vs)
+unfolding some_above
 above-next w vs i h e = rw (drop-cons vs i 0 h, add-one i, le-ltb w (get_or vs i 0) e) refl
 
-pub above-stop : (w : ℕ) (vs : List ℕ) (i : ℕ) → i < length vs → w < get_or vs i 0 → someAbove w (drop i vs) ≡ true
-unfolding someAbove
-above-stop w vs i h e = rw (drop-cons vs i 0 h, lt-ltb w (get_or vs i 0) e) refl
+pub above_stop : (w : ℕ) (vs : List ℕ) (i : ℕ) → i < length vs → w < get_or vs i 0 → some_above w (drop i vs) ≡ true
+unfolding some_above
+above_stop w vs i h e = rw (drop-cons vs i 0 h, lt-ltb w (get_or vs i 0) e) refl
 
-pub above-end : (w : ℕ) (vs : List ℕ) (i : ℕ) → length vs ≤ i → someAbove w (drop i vs) ≡ false
-unfolding someAbove
+pub above-end : (w : ℕ) (vs : List ℕ) (i : ℕ) → length vs ≤ i → some_above w (drop i vs) ≡ false
+unfolding some_above
 above-end w vs i h = rw (drop_of_length-le vs h) refl
 
 -- a sum in range fits the field that is made for it
 pub fit-width : (w : ℕ) (vs : List ℕ) → AtMost w vs → FitAll (width w) vs
 fit-width w [] a = tt
-fit-width w (v ∷ vs) a = (omega (arith, width-bound w, a.0), fit-width w vs a.1)
+fit-width w (v ∷ vs) a = (omega (arith, width_bound w, a.0), fit-width w vs a.1)

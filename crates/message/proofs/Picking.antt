@@ -14,45 +14,45 @@ use Rattle.bits.specs.Bits.{digits}
 use Rattle.bits.proofs.Laws.{length_digits}
 use Rattle.vt.specs.Ones.{ones}
 use Rattle.vt.specs.Sum.{total, sum}
-use Rattle.vt.proofs.Weighing.{total-far, total-append}
+use Rattle.vt.proofs.Weighing.{total_far, total-append}
 use Rattle.message.specs.Chunks.{row_of, Chunked, picked}
-use Rattle.message.specs.Layout.{legal, rowBits, block_bits, stringBits, blocks, chunk, chunkString}
-use Rattle.message.specs.Message.{blockSums, stringSums}
+use Rattle.message.specs.Layout.{legal, row_bits, block_bits, string_bits, blocks, chunk, chunk_string}
+use Rattle.message.specs.Message.{block_sums, string_sums}
 use Rattle.message.specs.declared.Layout.{Layout}
-use Rattle.message.proofs.Cutting.{joined-next, joined_end, length-blocks, chunk-at, block-sum-at, string-sum-at}
+use Rattle.message.proofs.Cutting.{joined_next, joined_end, length-blocks, chunk-at, block_sum_at, string_sum_at}
 use Rattle.message.proofs.Fields.{length-flat, field_room}
 
 -- ---- a chunk as a byte
 -- a number of nc bits has zeros before it where it is written in more
-digit-none : (m nc v : ℕ) → v < 2 ^ nc → v / 2 ^ (m + nc) % 2 ≡ 0
-digit-none m nc v h =
+digit_none : (m nc v : ℕ) → v < 2 ^ nc → v / 2 ^ (m + nc) % 2 ≡ 0
+digit_none m nc v h =
     rw (div-eq_of_lt {n = v} {m = 2 ^ (m + nc)} (omega (arith, pow_mono {i = nc} {j = m + nc} (omega arith)))) refl
 
 wide-total : (m nc v i : ℕ) → v < 2 ^ nc → total i (digits (m + nc) v) ≡ total (i + m) (digits nc v)
 unfolding total digits
 wide-total zero nc v i h = rw (zero-add nc, add-zero i) refl
 wide-total (suc m) nc v i h =
-    rw (suc-add m nc, digit-none m nc v h, mul-zero i, add-suc i m)
+    rw (suc-add m nc, digit_none m nc v h, mul-zero i, add-suc i m)
     (zero-add _ ∙ wide-total m nc v (suc i) h ∙ ap (λ (k : ℕ). total k (digits nc v)) (suc-add i m))
 
 wide-ones : (m nc v : ℕ) → v < 2 ^ nc → ones (digits (m + nc) v) ≡ ones (digits nc v)
 unfolding ones digits
 wide-ones zero nc v h = rw (zero-add nc) refl
-wide-ones (suc m) nc v h = rw (suc-add m nc, digit-none m nc v h) (zero-add _ ∙ wide-ones m nc v h)
+wide-ones (suc m) nc v h = rw (suc-add m nc, digit_none m nc v h) (zero-add _ ∙ wide-ones m nc v h)
 
 -- what the chunk adds to a total, from what the table says of the byte
-pub chunk-adds : (nc v first : ℕ) → nc ≤ 8 → v < 2 ^ nc → 1 ≤ first
+pub chunk_adds : (nc v first : ℕ) → nc ≤ 8 → v < 2 ^ nc → 1 ≤ first
     → total 1 (digits 8 v) + first * ones (digits 8 v) ≡ total first (digits nc v) + (9 - nc) * ones (digits 8 v)
-chunk-adds nc v first h k l =
+chunk_adds nc v first h k l =
     let m : ℕ = 8 - nc in
     let f : ℕ = first - 1 in
     let d : List ℕ = digits nc v in
     let n : 8 ≡ m + nc = omega arith in
     let e : total 1 (digits 8 v) ≡ total 1 d + m * ones d =
-    ap (λ (j : ℕ). total 1 (digits j v)) n ∙ wide-total m nc v 1 k ∙ total-far m 1 d in
+    ap (λ (j : ℕ). total 1 (digits j v)) n ∙ wide-total m nc v 1 k ∙ total_far m 1 d in
     let o : ones (digits 8 v) ≡ ones d = ap (λ (j : ℕ). ones (digits j v)) n ∙ wide-ones m nc v k in
     let a : first ≡ 1 + f = omega arith in
-    let t : total first d ≡ total 1 d + f * ones d = ap (λ (j : ℕ). total j d) a ∙ total-far f 1 d in
+    let t : total first d ≡ total 1 d + f * ones d = ap (λ (j : ℕ). total j d) a ∙ total_far f 1 d in
     let p : first * ones d ≡ f * ones d + ones d = ap (λ (j : ℕ). j * ones d) (a ∙ omega arith) ∙ suc-mul f (ones d) in
     let q : (9 - nc) * ones d ≡ m * ones d + ones d = ap (λ (j : ℕ). j * ones d) (omega arith) ∙ suc-mul m (ones d) in
     rw o (omega (arith, e, t, p, q))
@@ -64,12 +64,12 @@ length-picked start stride zero cs = refl
 length-picked start stride (suc n) cs = ap suc (length-picked (start + stride) stride n cs)
 
 -- the total from chunk k of a line on, taken apart behind it
-pub line-turn : (nc start stride count k : ℕ) (cs : List ℕ) → k < count
+pub line_turn : (nc start stride count k : ℕ) (cs : List ℕ) → k < count
     → total (k * nc + 1) (row_of nc (picked (start + k * stride) stride (count - k) cs))
     ≡ total (k * nc + 1) (digits nc (get_or cs (start + k * stride) 0)) + total ((k + 1) * nc + 1)
     (row_of nc (picked (start + (k + 1) * stride) stride (count - (k + 1)) cs))
 unfolding picked flat_map
-line-turn nc start stride count k cs h =
+line_turn nc start stride count k cs h =
     let e : count - k ≡ suc (count - (k + 1)) = omega arith in
     let d : List ℕ = digits nc (get_or cs (start + k * stride) 0) in
     let f : start + k * stride + stride ≡ start + (k + 1) * stride = omega (arith, add-mul k 1 stride, one-mul stride) in
@@ -90,10 +90,10 @@ pub line-end : (nc start stride count k i : ℕ) (cs : List ℕ) → count ≤ k
 unfolding picked flat_map total
 line-end nc start stride count k i cs h = let e : count - k ≡ 0 = omega arith in rw e refl
 
-pub line-sum-is : (nc start stride count t : ℕ) (cs : List ℕ) → t ≡ total 1 (row_of nc (picked start stride count cs))
+pub line-sum_is : (nc start stride count t : ℕ) (cs : List ℕ) → t ≡ total 1 (row_of nc (picked start stride count cs))
     → t % (count * nc + 1) ≡ sum (row_of nc (picked start stride count cs))
 unfolding sum
-line-sum-is nc start stride count t cs e =
+line-sum_is nc start stride count t cs e =
     let n : length (row_of nc (picked start stride count cs)) ≡ count * nc =
     length-flat nc (picked start stride count cs) ∙ ap (λ (m : ℕ). m * nc) (length-picked start stride count cs) in
     rw (e, n) refl
@@ -125,34 +125,34 @@ flat-at k a vs h =
     (take_at (digits k (get_or vs a 0)) (flat_map (digits k) (drop (suc a) vs)) k (length_digits k (get_or vs a 0)))
 
 -- neighbouring chunks
-flat-run : (k n : ℕ) (vs : List ℕ) → (a : ℕ) → a + n ≤ length vs
+flat_run : (k n : ℕ) (vs : List ℕ) → (a : ℕ) → a + n ≤ length vs
     → take (n * k) (drop (a * k) (flat_map (digits k) vs)) ≡ row_of k (picked a 1 n vs)
 unfolding flat_map picked
-flat-run k zero vs a h = rw (zero-mul k) refl
-flat-run k (suc n) vs a h =
+flat_run k zero vs a h = rw (zero-mul k) refl
+flat_run k (suc n) vs a h =
     let e : suc n * k ≡ k + n * k = omega (arith, suc-mul n k) in
     let x : List ℕ = drop (a * k) (flat_map (digits k) vs) in
     let f : a * k + k ≡ (a + 1) * k = omega (arith, add-mul a 1 k, one-mul k) in
     rw (e, take-add k (n * k) x)
     (ap₂ (λ (p q : List ℕ). p ++ q) (flat-at k a vs (omega arith))
     (ap (take (n * k)) (drop-drop k (a * k) (flat_map (digits k) vs) ∙ ap (λ (m : ℕ). drop m (flat_map (digits k) vs)) f)
-    ∙ flat-run k n vs (a + 1) (omega arith)))
+    ∙ flat_run k n vs (a + 1) (omega arith)))
 
 module _ (l : Layout) (cs : List ℕ) (e : Chunked l cs) where
   abbrev row : List ℕ
   row = row_of l.nc cs
 
   -- it has as many bits as it should
-  pub row-length : length row ≡ rowBits l
+  pub row-length : length row ≡ row_bits l
   row-length = length-flat l.nc cs ∙ ap (λ (n : ℕ). n * l.nc) e.0
 
-  pub block-line : (i : ℕ) → i < l.l1
-      → sum (row_of l.nc (picked (i * l.l2) 1 l.l2 cs)) ≡ get_or (blockSums l row) i 0
-  block-line i h =
+  pub block_line : (i : ℕ) → i < l.l1
+      → sum (row_of l.nc (picked (i * l.l2) 1 l.l2 cs)) ≡ get_or (block_sums l row) i 0
+  block_line i h =
       let f : i * block_bits l ≡ i * l.l2 * l.nc = sym (mul_assoc i l.l2 l.nc) in
-      sym (block-sum-at l row i h
+      sym (block_sum_at l row i h
       ∙ ap sum (ap (λ (n : ℕ). take (block_bits l) (drop n row)) f
-      ∙ flat-run l.nc l.l2 cs (i * l.l2) (omega (arith, e.0, field_room l.l1 l.l2 i h))))
+      ∙ flat_run l.nc l.l2 cs (i * l.l2) (omega (arith, e.0, field_room l.l1 l.l2 i h))))
 
   -- chunk-string j from block i on
   string-from : (j m i : ℕ) → j < l.l2 → i + m ≡ l.l1
@@ -163,16 +163,16 @@ module _ (l : Layout) (cs : List ℕ) (e : Chunked l cs) where
       let f : i * block_bits l + j * l.nc ≡ (j + i * l.l2) * l.nc =
       omega (arith, mul_assoc i l.l2 l.nc, add-mul j (i * l.l2) l.nc) in
       let g : j + (i + 1) * l.l2 ≡ j + i * l.l2 + l.l2 = omega (arith, add-mul i 1 l.l2, one-mul l.l2) in
-      joined-next (chunk l j) (blocks l row) i (omega (arith, length-blocks l row))
+      joined_next (chunk l j) (blocks l row) i (omega (arith, length-blocks l row))
       ∙ ap₂ (λ (p q : List ℕ). p ++ q)
       (chunk-at l row i j (omega arith) k ∙ ap (λ (n : ℕ). take l.nc (drop n row)) f
       ∙ flat-at l.nc (j + i * l.l2) cs (omega (arith, e.0, field_room l.l1 l.l2 i (omega arith))))
       (string-from j m (i + 1) k (omega arith) ∙ ap (λ (n : ℕ). row_of l.nc (picked n l.l2 m cs)) g)
 
-  pub string-line : (j : ℕ) → j < l.l2 → sum (row_of l.nc (picked j l.l2 l.l1 cs)) ≡ get_or (stringSums l row) j 0
-  unfolding chunkString
-  string-line j k =
+  pub string_line : (j : ℕ) → j < l.l2 → sum (row_of l.nc (picked j l.l2 l.l1 cs)) ≡ get_or (string_sums l row) j 0
+  unfolding chunk_string
+  string_line j k =
       let z : j + 0 * l.l2 ≡ j = omega (arith, zero-mul l.l2) in
-      sym (string-sum-at l row j k
+      sym (string_sum_at l row j k
       ∙ ap sum (string-from j l.l1 0 k (zero-add l.l1)
       ∙ ap (λ (n : ℕ). row_of l.nc (picked n l.l2 l.l1 cs)) z))

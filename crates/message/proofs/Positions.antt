@@ -8,7 +8,7 @@ use native.Mathlib.Omega.{arith}
 use lib.ListN.{length}
 use Rattle.bits.specs.Bits.{AllBits}
 use Rattle.vt.specs.Sum.{total, sum}
-use Rattle.vt.proofs.Totals.{times-bit}
+use Rattle.vt.proofs.Totals.{times_bit}
 use Rattle.vt.proofs.Weighing.{total-append as joined-total}
 
 pub total-append : (i : ℕ) (x y : List ℕ) → total i (x ++ y) ≡ total i x + total (i + length x) y
@@ -20,7 +20,7 @@ total-high i [] a = omega arith
 total-high i (b ∷ x) a =
     let e : suc i + length x ≡ i + suc (length x) = omega arith in
     let h = rw e at (total-high (suc i) x a.1) in
-    omega (arith, h, times-bit i b a.0, suc-mul (length x) (i + suc (length x)))
+    omega (arith, h, times_bit i b a.0, suc-mul (length x) (i + suc (length x)))
 
 -- a sum is at most the length of its string
 pub sum-high : (x : List ℕ) → sum x ≤ length x

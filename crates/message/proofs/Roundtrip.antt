@@ -7,15 +7,15 @@ use native.Mathlib.Omega.{arith}
 use lib.ListN.{length, get_or}
 use Rattle.bits.specs.Bits.{AllBits, number}
 use Rattle.field.specs.Field.{check}
-use Rattle.field.proofs.Linear.{check-element}
+use Rattle.field.proofs.Linear.{check_element}
 use Rattle.message.specs.Encoding.{AtMost, FitAll, Encodable}
-use Rattle.message.specs.Layout.{legal, rowBits, block_bits, stringBits, chunks}
-use Rattle.message.specs.Message.{blockSums, stringSums, checks, message}
-use Rattle.message.specs.Read.{messageRefusal}
+use Rattle.message.specs.Layout.{legal, row_bits, block_bits, string_bits, chunks}
+use Rattle.message.specs.Message.{block_sums, string_sums, checks, message}
+use Rattle.message.specs.Read.{message_refusal}
 use Rattle.message.specs.declared.Layout.{Layout}
-use Rattle.message.proofs.Cutting.{each_number, length-block-sums, length-string-sums, length-checks, block-sum-low, string-sum-low, chunk-elements}
-use Rattle.message.proofs.Legal.{Bounds, legal-bounds}
-use Rattle.message.proofs.Messages.{ReadsAs, reads-encoded, encoded-fit}
+use Rattle.message.proofs.Cutting.{each_number, length_block_sums, length_string_sums, length-checks, block_sum_low, string_sum_low, chunk_elements}
+use Rattle.message.proofs.Legal.{Bounds, legal_bounds}
+use Rattle.message.proofs.Messages.{ReadsAs, reads_encoded, encoded_fit}
 
 -- ranges by places
 at-most-each : (w : ℕ) (vs : List ℕ) → ((i : ℕ) → i < length vs → get_or vs i 0 ≤ w) → AtMost w vs
@@ -26,36 +26,36 @@ fit-each : (w : ℕ) (vs : List ℕ) → ((i : ℕ) → i < length vs → get_or
 fit-each w [] h = tt
 fit-each w (v ∷ vs) h = (h 0 (omega arith), fit-each w vs (λ i k. h (suc i) (omega arith)))
 
-module _ (l : Layout) (x : List ℕ) (e : legal l ≡ true) (a : AllBits x) (n : length x ≡ rowBits l) where
+module _ (l : Layout) (x : List ℕ) (e : legal l ≡ true) (a : AllBits x) (n : length x ≡ row_bits l) where
   check-low : (i : ℕ) → i < l.r → get_or (checks l x) i 0 < 2 ^ l.nc
   unfolding checks
   check-low i h =
-      let b : Bounds l = legal-bounds l e in
+      let b : Bounds l = legal_bounds l e in
       rw (each_number (λ (k : ℕ). check l.nc k (map (number l.nc) (chunks l x))) l.r i h)
-      (check-element l.nc b.nc-low b.nc-high i (map (number l.nc) (chunks l x)) (chunk-elements l x a))
+      (check_element l.nc b.nc_low b.nc_high i (map (number l.nc) (chunks l x)) (chunk_elements l x a))
 
   -- a row's sums and checks can be encoded
-  pub row-encodable : Encodable l (blockSums l x) (stringSums l x) (checks l x)
-  row-encodable = record {
-    is-legal = e;
-    block-count = length-block-sums l x;
-    string-count = length-string-sums l x;
+  pub row_encodable : Encodable l (block_sums l x) (string_sums l x) (checks l x)
+  row_encodable = record {
+    is_legal = e;
+    block_count = length_block_sums l x;
+    string_count = length_string_sums l x;
     check-count = length-checks l x;
-    block-range =
-        at-most-each (block_bits l) (blockSums l x)
-        (λ i h. block-sum-low l x n i (omega (arith, h, length-block-sums l x)));
-    string-range =
-        at-most-each (stringBits l) (stringSums l x)
-        (λ j h. string-sum-low l x n j (omega (arith, h, length-string-sums l x)));
-    check-range = fit-each l.nc (checks l x) (λ i h. check-low i (omega (arith, h, length-checks l x)));
+    block_range =
+        at-most-each (block_bits l) (block_sums l x)
+        (λ i h. block_sum_low l x n i (omega (arith, h, length_block_sums l x)));
+    string_range =
+        at-most-each (string_bits l) (string_sums l x)
+        (λ j h. string_sum_low l x n j (omega (arith, h, length_string_sums l x)));
+    check_range = fit-each l.nc (checks l x) (λ i h. check-low i (omega (arith, h, length-checks l x)));
   }
 
   -- its message is not refused
-  pub message-fit : messageRefusal (message l x) ≡ 0
+  pub message-fit : message_refusal (message l x) ≡ 0
   unfolding message
-  message-fit = encoded-fit l (blockSums l x) (stringSums l x) (checks l x) row-encodable
+  message-fit = encoded_fit l (block_sums l x) (string_sums l x) (checks l x) row_encodable
 
   -- reading it gives the layout, the sums and the checks back
-  pub message-reads : ReadsAs (message l x) l (blockSums l x) (stringSums l x) (checks l x)
+  pub message-reads : ReadsAs (message l x) l (block_sums l x) (string_sums l x) (checks l x)
   unfolding message
-  message-reads = reads-encoded l (blockSums l x) (stringSums l x) (checks l x) row-encodable
+  message-reads = reads_encoded l (block_sums l x) (string_sums l x) (checks l x) row_encodable

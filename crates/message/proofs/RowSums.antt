@@ -5,42 +5,42 @@ use mathlib.Core.List.{List, ◌++◌}
 use native.Mathlib.Omega.{arith}
 use lib.ListN.{length, get_or, take, drop, length-append, length-drop, get_or-append}
 use lib.Seq.{get_or-append-add, get_or-take, get_or-drop, take_at, take_all, drop_at, length-take-le}
-use Rattle.message.specs.Message.{blockSums, stringSums}
+use Rattle.message.specs.Message.{block_sums, string_sums}
 use Rattle.message.specs.declared.Layout.{Layout}
-use Rattle.message.proofs.Cutting.{length-block-sums, length-string-sums}
+use Rattle.message.proofs.Cutting.{length_block_sums, length_string_sums}
 
 module _ (l : Layout) (x : List ℕ) where
-  pub sum-of-block : (k : ℕ) → k < l.l1 → get_or (blockSums l x) k 0 ≡ get_or (blockSums l x ++ stringSums l x) k 0
-  sum-of-block k h = sym (get_or-append (blockSums l x) (stringSums l x) 0 k (omega (arith, length-block-sums l x)))
+  pub sum_of_block : (k : ℕ) → k < l.l1 → get_or (block_sums l x) k 0 ≡ get_or (block_sums l x ++ string_sums l x) k 0
+  sum_of_block k h = sym (get_or-append (block_sums l x) (string_sums l x) 0 k (omega (arith, length_block_sums l x)))
 
-  pub sum-of-string : (k : ℕ) → l.l1 ≤ k
-      → get_or (stringSums l x) (k - l.l1) 0 ≡ get_or (blockSums l x ++ stringSums l x) k 0
-  sum-of-string k h =
-      let e : length (blockSums l x) + (k - l.l1) ≡ k = omega (arith, length-block-sums l x) in
-      sym (get_or-append-add (blockSums l x) (stringSums l x) (k - l.l1) 0)
-      ∙ ap (λ (n : ℕ). get_or (blockSums l x ++ stringSums l x) n 0) e
+  pub sum_of_string : (k : ℕ) → l.l1 ≤ k
+      → get_or (string_sums l x) (k - l.l1) 0 ≡ get_or (block_sums l x ++ string_sums l x) k 0
+  sum_of_string k h =
+      let e : length (block_sums l x) + (k - l.l1) ≡ k = omega (arith, length_block_sums l x) in
+      sym (get_or-append-add (block_sums l x) (string_sums l x) (k - l.l1) 0)
+      ∙ ap (λ (n : ℕ). get_or (block_sums l x ++ string_sums l x) n 0) e
 
-  pub length-sums : length (blockSums l x ++ stringSums l x) ≡ l.l1 + l.l2
+  pub length-sums : length (block_sums l x ++ string_sums l x) ≡ l.l1 + l.l2
   length-sums =
-      length-append (blockSums l x) (stringSums l x) ∙ omega (arith, length-block-sums l x, length-string-sums l x)
+      length-append (block_sums l x) (string_sums l x) ∙ omega (arith, length_block_sums l x, length_string_sums l x)
 
   -- so many sums from a first one on
   pub length_part : (first count : ℕ) → first + count ≤ l.l1 + l.l2
-      → length (take count (drop first (blockSums l x ++ stringSums l x))) ≡ count
+      → length (take count (drop first (block_sums l x ++ string_sums l x))) ≡ count
   length_part first count h =
-      length-take-le count (drop first (blockSums l x ++ stringSums l x))
-      (omega (arith, length-sums, length-drop first (blockSums l x ++ stringSums l x)))
+      length-take-le count (drop first (block_sums l x ++ string_sums l x))
+      (omega (arith, length-sums, length-drop first (block_sums l x ++ string_sums l x)))
 
-  pub sum-of-part : (first count i : ℕ) → i < count
-      → get_or (blockSums l x ++ stringSums l x) (first + i) 0
-      ≡ get_or (take count (drop first (blockSums l x ++ stringSums l x))) i 0
-  sum-of-part first count i h =
-      let all = blockSums l x ++ stringSums l x in sym (get_or-take count (drop first all) i 0 h ∙ get_or-drop first all i 0)
+  pub sum_of_part : (first count i : ℕ) → i < count
+      → get_or (block_sums l x ++ string_sums l x) (first + i) 0
+      ≡ get_or (take count (drop first (block_sums l x ++ string_sums l x))) i 0
+  sum_of_part first count i h =
+      let all = block_sums l x ++ string_sums l x in sym (get_or-take count (drop first all) i 0 h ∙ get_or-drop first all i 0)
 
-  pub block-part : take l.l1 (drop 0 (blockSums l x ++ stringSums l x)) ≡ blockSums l x
-  block-part = take_at (blockSums l x) (stringSums l x) l.l1 (length-block-sums l x)
+  pub block_piece : take l.l1 (drop 0 (block_sums l x ++ string_sums l x)) ≡ block_sums l x
+  block_piece = take_at (block_sums l x) (string_sums l x) l.l1 (length_block_sums l x)
 
-  pub string-part : take l.l2 (drop l.l1 (blockSums l x ++ stringSums l x)) ≡ stringSums l x
-  string-part =
-      ap (take l.l2) (drop_at (blockSums l x) (stringSums l x) l.l1 (length-block-sums l x))
-      ∙ take_all l.l2 (stringSums l x) (omega (arith, length-string-sums l x))
+  pub string_piece : take l.l2 (drop l.l1 (block_sums l x ++ string_sums l x)) ≡ string_sums l x
+  string_piece =
+      ap (take l.l2) (drop_at (block_sums l x) (string_sums l x) l.l1 (length_block_sums l x))
+      ∙ take_all l.l2 (string_sums l x) (omega (arith, length_string_sums l x))

@@ -15,16 +15,16 @@ legal l =
     && leb l.r 16
 
 -- n, the bits of a row
-abbrev pub rowBits : Layout → ℕ
-rowBits l = l.l1 * l.l2 * l.nc
+abbrev pub row_bits : Layout → ℕ
+row_bits l = l.l1 * l.l2 * l.nc
 
 -- nb, the bits of a block
 abbrev pub block_bits : Layout → ℕ
 block_bits l = l.l2 * l.nc
 
 -- the bits of a chunk-string
-abbrev pub stringBits : Layout → ℕ
-stringBits l = l.nc * l.l1
+abbrev pub string_bits : Layout → ℕ
+string_bits l = l.nc * l.l1
 
 -- the numbers from i on, n of them
 unfoldable pub numbers : (i n : ℕ) → List ℕ
@@ -41,14 +41,14 @@ unfoldable pub chunk : Layout → ℕ → List ℕ → List ℕ
 chunk l j block = take l.nc (drop (j * l.nc) block)
 
 -- "chunk-string j joins chunk j of every block in block order"
-unfoldable pub chunkString : Layout → List ℕ → ℕ → List ℕ
+unfoldable pub chunk_string : Layout → List ℕ → ℕ → List ℕ
 unfolding blocks chunk flat_map
-chunkString l x j = flat_map (chunk l j) (blocks l x)
+chunk_string l x j = flat_map (chunk l j) (blocks l x)
 
 -- the l2 chunk-strings of a row
-unfoldable pub chunkStrings : Layout → List ℕ → List (List ℕ)
-unfolding chunkString numbers
-chunkStrings l x = map (chunkString l x) (numbers 0 l.l2)
+unfoldable pub chunk_strings : Layout → List ℕ → List (List ℕ)
+unfolding chunk_string numbers
+chunk_strings l x = map (chunk_string l x) (numbers 0 l.l2)
 
 -- all chunks "in row order"
 unfoldable pub chunks : Layout → List ℕ → List (List ℕ)

@@ -1,13 +1,13 @@
 // The chunks of a row as numbers, a byte each, and the sums and the checks of a row that is given so. Contracts cite
 // specs/Layout.antt, specs/Chunks.antt and specs/Message.antt.
 ghost use Rattle.std.specs.Prelude.{◌≡◌, true, ◌++◌, map, ◌+◌, ◌*◌, ◌^◌, ◌<◌, ◌≤◌, length, get_or, take, drop};
-ghost use Rattle.bits.specs.Bits.{AllBits, mostInLine, longestLine, number, digits, unpack};
+ghost use Rattle.bits.specs.Bits.{AllBits, most_in_line, longest_line, number, digits, unpack};
 ghost use Rattle.vt.specs.Sum.{total, sum};
 ghost use Rattle.vt.specs.Weights.{weights};
 ghost use Rattle.field.specs.Field.{Elements};
-ghost use Rattle.message.specs.Layout.{layout, legal as isLegal, rowBits, chunks as chunks_of};
+ghost use Rattle.message.specs.Layout.{layout, legal as isLegal, row_bits, chunks as chunks_of};
 ghost use Rattle.message.specs.Chunks.{row_of, Chunked, picked};
-ghost use Rattle.message.specs.Message.{blockSums, stringSums, checks};
+ghost use Rattle.message.specs.Message.{block_sums, string_sums, checks};
 ghost use Rattle.message.specs.Read.{fields};
 
 use bits::BitCursor;
@@ -46,7 +46,7 @@ pub fn number_at(bits: &[u8], at: usize, k: usize) -> u8
 // The chunks of a row as numbers, in row order, at the start of a slice.
 pub fn fill_chunks(l1: usize, l2: usize, nc: usize, r: usize, row: &[u8], out: &mut [u8])
     requires { (isLegal (layout l1 l2 nc r) ≡ true) × (AllBits row.now
-        × ((length row.now ≡ rowBits (layout l1 l2 nc r)) × (l1 * l2 ≤ length out.old))) }
+        × ((length row.now ≡ row_bits (layout l1 l2 nc r)) × (l1 * l2 ≤ length out.old))) }
     ensures { out.new
         ≡ map (number nc) (chunks_of (layout l1 l2 nc r) row.now) ++ drop (l1 * l2) out.old }
 {
@@ -61,7 +61,7 @@ pub fn fill_chunks(l1: usize, l2: usize, nc: usize, r: usize, row: &[u8], out: &
 // The total of the positions of a chunk's ones, where its first bit stands at a position. The table has the chunk as a byte, in
 // which its first bit stands at position 9 - nc.
 pub fn chunk_total(t: &[u16; 256], nc: usize, v: u8, first: usize) -> usize
-    requires { ((t.now ≡ weights) × (nc ≤ 8)) × ((v < 2 ^ nc) × ((1 ≤ first) × (first ≤ longestLine + 1))) }
+    requires { ((t.now ≡ weights) × (nc ≤ 8)) × ((v < 2 ^ nc) × ((1 ≤ first) × (first ≤ longest_line + 1))) }
     ensures { (result ≡ total first (digits nc v)) × (result ≤ 20000) }
 {
     let w = vt::weigh_byte(t, v);
@@ -77,8 +77,8 @@ fn line_sum(
     stride: usize,
     count: usize,
 ) -> usize
-    requires { ((t.now ≡ weights) × ((nc ≤ 8) × Elements nc chunks.now)) × (((count ≤ mostInLine) × (stride ≤ mostInLine))
-        × ((count * nc ≤ longestLine) × (start + count * stride < length chunks.now + stride))) }
+    requires { ((t.now ≡ weights) × ((nc ≤ 8) × Elements nc chunks.now)) × (((count ≤ most_in_line) × (stride ≤ most_in_line))
+        × ((count * nc ≤ longest_line) × (start + count * stride < length chunks.now + stride))) }
     ensures { result ≡ sum (row_of nc (picked start stride count chunks.now)) }
 {
     let mut total: usize = 0;
@@ -102,8 +102,8 @@ pub fn sum_of(
 ) -> usize
     requires { (t.now ≡ weights) × ((isLegal (layout l1 l2 nc r) ≡ true)
         × (Chunked (layout l1 l2 nc r) chunks.now × (k < l1 + l2))) }
-    ensures { result ≡ get_or (blockSums (layout l1 l2 nc r) (row_of nc chunks.now)
-        ++ stringSums (layout l1 l2 nc r) (row_of nc chunks.now)) k 0 }
+    ensures { result ≡ get_or (block_sums (layout l1 l2 nc r) (row_of nc chunks.now)
+        ++ string_sums (layout l1 l2 nc r) (row_of nc chunks.now)) k 0 }
 {
     if k < l1 {
         return line_sum(t, nc, chunks, k * l2, 1, l2);

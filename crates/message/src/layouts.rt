@@ -1,8 +1,8 @@
 // Which layouts are legal, and how long their messages are.
 ghost use Rattle.std.specs.Prelude.{◌≡◌, true, ◌-◌, ◌*◌, ◌^◌, ◌≤◌, leb};
-ghost use Rattle.bits.specs.Bits.{longestLine};
+ghost use Rattle.bits.specs.Bits.{longest_line};
 ghost use Rattle.message.specs.Layout.{layout, legal as isLegal};
-ghost use Rattle.message.specs.Message.{width as width_of, fieldsLength, messageBytes};
+ghost use Rattle.message.specs.Message.{width as width_of, fields_length, message_bytes};
 
 // Whether there are few enough chunks for the field.
 fn few_chunks(l1: usize, l2: usize, nc: usize) -> bool
@@ -45,7 +45,7 @@ pub fn legal(l1: usize, l2: usize, nc: usize, r: usize) -> bool
 
 // As many bits as w needs in binary.
 pub fn width(w: usize) -> usize
-    requires { w ≤ longestLine }
+    requires { w ≤ longest_line }
     ensures { result ≡ width_of w }
 {
     let mut k: usize = 0;
@@ -60,7 +60,7 @@ pub fn width(w: usize) -> usize
 // The bits of the fields of a message.
 pub fn fields_length(l1: usize, l2: usize, nc: usize, r: usize) -> usize
     requires { isLegal (layout l1 l2 nc r) ≡ true }
-    ensures { result ≡ fieldsLength (layout l1 l2 nc r) }
+    ensures { result ≡ fields_length (layout l1 l2 nc r) }
 {
     let block = width(l2 * nc);
     let string = width(nc * l1);
@@ -70,7 +70,7 @@ pub fn fields_length(l1: usize, l2: usize, nc: usize, r: usize) -> usize
 // The length of a message in bytes.
 pub fn message_bytes(l1: usize, l2: usize, nc: usize, r: usize) -> usize
     requires { isLegal (layout l1 l2 nc r) ≡ true }
-    ensures { result ≡ messageBytes (layout l1 l2 nc r) }
+    ensures { result ≡ message_bytes (layout l1 l2 nc r) }
 {
     9 + (fields_length(l1, l2, nc, r) + 7) / 8
 }

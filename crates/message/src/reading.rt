@@ -1,9 +1,9 @@
 // Reading a message: its checks, and the numbers that stand in it.
 ghost use Rattle.std.specs.Prelude.{◌≡◌, true, ◌||◌, ◌++◌, ◌+◌, ◌*◌, ◌≤◌, length, take, drop};
 ghost use Rattle.bits.specs.Bits.{unpack as unpacked, blank};
-ghost use Rattle.message.specs.Layout.{layout, legal as isLegal, block_bits, stringBits};
-ghost use Rattle.message.specs.Message.{fieldsLength, messageBytes};
-ghost use Rattle.message.specs.Read.{marked as isMarked, versionOne, layout_of, fields, body, readBlockSums, readStringSums, readChecks, someAbove, messageRefusal, readRefusal, read_of, layoutAnswer, readTarget};
+ghost use Rattle.message.specs.Layout.{layout, legal as isLegal, block_bits, string_bits};
+ghost use Rattle.message.specs.Message.{fields_length, message_bytes};
+ghost use Rattle.message.specs.Read.{marked as isMarked, version_one, layout_of, fields, body, read_block_sums, read_string_sums, read_checks, some_above, message_refusal, read_refusal, read_of, layout_answer, read_target};
 
 use crate::{Layout, Read, layouts};
 use bits::BitCursor;
@@ -31,7 +31,7 @@ fn marked(s: &[u8]) -> bool
 // Whether the version is 1.
 fn version_one(s: &[u8]) -> bool
     requires { 9 ≤ length s.now }
-    ensures { result ≡ versionOne s.now }
+    ensures { result ≡ version_one s.now }
 {
     if s[3] != 0x00 {
         return false;
@@ -48,7 +48,7 @@ const HEAD_BITS: usize = 72;
 // Whether one of n fields of k bits, the first at bit at of packed bytes, at least four, is above a limit.
 fn some_above(s: &[u8], at: usize, n: usize, k: usize, limit: usize) -> bool
     requires { ((k ≤ 16) × (4 ≤ length s.now)) × ((length s.now ≤ 4096) × (at + n * k ≤ length s.now * 8)) }
-    ensures { result ≡ someAbove limit (fields n k (drop at (unpacked s.now))) }
+    ensures { result ≡ some_above limit (fields n k (drop at (unpacked s.now))) }
 {
     let mut c = BitCursor { at };
     let mut i: usize = 0;
@@ -67,9 +67,9 @@ fn some_above(s: &[u8], at: usize, n: usize, k: usize, limit: usize) -> bool
 
 // Whether a sum of a message is above the length of its string.
 fn sum_high(l1: usize, l2: usize, nc: usize, r: usize, s: &[u8]) -> bool
-    requires { (isLegal (layout l1 l2 nc r) ≡ true) × (length s.now ≡ messageBytes (layout l1 l2 nc r)) }
-    ensures { result ≡ (someAbove (block_bits (layout l1 l2 nc r)) (readBlockSums (layout l1 l2 nc r) s.now)
-        || someAbove (stringBits (layout l1 l2 nc r)) (readStringSums (layout l1 l2 nc r) s.now)) }
+    requires { (isLegal (layout l1 l2 nc r) ≡ true) × (length s.now ≡ message_bytes (layout l1 l2 nc r)) }
+    ensures { result ≡ (some_above (block_bits (layout l1 l2 nc r)) (read_block_sums (layout l1 l2 nc r) s.now)
+        || some_above (string_bits (layout l1 l2 nc r)) (read_string_sums (layout l1 l2 nc r) s.now)) }
 {
     let block = layouts::width(l2 * nc);
     if some_above(s, HEAD_BITS, l1, block, l2 * nc) {
@@ -81,8 +81,8 @@ fn sum_high(l1: usize, l2: usize, nc: usize, r: usize, s: &[u8]) -> bool
 
 // Whether no spare bit of a message is 1.
 fn spare_blank(l1: usize, l2: usize, nc: usize, r: usize, s: &[u8]) -> bool
-    requires { (isLegal (layout l1 l2 nc r) ≡ true) × (length s.now ≡ messageBytes (layout l1 l2 nc r)) }
-    ensures { result ≡ blank (drop (fieldsLength (layout l1 l2 nc r)) (body s.now)) }
+    requires { (isLegal (layout l1 l2 nc r) ≡ true) × (length s.now ≡ message_bytes (layout l1 l2 nc r)) }
+    ensures { result ≡ blank (drop (fields_length (layout l1 l2 nc r)) (body s.now)) }
 {
     let used = layouts::fields_length(l1, l2, nc, r);
     bits::fits(used, &s[9..])
@@ -91,8 +91,8 @@ fn spare_blank(l1: usize, l2: usize, nc: usize, r: usize, s: &[u8]) -> bool
 // What a message is refused for by rows 3 to 6 of the table, where its mark and version are right and its head names this layout; the
 // layout where it is fit.
 fn check_layout(l1: usize, l2: usize, nc: usize, r: usize, s: &[u8]) -> Read
-    requires { (isMarked s.now ≡ true) × ((versionOne s.now ≡ true) × (layout_of s.now ≡ layout l1 l2 nc r)) }
-    ensures { read_of result ≡ layoutAnswer (messageRefusal s.now) s.now }
+    requires { (isMarked s.now ≡ true) × ((version_one s.now ≡ true) × (layout_of s.now ≡ layout l1 l2 nc r)) }
+    ensures { read_of result ≡ layout_answer (message_refusal s.now) s.now }
 {
     if !layouts::legal(l1, l2, nc, r) {
         return Read::Refused(Refusal::Layout);
@@ -111,7 +111,7 @@ fn check_layout(l1: usize, l2: usize, nc: usize, r: usize, s: &[u8]) -> Read
 
 // What a message is refused for by rows 1 to 6 of the table, whatever it is read for; its layout where it is fit.
 pub fn check(s: &[u8]) -> Read
-    ensures { read_of result ≡ layoutAnswer (messageRefusal s.now) s.now }
+    ensures { read_of result ≡ layout_answer (message_refusal s.now) s.now }
 {
     if !marked(s) {
         return Read::Refused(Refusal::NoMessage);
@@ -150,10 +150,10 @@ fn read_fields(s: &[u8], at: usize, n: usize, k: usize, out: &mut [u16], from: u
 // The numbers of a fit message: block sums, chunk-string sums, checks, written to the start of a slice.
 fn read_numbers(l1: usize, l2: usize, nc: usize, r: usize, s: &[u8], out: &mut [u16])
     requires { (isLegal (layout l1 l2 nc r) ≡ true)
-        × ((length s.now ≡ messageBytes (layout l1 l2 nc r)) × (l1 + l2 + r ≤ length out.old)) }
+        × ((length s.now ≡ message_bytes (layout l1 l2 nc r)) × (l1 + l2 + r ≤ length out.old)) }
     ensures { out.new
-        ≡ readBlockSums (layout l1 l2 nc r) s.now ++ readStringSums (layout l1 l2 nc r) s.now
-        ++ readChecks (layout l1 l2 nc r) s.now ++ drop (l1 + l2 + r) out.old }
+        ≡ read_block_sums (layout l1 l2 nc r) s.now ++ read_string_sums (layout l1 l2 nc r) s.now
+        ++ read_checks (layout l1 l2 nc r) s.now ++ drop (l1 + l2 + r) out.old }
 {
     let block = layouts::width(l2 * nc);
     let string = layouts::width(nc * l1);
@@ -167,8 +167,8 @@ fn read_numbers(l1: usize, l2: usize, nc: usize, r: usize, s: &[u8], out: &mut [
 // Reads a message: answers its layout, and writes its numbers to the start of a slice.
 pub fn read(s: &[u8], out: &mut [u16]) -> Read
     ensures { (read_of result
-        ≡ layoutAnswer (readRefusal s.now (length out.old)) s.now)
-        × (out.new ≡ readTarget s.now out.old) }
+        ≡ layout_answer (read_refusal s.now (length out.old)) s.now)
+        × (out.new ≡ read_target s.now out.old) }
 {
     let checked = check(s);
     let Read::Layout(l) = checked else {

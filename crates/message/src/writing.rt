@@ -2,13 +2,13 @@
 // Contracts cite specs/Chunks.antt, specs/Message.antt and specs/Write.antt.
 ghost use Rattle.std.specs.Prelude.{◌≡◌, true, ◌+◌, ◌*◌, ◌≤◌, length, take, drop};
 ghost use mathlib.Core.List.{◌++◌, flat_map};
-ghost use Rattle.bits.specs.Bits.{digits, bytesFor, pack, unpack as unpacked, fits};
+ghost use Rattle.bits.specs.Bits.{digits, bytes_for, pack, unpack as unpacked, fits};
 ghost use Rattle.bits.specs.Filling.{Ready, Goes};
 ghost use Rattle.vt.specs.Weights.{weights};
-ghost use Rattle.message.specs.Layout.{layout, legal as isLegal, rowBits};
+ghost use Rattle.message.specs.Layout.{layout, legal as isLegal, row_bits};
 ghost use Rattle.message.specs.Chunks.{row_of, Chunked};
-ghost use Rattle.message.specs.Message.{width, fieldsLength, messageBytes, blockSums, stringSums, checks, head, fieldBits, message};
-ghost use Rattle.message.specs.Write.{written_of, writeAnswer, writeTarget};
+ghost use Rattle.message.specs.Message.{width, fields_length, message_bytes, block_sums, string_sums, checks, head, field_bits, message};
+ghost use Rattle.message.specs.Write.{written_of, write_answer, write_target};
 
 use crate::{Written, chunks, layouts};
 use bits::Filler;
@@ -34,8 +34,8 @@ fn put_sums(
         × (((first + count ≤ l1 + l2) × (k ≤ 16))
         × (Ready start × (start.at * 8 + start.count + count * k ≤ length out.old * 8))) }
     ensures { Goes start out.old (flat_map (digits k) (take count (drop first
-        (blockSums (layout l1 l2 nc r) (row_of nc chunks.now)
-        ++ stringSums (layout l1 l2 nc r) (row_of nc chunks.now)))))
+        (block_sums (layout l1 l2 nc r) (row_of nc chunks.now)
+        ++ string_sums (layout l1 l2 nc r) (row_of nc chunks.now)))))
         result out.new }
 {
     let mut f = start;
@@ -88,12 +88,12 @@ fn put_row_checks(
 // The fields of a row's message, packed, at the start of a slice.
 fn put_fields(l1: usize, l2: usize, nc: usize, r: usize, chunks: &[u8], out: &mut [u8])
     requires { ((isLegal (layout l1 l2 nc r) ≡ true) × Chunked (layout l1 l2 nc r) chunks.now)
-        × (bytesFor (fieldsLength (layout l1 l2 nc r)) ≤ length out.old) }
+        × (bytes_for (fields_length (layout l1 l2 nc r)) ≤ length out.old) }
     ensures { out.new
-        ≡ pack (fieldBits (layout l1 l2 nc r) (blockSums (layout l1 l2 nc r) (row_of nc chunks.now))
-        (stringSums (layout l1 l2 nc r) (row_of nc chunks.now))
+        ≡ pack (field_bits (layout l1 l2 nc r) (block_sums (layout l1 l2 nc r) (row_of nc chunks.now))
+        (string_sums (layout l1 l2 nc r) (row_of nc chunks.now))
         (checks (layout l1 l2 nc r) (row_of nc chunks.now)))
-        ++ drop (bytesFor (fieldsLength (layout l1 l2 nc r))) out.old }
+        ++ drop (bytes_for (fields_length (layout l1 l2 nc r))) out.old }
 {
     let block = layouts::width(l2 * nc);
     let string = layouts::width(nc * l1);
@@ -122,11 +122,11 @@ fn put_head(l1: usize, l2: usize, nc: usize, r: usize, out: &mut [u8])
 
 // The message of a packed row at the start of a slice.
 fn put_message(l1: usize, l2: usize, nc: usize, r: usize, row: &[u8], out: &mut [u8])
-    requires { (isLegal (layout l1 l2 nc r) ≡ true) × ((fits (rowBits (layout l1 l2 nc r)) row.now ≡ true)
-        × (messageBytes (layout l1 l2 nc r) ≤ length out.old)) }
+    requires { (isLegal (layout l1 l2 nc r) ≡ true) × ((fits (row_bits (layout l1 l2 nc r)) row.now ≡ true)
+        × (message_bytes (layout l1 l2 nc r) ≤ length out.old)) }
     ensures { out.new
-        ≡ message (layout l1 l2 nc r) (take (rowBits (layout l1 l2 nc r)) (unpacked row.now))
-        ++ drop (messageBytes (layout l1 l2 nc r)) out.old }
+        ≡ message (layout l1 l2 nc r) (take (row_bits (layout l1 l2 nc r)) (unpacked row.now))
+        ++ drop (message_bytes (layout l1 l2 nc r)) out.old }
 {
     let n = l1 * l2;
     let mut values: [u8; bits::MOST_CHUNKS] = [0; bits::MOST_CHUNKS];
@@ -137,8 +137,8 @@ fn put_message(l1: usize, l2: usize, nc: usize, r: usize, row: &[u8], out: &mut 
 
 // Writes the message of a packed row to the start of a slice. The layout's numbers may be any.
 pub fn write(l1: usize, l2: usize, nc: usize, r: usize, row: &[u8], out: &mut [u8]) -> Written
-    ensures { (written_of result ≡ writeAnswer (layout l1 l2 nc r) row.now (length out.old))
-        × (out.new ≡ writeTarget (layout l1 l2 nc r) row.now out.old) }
+    ensures { (written_of result ≡ write_answer (layout l1 l2 nc r) row.now (length out.old))
+        × (out.new ≡ write_target (layout l1 l2 nc r) row.now out.old) }
 {
     if !layouts::legal(l1, l2, nc, r) {
         return Written::Refused(Refusal::Layout);

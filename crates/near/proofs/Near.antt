@@ -12,24 +12,24 @@ use lib.Dec.{eqb}
 use lib.ListN.{get_or}
 use Rattle.message.specs.declared.Layout.{Layout}
 use Rattle.lines.specs.Lines.{unlike}
-use Rattle.states.specs.States.{each, firsts, entry_at, addedUp}
+use Rattle.states.specs.States.{each, firsts, entry_at, added_up}
 use Rattle.states.specs.declared.Shape.{Shape}
 use Rattle.states.proofs.Sums.{firsts_same}
-use Rattle.column.specs.Column.{chunkAt, Crosses, apartIn}
+use Rattle.column.specs.Column.{chunk_at, Crosses, apart_in}
 use Rattle.column.specs.declared.Heavy.{Heavy}
-use Rattle.far.specs.Far.{Walk, stepAt, block_at}
+use Rattle.far.specs.Far.{Walk, step_at, block_at}
 use Rattle.far.proofs.Unlost.{one-most, reads-there, reads_same}
-use Rattle.marks.specs.Marks.{Path, apartBefore, apartFrom, Kept}
+use Rattle.marks.specs.Marks.{Path, apart_before, apart_from, Kept}
 use Rattle.marks.proofs.Paths.{own-within}
-use Rattle.near.specs.Near.{CountedIn, Counted, mostIn, SaysIn, most, mostAfter}
+use Rattle.near.specs.Near.{CountedIn, Counted, most_in, SaysIn, most, most_after}
 
 module _ (l : Layout) (heavy : Heavy) (z vs : List ℕ) where
   -- in how many of the first columns the chunk of block s is another than in z
   in_block : (s k : ℕ) → ℕ
   in_block s zero = 0
-  in_block s (suc j) = in_block s j + unlike vs z (chunkAt l heavy j s)
+  in_block s (suc j) = in_block s j + unlike vs z (chunk_at l heavy j s)
 
-  in-next : (s j : ℕ) → in_block s (j + 1) ≡ in_block s j + unlike vs z (chunkAt l heavy j s)
+  in-next : (s j : ℕ) → in_block s (j + 1) ≡ in_block s j + unlike vs z (chunk_at l heavy j s)
   unfolding in_block
   in-next s j = rw (add-one j) refl
 
@@ -43,20 +43,20 @@ module _ (l : Layout) (heavy : Heavy) (z vs : List ℕ) where
   in-none zero = refl
   in-none (suc n) = omega (arith, in-none n)
 
-  in-column : (j n : ℕ) → inBlocks (suc j) n ≡ inBlocks j n + apartIn l heavy z vs j n
-  unfolding inBlocks in_block apartIn
+  in-column : (j n : ℕ) → inBlocks (suc j) n ≡ inBlocks j n + apart_in l heavy z vs j n
+  unfolding inBlocks in_block apart_in
   in-column j zero = refl
   in-column j (suc n) = omega (arith, in-column j n)
 
   -- counted by blocks or by columns, it is the same
-  by_blocks : (k : ℕ) → apartBefore l heavy z vs k ≡ inBlocks k heavy.n
-  unfolding apartBefore
+  by_blocks : (k : ℕ) → apart_before l heavy z vs k ≡ inBlocks k heavy.n
+  unfolding apart_before
   by_blocks zero = sym (in-none heavy.n)
   by_blocks (suc k) = omega (arith, by_blocks k, in-column k heavy.n)
 
   in-more : (s j : ℕ) → in_block s (j + 1) ≤ in_block s j + 1
   in-more s j =
-      omega (arith, in-next s j, one-most (eqb (get_or vs (chunkAt l heavy j s) 0) (get_or z (chunkAt l heavy j s) 0)))
+      omega (arith, in-next s j, one-most (eqb (get_or vs (chunk_at l heavy j s) 0) (get_or z (chunk_at l heavy j s) 0)))
 
 module _ (l : Layout) (y numbers : List ℕ) (heavy : Heavy) (row : List ℕ) (shape : Shape) (vs : List ℕ) (own : ℕ → ℕ → ℕ)
     (kept : Kept heavy shape) (path : Path l y numbers heavy row (each shape.size) vs own) (z : List ℕ) where
@@ -126,7 +126,7 @@ module _ (l : Layout) (y numbers : List ℕ) (heavy : Heavy) (row : List ℕ) (s
   module _ (before after : List ℕ) (counted : Counted l y heavy z shape.size before after) (j : ℕ)
       (inside : j ≤ l.l2) where
     most-block : (s : ℕ) → s < heavy.n
-        → in_block l heavy z vs s l.l2 ≤ mostIn l.l2 before after s (size s) (own j s) j
+        → in_block l heavy z vs s l.l2 ≤ most_in l.l2 before after s (size s) (own j s) j
     most-block s h =
         let e : l.l2 - (l.l2 - j) ≡ j = omega arith in
         let a = counted.ahead s h _ _ (walks-ahead s h) j inside in
@@ -138,15 +138,15 @@ module _ (l : Layout) (y numbers : List ℕ) (heavy : Heavy) (row : List ℕ) (s
     most-blocks zero h = omega arith
     most-blocks (suc n) h = omega (arith, most-blocks n (omega arith), most-block n (omega arith))
 
-    pub most-covers : apartFrom l heavy z vs 0 ≤ most l.l2 before after size (own j) j shape.n
-    most-covers =
+    pub most_covers : apart_from l heavy z vs 0 ≤ most l.l2 before after size (own j) j shape.n
+    most_covers =
         let e : shape.n ≡ heavy.n = kept.blocks in
         rw e (omega (arith, most-blocks heavy.n (omega arith), by_blocks l heavy z vs l.l2))
 
   -- and of what it counts from a column on
   module _ (after : List ℕ) (counted : CountedIn l y heavy z shape.size false after) (j : ℕ) (inside : j ≤ l.l2) where
     after-blocks : (n : ℕ) → n ≤ heavy.n
-        → inBlocks l heavy z vs l.l2 n ≤ inBlocks l heavy z vs j n + mostAfter l.l2 after (own j) j n
+        → inBlocks l heavy z vs l.l2 n ≤ inBlocks l heavy z vs j n + most_after l.l2 after (own j) j n
     unfolding inBlocks firsts
     after-blocks zero h = omega arith
     after-blocks (suc n) h =
@@ -154,8 +154,8 @@ module _ (l : Layout) (y numbers : List ℕ) (heavy : Heavy) (row : List ℕ) (s
         let b = rw e at (counted n (omega arith) _ _ (walks-back n (omega arith)) (l.l2 - j) (omega arith)) in
         omega (arith, after-blocks n (omega arith), b)
 
-    pub after-covers : apartFrom l heavy z vs j ≤ mostAfter l.l2 after (own j) j shape.n
-    after-covers =
+    pub after_covers : apart_from l heavy z vs j ≤ most_after l.l2 after (own j) j shape.n
+    after_covers =
         let e : shape.n ≡ heavy.n = kept.blocks in
         rw e (omega (
           arith,
@@ -165,22 +165,22 @@ module _ (l : Layout) (y numbers : List ℕ) (heavy : Heavy) (row : List ℕ) (s
         ))
 
 -- the table of a block ends before that of the last
-pub next-block : (columns s n : ℕ) → s < n → block_at columns (s + 1) ≤ block_at columns n
-next-block columns s n h = mul-le-mul_right {m = s + 1} {n = n} ((columns + 1) * 13) (omega arith)
+pub next_block : (columns s n : ℕ) → s < n → block_at columns (s + 1) ≤ block_at columns n
+next_block columns s n h = mul-le-mul_right {m = s + 1} {n = n} ((columns + 1) * 13) (omega arith)
 
 -- ---- states
 -- what a table of values says of the blocks adds up to what the tables say of a state
-pub most-added : (columns : ℕ) (before after values : List ℕ) (size left : ℕ → ℕ) (j n : ℕ)
+pub most_added : (columns : ℕ) (before after values : List ℕ) (size left : ℕ → ℕ) (j n : ℕ)
     → ((s e : ℕ) → s < n → e ≤ size s → SaysIn columns before after s (size s) j values e)
     → ((s : ℕ) → s < n → left s ≤ size s)
-    → addedUp values left n ≡ most columns before after size left j n
-most-added columns before after values size left j n says within =
-    firsts_same (λ s. get_or values (entry_at s (left s)) 0) (λ s. mostIn columns before after s (size s) (left s) j) n
+    → added_up values left n ≡ most columns before after size left j n
+most_added columns before after values size left j n says within =
+    firsts_same (λ s. get_or values (entry_at s (left s)) 0) (λ s. most_in columns before after s (size s) (left s) j) n
     (λ s h. (says s (left s) h (within s h)).0)
 
 -- only the losses left in the blocks count
 pub after_same : (columns : ℕ) (after : List ℕ) (a b : ℕ → ℕ) (j n : ℕ) → ((s : ℕ) → s < n → a s ≡ b s)
-    → mostAfter columns after a j n ≡ mostAfter columns after b j n
+    → most_after columns after a j n ≡ most_after columns after b j n
 after_same columns after a b j n h =
-    let says : ℕ → ℕ → ℕ = λ s v. get_or after (stepAt (block_at columns s) (columns - j) + v) 0 in
+    let says : ℕ → ℕ → ℕ = λ s v. get_or after (step_at (block_at columns s) (columns - j) + v) 0 in
     firsts_same (λ s. says s (a s)) (λ s. says s (b s)) n (λ s k. ap (says s) (h s k))

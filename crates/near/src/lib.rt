@@ -1,11 +1,11 @@
 // In how many chunks of all heavy blocks together a row that comes through a loss state can differ from another one at most, by the tables of
 // what rows count in each block. Contracts cite specs/Near.antt.
 ghost use Rattle.std.specs.Prelude.{◌≡◌, true, ℕ, ◌+◌, ◌*◌, ◌<◌, ◌≤◌, length, get_or};
-ghost use Rattle.bits.specs.Bits.{mostInLine};
+ghost use Rattle.bits.specs.Bits.{most_in_line};
 ghost use Rattle.states.specs.States.{lefts, each, entry_at, Shaped, state_of};
 ghost use Rattle.column.specs.Column.{Fit};
 ghost use Rattle.far.specs.Far.{block_at};
-ghost use Rattle.near.specs.Near.{Counted, Sized, mostIn, SaysIn, most, mostAfter};
+ghost use Rattle.near.specs.Near.{Counted, Sized, most_in, SaysIn, most, most_after};
 
 use column::Heavy;
 use message::Layout;
@@ -65,9 +65,9 @@ fn most_in(
     left: u8,
     j: usize,
 ) -> usize
-    requires { ((columns ≤ mostInLine) × ((s < 6) × ((j ≤ columns) × (size < lefts))))
+    requires { ((columns ≤ most_in_line) × ((s < 6) × ((j ≤ columns) × (size < lefts))))
         × ((block_at columns (s + 1) ≤ length before.now) × (block_at columns (s + 1) ≤ length after.now)) }
-    ensures { (left ≤ size → result ≡ mostIn columns before.now after.now s size left j)
+    ensures { (left ≤ size → result ≡ most_in columns before.now after.now s size left j)
         × (result ≤ 510) }
 {
     if size < left {
@@ -89,7 +89,7 @@ fn fill_block(
     j: usize,
     values: &mut [u16],
 )
-    requires { ((columns ≤ mostInLine) × ((s < 6) × ((j ≤ columns) × (size < lefts))))
+    requires { ((columns ≤ most_in_line) × ((s < 6) × ((j ≤ columns) × (size < lefts))))
         × (((block_at columns (s + 1) ≤ length before.now) × (block_at columns (s + 1) ≤ length after.now))
         × (entry_at s lefts ≤ length values.old)) }
     ensures { (length values.new ≡ length values.old)
@@ -141,7 +141,7 @@ pub fn most_after(
     left: [u8; states::MOST_HEAVY],
 ) -> usize
     requires { Sized columns shape after.now × ((j ≤ columns) × ((s : ℕ) → s < shape.n → get_or left s 0 < lefts)) }
-    ensures { result ≡ mostAfter columns after.now (each left) j shape.n }
+    ensures { result ≡ most_after columns after.now (each left) j shape.n }
 {
     let n = shape.n;
     let stride = (columns + 1) * states::LEFTS;

@@ -20,28 +20,28 @@ use Rattle.message.specs.declared.Layout.{Layout}
 use Rattle.message.proofs.Fields.{fields_at, length_fields}
 use Rattle.consistent.specs.Greedy.{losses}
 use Rattle.consistent.proofs.Greedy.{losses-most, piece, whole}
-use Rattle.consistent.proofs.Rule.{block-not-one, block-mended}
-use Rattle.pieces.specs.Pieces.{hasSum, Loses, Tried}
+use Rattle.consistent.proofs.Rule.{block_not_one, block_mended}
+use Rattle.pieces.specs.Pieces.{has_its_sum, Loses, Tried}
 
 -- ---- whether the next nb bits have a sum
 module _ (nb s : ℕ) (rest : List ℕ) where
-  pub sum-short : length rest < nb → false ≡ hasSum nb s rest
-  unfolding hasSum
+  pub sum-short : length rest < nb → false ≡ has_its_sum nb s rest
+  unfolding has_its_sum
   sum-short h = rw (lt-leb nb (length rest) h) refl
 
-  pub sum-decides : nb ≤ length rest → eqb (sum (take nb rest)) s ≡ hasSum nb s rest
-  unfolding hasSum
-  sum-decides h = rw (le-leb nb (length rest) h) refl
+  pub sum_decides : nb ≤ length rest → eqb (sum (take nb rest)) s ≡ has_its_sum nb s rest
+  unfolding has_its_sum
+  sum_decides h = rw (le-leb nb (length rest) h) refl
 
-  pub sum-within : hasSum nb s rest ≡ true → nb ≤ length rest
-  unfolding hasSum
+  pub sum-within : has_its_sum nb s rest ≡ true → nb ≤ length rest
+  unfolding has_its_sum
   sum-within e = leb-true nb (length rest) (both_left (leb nb (length rest)) (eqb (sum (take nb rest)) s) e)
 
-  pub sum_is : hasSum nb s rest ≡ true → sum (take nb rest) ≡ s
-  sum_is e = eqb-true (sum (take nb rest)) s (sum-decides (sum-within e) ∙ e)
+  pub sum_is : has_its_sum nb s rest ≡ true → sum (take nb rest) ≡ s
+  sum_is e = eqb-true (sum (take nb rest)) s (sum_decides (sum-within e) ∙ e)
 
-  sum-has : nb ≤ length rest → sum (take nb rest) ≡ s → hasSum nb s rest ≡ true
-  sum-has h e = sym (sum-decides h) ∙ eq-eqb (sum (take nb rest)) s e
+  sum-has : nb ≤ length rest → sum (take nb rest) ≡ s → has_its_sum nb s rest ≡ true
+  sum-has h e = sym (sum_decides h) ∙ eq-eqb (sum (take nb rest)) s e
 
 -- ---- what is put in block i of the row in hand
 module _ (l : Layout) (i : ℕ) (p entry exit : List ℕ) (h : i * l.l2 + l.l2 ≤ length entry)
@@ -92,8 +92,8 @@ module _ (l : Layout) (s i a : ℕ) (rest entry : List ℕ) where
       }
 
   -- a block with two losses or more is not looked for here
-  pub tried-more : 2 ≤ a → a ≤ block_bits l → block_bits l - a ≤ length rest → Tried l s i a rest entry entry true
-  tried-more h f g =
+  pub tried_more : 2 ≤ a → a ≤ block_bits l → block_bits l - a ≤ length rest → Tried l s i a rest entry entry true
+  tried_more h f g =
       record { stays = refl; within = λ t. (f, g); can = λ b q. refl; light = λ b q t. absurd (omega arith) }
 
   -- a block does not lose more bits than it has, and as many bits as it keeps remain
@@ -105,15 +105,15 @@ module _ (l : Layout) (s i a : ℕ) (rest entry : List ℕ) where
 
 module _ (l : Layout) (s i : ℕ) (rest entry : List ℕ) where
   -- without a loss: the next bits, where these have the sum
-  pub whole-not : hasSum (block_bits l) s rest ≡ false → Tried l s i 0 rest entry entry false
-  whole-not e = tried-not l s i 0 rest entry (λ b q. false≢true (sym e ∙ has b q))
+  pub whole_not : has_its_sum (block_bits l) s rest ≡ false → Tried l s i 0 rest entry entry false
+  whole_not e = tried-not l s i 0 rest entry (λ b q. false≢true (sym e ∙ has b q))
     where
-      has : (b : List ℕ) → Loses l s 0 rest b → hasSum (block_bits l) s rest ≡ true
+      has : (b : List ℕ) → Loses l s 0 rest b → has_its_sum (block_bits l) s rest ≡ true
       has b q =
           let n : block_bits l ≤ length rest = omega (arith, (piece (block_bits l) 0 b rest q.size q.own).within) in
-          sum-has (block_bits l) s rest n (rw (← q.size, ← whole b rest q.own) q.has-sum)
+          sum-has (block_bits l) s rest n (rw (← q.size, ← whole b rest q.own) q.has_sum)
 
-  pub whole-put : (exit : List ℕ) → hasSum (block_bits l) s rest ≡ true → i * l.l2 + l.l2 ≤ length entry
+  pub whole-put : (exit : List ℕ) → has_its_sum (block_bits l) s rest ≡ true → i * l.l2 + l.l2 ≤ length entry
       → exit ≡ take (i * l.l2) entry ++ fields l.l2 l.nc (take (block_bits l) rest)
       ++ drop (i * l.l2 + l.l2) entry
       → Tried l s i 0 rest entry exit true
@@ -123,20 +123,20 @@ module _ (l : Layout) (s i : ℕ) (rest entry : List ℕ) where
       (λ b q. whole b rest q.own ∙ rw q.size refl)
 
   -- with one loss: never where the next bits have the sum, else the mended string of the next bits, one fewer
-  pub one-not : AllBits rest → hasSum (block_bits l) s rest ≡ true → Tried l s i 1 rest entry entry false
-  one-not a e =
+  pub one_not : AllBits rest → has_its_sum (block_bits l) s rest ≡ true → Tried l s i 1 rest entry entry false
+  one_not a e =
       let n = sum-within (block_bits l) s rest e in
       tried-not l s i 1 rest entry
       (λ b q.
-      let same : sum (take (length b) rest) ≡ sum b = rw q.size (sum_is (block_bits l) s rest e ∙ sym q.has-sum) in
-      block-not-one b rest q.bits a (omega (arith, q.size)) same q.own)
+      let same : sum (take (length b) rest) ≡ sum b = rw q.size (sum_is (block_bits l) s rest e ∙ sym q.has_sum) in
+      block_not_one b rest q.bits a (omega (arith, q.size)) same q.own)
 
   pub one-put : (exit : List ℕ) → 1 ≤ block_bits l → block_bits l - 1 ≤ length rest → i * l.l2 + l.l2 ≤ length entry
       → exit ≡ take (i * l.l2) entry ++ fields l.l2 l.nc (mended (block_bits l) s (take (block_bits l - 1) rest))
       ++ drop (i * l.l2 + l.l2) entry → Tried l s i 1 rest entry exit true
   one-put exit g k h f =
       tried-put l s i 1 rest entry (mended (block_bits l) s (take (block_bits l - 1) rest)) exit g k h f
-      (λ b q. block-mended (block_bits l) b rest q.bits q.size q.own ∙ rw q.has-sum refl)
+      (λ b q. block_mended (block_bits l) b rest q.bits q.size q.own ∙ rw q.has_sum refl)
 
 -- ---- the string that is mended from the next bits, one fewer than nb
 pub record MendedNext (nb s : ℕ) (rest : List ℕ) : Type 0 where

@@ -10,8 +10,8 @@ use Rattle.windows.specs.Windows.{Tables}
 
 -- the count that is tried in a turn, where the turns go from the first count to the most: the counts go up with them, or
 -- down from the most
-abbrev pub countAt : (first most : ℕ) → Bool → (turn : ℕ) → ℕ
-countAt first most down turn = cond down (most - (turn - first)) turn
+abbrev pub count_at : (first most : ℕ) → Bool → (turn : ℕ) → ℕ
+count_at first most down turn = cond down (most - (turn - first)) turn
 
 -- the tables of the rest of the received row, which starts at place p of it
 pub record Tabled (rest : List ℕ) (p : ℕ) (totals counts : List ℕ) : Type 0 where
@@ -19,15 +19,15 @@ pub record Tabled (rest : List ℕ) (p : ℕ) (totals counts : List ℕ) : Type 
   pub short : p + length rest ≤ longest
 
 -- at least nb bits remain, and "the next nb bits have the block's sum"
-unfoldable pub hasSum : (nb s : ℕ) (rest : List ℕ) → Bool
+unfoldable pub has_its_sum : (nb s : ℕ) (rest : List ℕ) → Bool
 unfolding sum
-hasSum nb s rest = leb nb (length rest) && eqb (sum (take nb rest)) s
+has_its_sum nb s rest = leb nb (length rest) && eqb (sum (take nb rest)) s
 
 -- the block b has the sum s, and against the rest of the received row it loses just a bits
 pub record Loses (l : Layout) (s a : ℕ) (rest b : List ℕ) : Type 0 where
   pub bits : AllBits b
   pub size : length b ≡ block_bits l
-  pub has-sum : sum b ≡ s
+  pub has_sum : sum b ≡ s
   pub own : losses b rest ≡ a
 
 -- what it is to try block i, whose sum is s, with a losses: the answer is true where some block loses just so many, and

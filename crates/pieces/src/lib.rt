@@ -4,7 +4,7 @@ ghost use Rattle.std.specs.Prelude.{◌≡◌, true, ◌++◌, ◌+◌, ◌*◌,
 ghost use Rattle.bits.specs.Bits.{AllBits};
 ghost use Rattle.message.specs.Layout.{legal, block_bits};
 ghost use Rattle.message.specs.Read.{fields};
-ghost use Rattle.pieces.specs.Pieces.{countAt, hasSum, Tabled, Tried};
+ghost use Rattle.pieces.specs.Pieces.{count_at, has_its_sum, Tabled, Tried};
 
 use message::Layout;
 
@@ -24,7 +24,7 @@ pub fn down_pays(checks: usize, rest: &[u8]) -> bool {
 // The count that is tried in a turn: they go from the first to the most, up or down.
 pub fn count_at(first: usize, most: usize, down: bool, turn: usize) -> usize
     requires { (first ≤ turn) × (turn ≤ most) }
-    ensures { result ≡ countAt first most down turn }
+    ensures { result ≡ count_at first most down turn }
 {
     if down {
         return most - (turn - first);
@@ -35,7 +35,7 @@ pub fn count_at(first: usize, most: usize, down: bool, turn: usize) -> usize
 // Whether at least nb bits remain and the next nb have the sum s.
 fn has_sum(nb: usize, s: usize, rest: &[u8], totals: &[u32], counts: &[u16], p: usize) -> bool
     requires { AllBits rest.now × Tabled rest.now p totals.now counts.now }
-    ensures { result ≡ hasSum nb s rest.now }
+    ensures { result ≡ has_its_sum nb s rest.now }
 {
     if rest.len() < nb {
         return false;

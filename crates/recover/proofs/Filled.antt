@@ -8,30 +8,30 @@ use native.Mathlib.Omega.{arith}
 use lib.Bits.{bit_xor, xor_comm, xor_zero_l, xor_zero_r}
 use lib.ListN.{length, get_or, set, length-set}
 use lib.Seq.{get_or-set_same, get_or-set_other, ext_get_or}
-use Rattle.field.specs.Field.{power, times, check, checkFrom}
-use Rattle.field.proofs.Times.{times-of-zero}
+use Rattle.field.specs.Field.{power, times, check, check_from}
+use Rattle.field.proofs.Times.{times_of_zero}
 use Rattle.field.proofs.Xor.{xor_assoc}
 use Rattle.erasures.specs.Erasures.{brought}
 
 -- ---- one chunk put in
 module _ (nc i : ℕ) where
   from-set : (c k v : ℕ) (xs : List ℕ) → k < length xs → get_or xs k 0 ≡ 0
-      → checkFrom nc i c (set xs k v) ≡ bit_xor (checkFrom nc i c xs) (times nc (power nc (i * (c + k))) v)
-  unfolding checkFrom
+      → check_from nc i c (set xs k v) ≡ bit_xor (check_from nc i c xs) (times nc (power nc (i * (c + k))) v)
+  unfolding check_from
   from-set c k v [] h z = absurd (omega arith)
   from-set c zero v (x ∷ xs) h z =
       let t : ℕ = times nc (power nc (i * c)) v in
-      let r : ℕ = checkFrom nc i (suc c) xs in
+      let r : ℕ = check_from nc i (suc c) xs in
       let e : times nc (power nc (i * (c + 0))) v ≡ t = ap (λ (m : ℕ). times nc (power nc (i * m)) v) (add-zero c) in
       let o : bit_xor (times nc (power nc (i * c)) x) r ≡ r =
       ap (λ (m : ℕ). bit_xor (times nc (power nc (i * c)) m) r) z
-      ∙ ap (λ (m : ℕ). bit_xor m r) (times-of-zero nc (power nc (i * c)))
+      ∙ ap (λ (m : ℕ). bit_xor m r) (times_of_zero nc (power nc (i * c)))
       ∙ xor_zero_l r
       in
       xor_comm t r ∙ ap₂ bit_xor (sym o) (sym e)
   from-set c (suc k) v (x ∷ xs) h z =
       let t : ℕ = times nc (power nc (i * c)) x in
-      let r : ℕ = checkFrom nc i (suc c) xs in
+      let r : ℕ = check_from nc i (suc c) xs in
       let e : suc c + k ≡ c + suc k = omega arith in
       ap (bit_xor t) (from-set (suc c) k v xs (omega arith) z)
       ∙ sym (xor_assoc t r (times nc (power nc (i * (suc c + k))) v))
@@ -42,7 +42,7 @@ module _ (nc i : ℕ) where
       → check nc i (set xs k v) ≡ bit_xor (check nc i xs) (times nc (power nc (i * k)) v)
   unfolding check
   check-set k v xs h z =
-      from-set 0 k v xs h z ∙ ap (λ (m : ℕ). bit_xor (checkFrom nc i 0 xs) (times nc (power nc (i * m)) v)) (omega arith)
+      from-set 0 k v xs h z ∙ ap (λ (m : ℕ). bit_xor (check_from nc i 0 xs) (times nc (power nc (i * m)) v)) (omega arith)
 
 -- ---- all of them put in
 -- k chunks from the u-th on put in: chunk e of each at its place c

@@ -9,48 +9,48 @@ use lib.Bits.{bit_xor, xor_comm}
 use lib.ListN.{length, get_or, take, length-take, get_or-eq_default}
 use lib.Pow.{pow_pos}
 use lib.Seq.{get_or-take, get_or-drop, length-take-le, ext_get_or}
-use Rattle.bits.proofs.Laws.{lt-or-ge}
+use Rattle.bits.proofs.Laws.{lt_or_ge}
 use Rattle.field.specs.Field.{Elements, check}
-use Rattle.field.proofs.Linear.{check-element}
+use Rattle.field.proofs.Linear.{check_element}
 use Rattle.message.specs.Message.{checks}
 use Rattle.message.specs.declared.Layout.{Layout}
 use Rattle.message.proofs.Cutting.{each_number}
-use Rattle.message.proofs.Legal.{Bounds, legal-bounds}
+use Rattle.message.proofs.Legal.{Bounds, legal_bounds}
 use Rattle.lines.specs.Lines.{values}
 use Rattle.lines.proofs.Lines.{length-values, value_low}
 use Rattle.cells.specs.Cells.{Under, OpenAt}
 use Rattle.cells.specs.declared.Cells.{Cells}
-use Rattle.cells.proofs.State.{chunk-in-hand}
+use Rattle.cells.proofs.State.{chunk_in_hand}
 use Rattle.found.specs.Found.{Given, Sent, InHand}
-use Rattle.found.proofs.Found.{sent-parts}
+use Rattle.found.proofs.Found.{sent_parts}
 use Rattle.erasures.specs.Erasures.{brought, Brings, Contents}
-use Rattle.erasures.proofs.Erasures.{other-summand}
+use Rattle.erasures.proofs.Erasures.{other_summand}
 use Rattle.recover.specs.Recover.{Among, Collected, PutAt, Missing}
 use Rattle.recover.proofs.Filled.{filled, length-filled, filled-there, filled-other, check-filled}
-use Rattle.recover.proofs.Spots.{among-or-not}
+use Rattle.recover.proofs.Spots.{among_or_not}
 
 -- ---- a row that is reduced chunk by chunk
 module _ (nc n : ℕ) (row base : List ℕ) (h : n ≤ length row)
     (g : (c : ℕ) → c < length (take n row) → get_or base c 0 ≡ get_or (take n row) c 0 % 2 ^ nc) where
   -- each of its first chunks is reduced
-  pub reduced-at : (c : ℕ) → c < n → get_or base c 0 ≡ get_or row c 0 % 2 ^ nc
-  reduced-at c low =
+  pub reduced_at : (c : ℕ) → c < n → get_or base c 0 ≡ get_or row c 0 % 2 ^ nc
+  reduced_at c low =
       let e = length-take-le n row h in
       g c (omega (arith, e)) ∙ ap (λ (v : ℕ). v % 2 ^ nc) (get_or-take n row c 0 low)
 
   -- so they are elements of the field
-  pub reduced-elements : Elements nc (take n base)
-  reduced-elements c =
+  pub reduced_elements : Elements nc (take n base)
+  reduced_elements c =
       ⊎_elim
-      (λ low. rw (get_or-take n base c 0 low, reduced-at c low) (mod-lt (get_or row c 0) (pow_pos nc)))
+      (λ low. rw (get_or-take n base c 0 low, reduced_at c low) (mod-lt (get_or row c 0) (pow_pos nc)))
       (λ high. rw (get_or-eq_default (take n base) 0 {n = c} (omega (arith, length-take n base))) (pow_pos nc))
-      (lt-or-ge c n)
+      (lt_or_ge c n)
 
 -- ---- a row under a state, with n erased chunks at the places of its open cells
 module _ (l : Layout) (ns y x row : List ℕ) (cells : Cells) (n : ℕ) (places : List ℕ) (given : Given l ns y)
     (sent : Sent l ns y x) (under : Under l y cells row x) (k : Collected l cells 12 n places) where
   bounds : Bounds l
-  bounds = legal-bounds l given.is-legal
+  bounds = legal_bounds l given.is_legal
 
   abbrev place : ℕ → ℕ
   place w = get_or places w 0
@@ -70,18 +70,18 @@ module _ (l : Layout) (ns y x row : List ℕ) (cells : Cells) (n : ℕ) (places 
 
   -- a chunk that is not erased is the one in hand
   kept : (c : ℕ) → c < l.l1 * l.l2 → (Among n places c → ⊥) → get_or (values l x) c 0 ≡ get_or row c 0
-  kept c h none = chunk-in-hand l y cells row x under bounds.l2-low c h (λ o. none (erased c o))
+  kept c h none = chunk_in_hand l y cells row x under bounds.l2_low c h (λ o. none (erased c o))
 
   -- a check of the row is the number given
   given-check : (i : ℕ) → i < l.r → get_or ns (l.l1 + l.l2 + i) 0 ≡ check l.nc i (values l x)
   unfolding checks values
   given-check i h =
       sym (get_or-drop (l.l1 + l.l2) ns i 0)
-      ∙ ap (λ (v : List ℕ). get_or v i 0) (sym (sent-parts given x sent).sums-checks)
+      ∙ ap (λ (v : List ℕ). get_or v i 0) (sym (sent_parts given x sent).sums-checks)
       ∙ each_number (λ (i : ℕ). check l.nc i (values l x)) l.r i h
 
   check-low : (i : ℕ) → check l.nc i (values l x) < 2 ^ l.nc
-  check-low i = check-element l.nc bounds.nc-low bounds.nc-high i (values l x) (value_low l x sent.0)
+  check-low i = check_element l.nc bounds.nc_low bounds.nc_high i (values l x) (value_low l x sent.0)
 
   -- ---- the row in hand with the erased chunks cleared, all numbers elements of the field
   module _ (blank cleared base : List ℕ) (long : l.l1 * l.l2 ≤ length base) (none : (w : ℕ) → get_or blank w 0 ≡ 0)
@@ -116,7 +116,7 @@ module _ (l : Layout) (ns y x row : List ℕ) (cells : Cells) (n : ℕ) (places 
     whole =
         ext_get_or 0 (values l x) (filled place content 0 n front)
         (length-values l x ∙ sym (length-filled place content front 0 n ∙ length_front))
-        (λ c h. each c (omega (arith, length-values l x)) (among-or-not places c n))
+        (λ c h. each c (omega (arith, length-values l x)) (among_or_not places c n))
       where
         each : (c : ℕ) → c < l.l1 * l.l2 → Among n places c ⊎ (Among n places c → ⊥)
             → get_or (values l x) c 0 ≡ get_or (filled place content 0 n front) c 0
@@ -144,7 +144,7 @@ module _ (l : Layout) (ns y x row : List ℕ) (cells : Cells) (n : ℕ) (places 
         ap (λ (v : ℕ). v % 2 ^ l.nc) (given-check i few) ∙ mod-eq_of_lt (check-low i) ∙ sum
         in
         let all : n ≡ n - 0 = omega arith in
-        h i (omega arith) ∙ ap (λ (v : ℕ). bit_xor v f) number ∙ other-summand b f
+        h i (omega arith) ∙ ap (λ (v : ℕ). bit_xor v f) number ∙ other_summand b f
         ∙ ap (brought l.nc i place content 0) all
 
     -- the erased chunks put in, the row is in hand
@@ -154,7 +154,7 @@ module _ (l : Layout) (ns y x row : List ℕ) (cells : Cells) (n : ℕ) (places 
         ⊎_elim
         (λ a. rw (sym a.1.1) (sym (p.there a.0 a.1.0 ∙ h a.0 a.1.0)))
         (λ other. kept c low other ∙ sym (p.elsewhere c other ∙ clears.elsewhere c other))
-        (among-or-not places c n)
+        (among_or_not places c n)
 
     -- the contents that the checks leave
     pub solved : (s found exit : List ℕ) → n ≤ l.r → Missing l n ns front s

@@ -11,7 +11,7 @@ use lib.ListN.{length, get_or, set}
 use lib.Seq.{get_or-set_same, get_or-set_other}
 use Rattle.message.specs.Layout.{legal}
 use Rattle.message.specs.declared.Layout.{Layout}
-use Rattle.message.proofs.Legal.{legal-bounds}
+use Rattle.message.proofs.Legal.{legal_bounds}
 use Rattle.erasures.specs.Erasures.{weight}
 use Rattle.cells.specs.Cells.{Open, OpenAt, chunk_of, SameBut}
 use Rattle.cells.specs.declared.Cells.{Cells}
@@ -22,16 +22,16 @@ use Rattle.recover.proofs.Weights.{weight-next, weight-some}
 
 -- a row with checks has no more chunks than the field has places
 pub few-chunks : (l : Layout) → legal l ≡ true → 0 < l.r → l.l1 * l.l2 ≤ 2 ^ l.nc - 1
-few-chunks l e = (legal-bounds l e).field
+few-chunks l e = (legal_bounds l e).field
 
 -- ---- a place among others
 -- a place is among the first n or not
-pub among-or-not : (places : List ℕ) (p n : ℕ) → Among n places p ⊎ (Among n places p → ⊥)
-among-or-not places p zero = inr (λ a. omega (arith, a.1.0))
-among-or-not places p (suc n) =
+pub among_or_not : (places : List ℕ) (p n : ℕ) → Among n places p ⊎ (Among n places p → ⊥)
+among_or_not places p zero = inr (λ a. omega (arith, a.1.0))
+among_or_not places p (suc n) =
     ⊎_elim (λ a. inl (a.0, (omega (arith, a.1.0), a.1.1)))
     (λ none. ⊎_elim (λ e. inl (n, (omega arith, e))) (λ other. inr (last none other)) (same_or_not (get_or places n 0) p))
-    (among-or-not places p n)
+    (among_or_not places p n)
   where
     last : (Among n places p → ⊥) → (get_or places n 0 ≡ p → ⊥) → Among (suc n) places p → ⊥
     last none other a =
@@ -41,21 +41,21 @@ among-or-not places p (suc n) =
 
 -- a place added at the end stands there, and the first n stay
 module _ (n : ℕ) (places : List ℕ) (p : ℕ) (room : n < length places) where
-  pub added-same : get_or (set places n p) n 0 ≡ p
-  added-same = get_or-set_same places n p 0 room
+  pub added_same : get_or (set places n p) n 0 ≡ p
+  added_same = get_or-set_same places n p 0 room
 
-  pub added-other : (w : ℕ) → w < n → get_or (set places n p) w 0 ≡ get_or places w 0
-  added-other w h = get_or-set_other places n w p 0 (λ e. omega arith)
+  pub added_other : (w : ℕ) → w < n → get_or (set places n p) w 0 ≡ get_or places w 0
+  added_other w h = get_or-set_other places n w p 0 (λ e. omega arith)
 
   among-added : (q : ℕ) → Among n places q → Among (n + 1) (set places n p) q
-  among-added q a = (a.0, (omega (arith, a.1.0), added-other a.0 a.1.0 ∙ a.1.1))
+  among-added q a = (a.0, (omega (arith, a.1.0), added_other a.0 a.1.0 ∙ a.1.1))
 
   -- what holds of each of the first n places, and of the new one, holds of each afterwards
   each-added : (P : ℕ → ℕ → Type 0) → ((w : ℕ) → w < n → P w (get_or places w 0)) → P n p
       → (w : ℕ) → w < n + 1 → P w (get_or (set places n p) w 0)
   each-added P all new w h =
-      ⊎_elim (λ e. rw e (subst (P n) (sym added-same) new))
-      (λ d. let l : w < n = omega arith in rw (added-other w l) (all w l)) (same_or_not w n)
+      ⊎_elim (λ e. rw e (subst (P n) (sym added_same) new))
+      (λ d. let l : w < n = omega arith in rw (added_other w l) (all w l)) (same_or_not w n)
 
   -- a new place in the row is another
   spots-added : (size : ℕ) → p < size → (Among n places p → ⊥) → Spots n size places → Spots (n + 1) size (set places n p)
@@ -73,8 +73,8 @@ module _ (n : ℕ) (places : List ℕ) (p : ℕ) (room : n < length places) wher
 
 -- ---- the places of the open cells
 module _ (l : Layout) (cells : Cells) where
-  pub collected-none : (places : List ℕ) → Collected l cells 0 0 places
-  collected-none places =
+  pub collected_none : (places : List ℕ) → Collected l cells 0 0 places
+  collected_none places =
       record {
         few = omega arith;
         no_more = omega arith;
@@ -84,10 +84,10 @@ module _ (l : Layout) (cells : Cells) where
       }
 
   -- the next cell when its place is there already, if it is open
-  pub collected-same : (z n : ℕ) (places : List ℕ) → z < length cells.lost
+  pub collected_same : (z n : ℕ) (places : List ℕ) → z < length cells.lost
       → (Open cells z → Among n places (chunk_of l cells z))
       → Collected l cells z n places → Collected l cells (z + 1) n places
-  collected-same z n places low h k =
+  collected_same z n places low h k =
       record {
         few = omega (arith, k.few);
         no_more = omega (arith, k.no_more, weight-next cells.lost z low);
@@ -100,10 +100,10 @@ module _ (l : Layout) (cells : Cells) where
       }
 
   -- the next cell when its place is new
-  pub collected-new : (z n p : ℕ) (places : List ℕ) → z < length cells.lost → Open cells z → n < length places
+  pub collected_new : (z n p : ℕ) (places : List ℕ) → z < length cells.lost → Open cells z → n < length places
       → p ≡ chunk_of l cells z → p < l.l1 * l.l2 → (Among n places p → ⊥) → Collected l cells z n places
       → Collected l cells (z + 1) (n + 1) (set places n p)
-  collected-new z n p places last unfound room is low new k =
+  collected_new z n p places last unfound room is low new k =
       let own =
       rw (ne_eqb (get_or cells.lost z 0) 0 (λ e. absurd (omega (arith, unfound.1)))) at (weight-next cells.lost z last)
       in
@@ -112,7 +112,7 @@ module _ (l : Layout) (cells : Cells) where
         no_more = omega (arith, k.no_more, own);
         spots = spots-added n places p room (l.l1 * l.l2) low new k.spots;
         all = λ w g o. ⊎_elim
-            (λ e. rw e (n, (omega arith, added-same n places p room ∙ is)))
+            (λ e. rw e (n, (omega arith, added_same n places p room ∙ is)))
             (λ d. among-added n places p room (chunk_of l cells w) (k.all w (omega arith) o))
             (same_or_not w z);
         only = each-added n places p room
@@ -121,17 +121,17 @@ module _ (l : Layout) (cells : Cells) where
       }
 
   -- where a cell is open there is a place
-  pub collected-some : (n : ℕ) (places : List ℕ) → length cells.lost ≡ 12 → Collected l cells 12 n places
+  pub collected_some : (n : ℕ) (places : List ℕ) → length cells.lost ≡ 12 → Collected l cells 12 n places
       → 0 < weight cells.lost → 0 < n
-  collected-some n places size k h =
+  collected_some n places size k h =
       let q = weight-some cells.lost h in
       let low : q.0 < 12 = omega (arith, q.1.0) in
       omega (arith, (k.all q.0 low (low, q.1.1)).1.0)
 
   -- and the places are those of open cells
-  pub collected-open : (n : ℕ) (places : List ℕ) → OpenInside l cells → Collected l cells 12 n places
+  pub collected_open : (n : ℕ) (places : List ℕ) → OpenInside l cells → Collected l cells 12 n places
       → (i c : ℕ) → i < l.l1 → c < l.l2 → ErasedAt l n places i c → OpenAt cells i c
-  collected-open n places inside k i c h g a =
+  collected_open n places inside k i c h g a =
       let o = k.only a.0 a.1.0 in
       let z = o.0 in
       let p = one_chunk l.l2 (get_or cells.block z 0) (get_or cells.column z 0) i c (inside z o.1.1.0).1 g
@@ -168,5 +168,5 @@ put_same {l} {n} {places} p q =
     record {
       at = λ i c h g.
           ⊎_elim inl (λ none. inr (q.elsewhere (i * l.l2 + c) none ∙ p.elsewhere (i * l.l2 + c) none))
-          (among-or-not places (i * l.l2 + c) n);
+          (among_or_not places (i * l.l2 + c) n);
     }

@@ -26,6 +26,6 @@ abbrev pub Check : Type 0
 Check = ℕ × Bool
 
 -- the number of the first check whose condition holds; 0 where none does
-unfoldable pub firstRefusal : List Check → ℕ
-firstRefusal [] = 0
-firstRefusal (c ∷ cs) = cond c.1 c.0 (firstRefusal cs)
+unfoldable pub first_refusal : List Check → ℕ
+first_refusal [] = 0
+first_refusal (c ∷ cs) = cond c.1 c.0 (first_refusal cs)

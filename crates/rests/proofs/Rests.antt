@@ -13,7 +13,7 @@ use lib.Seq.{get_or-set_same, get_or-set_other}
 use Rattle.message.specs.Layout.{legal}
 use Rattle.message.specs.declared.Layout.{Layout}
 use Rattle.message.proofs.Fields.{field_room}
-use Rattle.message.proofs.Legal.{legal-bounds}
+use Rattle.message.proofs.Legal.{legal_bounds}
 use Rattle.column.specs.Column.{Crosses, value_at}
 use Rattle.column.specs.declared.Heavy.{Heavy}
 use Rattle.column.proofs.Rows.{crosses-readable}
@@ -21,17 +21,17 @@ use Rattle.marks.specs.Marks.{Path}
 use Rattle.marks.proofs.Paths.{path-most}
 use Rattle.residues.specs.Residues.{Has}
 use Rattle.states.specs.States.{lefts, each}
-use Rattle.sums.specs.Sums.{Short, blockModulus, rest, rest_at, HoldsFrom}
+use Rattle.sums.specs.Sums.{Short, block_modulus, rest, rest_at, HoldsFrom}
 use Rattle.sums.proofs.Rest.{rest-next, rest_end}
 use Rattle.rests.specs.Rests.{ShortChunk, CanBe, Brings, Filled, FilledColumn}
 
 -- the blocks of a short layout have at most twenty chunks
-pub short-columns : (l : Layout) → legal l ≡ true → Short l → l.l2 ≤ 20
-short-columns l e short = omega (arith, short.blocks, mul-le-mul_left l.l2 (legal-bounds l e).nc-low)
+pub short_columns : (l : Layout) → legal l ≡ true → Short l → l.l2 ≤ 20
+short_columns l e short = omega (arith, short.blocks, mul-le-mul_left l.l2 (legal_bounds l e).nc_low)
 
 -- where the first position of a chunk stands in its block
 pub record Low (l : Layout) (c : ℕ) : Type 0 where
-  pub nc-high : l.nc ≤ 8
+  pub nc_high : l.nc ≤ 8
   pub column : c < 20
   pub modulus : l.l2 * l.nc ≤ 62
   pub first : c * l.nc ≤ 62
@@ -39,10 +39,10 @@ pub record Low (l : Layout) (c : ℕ) : Type 0 where
 pub short-low : {l : Layout} {y : List ℕ} {block c : ℕ} → ShortChunk l y block c → Low l c
 short-low {l} {c = c} s =
     record {
-      nc-high = (legal-bounds l s.allowed).nc-high;
-      column = omega (arith, short-columns l s.allowed s.is-short, s.column);
-      modulus = s.is-short.blocks;
-      first = omega (arith, field_room l.l2 l.nc c s.column, s.is-short.blocks);
+      nc_high = (legal_bounds l s.allowed).nc_high;
+      column = omega (arith, short_columns l s.allowed s.is_short, s.column);
+      modulus = s.is_short.blocks;
+      first = omega (arith, field_room l.l2 l.nc c s.column, s.is_short.blocks);
     }
 
 module _ (l : Layout) (y : List ℕ) (block end c s : ℕ) where
@@ -108,17 +108,17 @@ column-next l y heavy size c n entry before exit small few f b =
     }
 
 -- what the chunk of a heavy block is in a row that crosses its column
-pub can-be : {l : Layout} {y numbers : List ℕ} {heavy : Heavy} {row : List ℕ} {c : ℕ} {left next : ℕ → ℕ} {vs : List ℕ}
+pub can_be : {l : Layout} {y numbers : List ℕ} {heavy : Heavy} {row : List ℕ} {c : ℕ} {left next : ℕ → ℕ} {vs : List ℕ}
     → Crosses l y numbers heavy row c left next vs → (s : ℕ) → s < heavy.n
     → CanBe l y (get_or heavy.block s 0) (get_or heavy.end s 0) c (left s) (next s) (value_at l heavy vs c s)
-can-be x s h = record { readable = crosses-readable x s h; small = x.small s h; loses = x.loses s h }
+can_be x s h = record { readable = crosses-readable x s h; small = x.small s h; loses = x.loses s h }
 
 -- ---- the table of all columns
 module _ (l : Layout) (y numbers : List ℕ) (heavy : Heavy) (row size vs : List ℕ) (own : ℕ → ℕ → ℕ)
     (path : Path l y numbers heavy row (each size) vs own) where
   -- behind the last column nothing is left, and nothing is brought
   pub end-holds : (rests : List ℕ)
-      → ((s : ℕ) → s < heavy.n → Has (blockModulus l) (get_or rests (rest_at l.l2 s 0) 0) 0)
+      → ((s : ℕ) → s < heavy.n → Has (block_modulus l) (get_or rests (rest_at l.l2 s 0) 0) 0)
       → HoldsFrom l heavy rests vs own l.l2
   end-holds rests none short c s low high h =
       let e : c ≡ l.l2 = omega (arith, low, high) in
@@ -129,16 +129,16 @@ module _ (l : Layout) (y numbers : List ℕ) (heavy : Heavy) (row size vs : List
       → HoldsFrom l heavy entry vs own (c + 1) → HoldsFrom l heavy exit vs own c
   column-holds c entry exit inside f holds short k s low high h = go (ℕ_discrete k c)
     where
-      here : Has (blockModulus l) (get_or exit (rest_at c s (own c s)) 0) (rest l heavy vs c s)
+      here : Has (block_modulus l) (get_or exit (rest_at c s (own c s)) 0) (rest l heavy vs c s)
       here =
-          subst (λ (r : ℕ). Has (blockModulus l) (get_or exit (rest_at c s (own c s)) 0) r)
+          subst (λ (r : ℕ). Has (block_modulus l) (get_or exit (rest_at c s (own c s)) 0) r)
           (sym (rest-next l heavy vs s c inside))
           (f.put s (own c s) (own (c + 1) s) h (path-most path c s (omega (arith, inside)) h)
           ((path.crosses c inside).falls s h) (value_at l heavy vs c s) (rest l heavy vs (c + 1) s)
-          (can-be (path.crosses c inside) s h)
+          (can_be (path.crosses c inside) s h)
           (holds short (c + 1) s (omega arith) (omega (arith, inside)) h))
 
-      go : Dec (k ≡ c) → Has (blockModulus l) (get_or exit (rest_at k s (own k s)) 0) (rest l heavy vs k s)
+      go : Dec (k ≡ c) → Has (block_modulus l) (get_or exit (rest_at k s (own k s)) 0) (rest l heavy vs k s)
       go (yes e) = rw e here
       go (no e) =
           let above : c + 1 ≤ k = omega (arith, e, low) in

@@ -10,12 +10,12 @@ use Rattle.residues.specs.Residues.{Has}
 use Rattle.states.specs.States.{lefts, each, entry_at}
 use Rattle.column.specs.Column.{Readable, start_at}
 use Rattle.column.specs.declared.Heavy.{Heavy}
-use Rattle.sums.specs.Sums.{Short, blockModulus, rest_at}
+use Rattle.sums.specs.Sums.{Short, block_modulus, rest_at}
 
 -- a received row, and a chunk of a block of a short layout
 pub record ShortChunk (l : Layout) (y : List ℕ) (block c : ℕ) : Type 0 where
   pub allowed : legal l ≡ true
-  pub is-short : Short l
+  pub is_short : Short l
   pub received : length y ≤ longest
   pub inside : block < l.l1
   pub column : c < l.l2
@@ -29,8 +29,8 @@ pub record CanBe (l : Layout) (y : List ℕ) (block end c left next v : ℕ) : T
 -- the set exit holds what such a chunk brings with what the chunks behind it bring, which the set entry holds
 abbrev pub Brings : Layout → (y : List ℕ) (block end c left next entry exit : ℕ) → Type 0
 Brings l y block end c left next entry exit =
-    (v n : ℕ) → CanBe l y block end c left next v → Has (blockModulus l) entry n
-    → Has (blockModulus l) exit (n + total (c * l.nc + 1) (digits l.nc v))
+    (v n : ℕ) → CanBe l y block end c left next v → Has (block_modulus l) entry n
+    → Has (block_modulus l) exit (n + total (c * l.nc + 1) (digits l.nc v))
 
 -- the entries of heavy block s in column c are filled for the first n numbers of losses, and all others stay
 pub record Filled (l : Layout) (y : List ℕ) (block end c s n : ℕ) (entry exit : List ℕ) : Type 0 where
@@ -51,8 +51,8 @@ pub record FilledColumn (l : Layout) (y : List ℕ) (heavy : Heavy) (size : List
 -- P holds where a chunk can be left with so many losses: what it brings with those behind it is in a set
 abbrev pub Where : Layout → (y : List ℕ) (block end c left set behind next : ℕ) (P : Type 0) → Type 0
 Where l y block end c left set behind next P =
-    (v n : ℕ) → CanBe l y block end c left next v → Has (blockModulus l) behind n
-    → Has (blockModulus l) set (n + total (c * l.nc + 1) (digits l.nc v)) → P
+    (v n : ℕ) → CanBe l y block end c left next v → Has (block_modulus l) behind n
+    → Has (block_modulus l) set (n + total (c * l.nc + 1) (digits l.nc v)) → P
 
 -- of the first n numbers of losses those are marked with which heavy block s can leave column c, where it has so many left
 -- at its start and what it is to bring from there on is in a set; and marks stay

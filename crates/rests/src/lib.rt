@@ -5,7 +5,7 @@ ghost use Rattle.residues.specs.Residues.{Has};
 ghost use Rattle.states.specs.States.{lefts, each, entries, entry_at};
 ghost use Rattle.column.specs.Column.{Fit, Crosses};
 ghost use Rattle.marks.specs.Marks.{Path};
-ghost use Rattle.sums.specs.Sums.{Short, blockModulus, rest, Holds, HoldsFrom, rest_at};
+ghost use Rattle.sums.specs.Sums.{Short, block_modulus, rest, Holds, HoldsFrom, rest_at};
 ghost use Rattle.rests.specs.Rests.{ShortChunk, Brings, Filled, FilledColumn, Marked};
 
 use column::Heavy;
@@ -192,7 +192,7 @@ pub fn exits(
     ensures { (row vs : List ℕ) (next : ℕ → ℕ) → Crosses l y.now numbers.now heavy row c (each left) next vs
         → Holds l heavy sets vs c
         → (Short l → (s : ℕ) → s < heavy.n
-        → Has (blockModulus l) (get_or rests.now (rest_at (c + 1) s (next s)) 0) (rest l heavy vs (c + 1) s))
+        → Has (block_modulus l) (get_or rests.now (rest_at (c + 1) s (next s)) 0) (rest l heavy vs (c + 1) s))
         → (s : ℕ) → s < heavy.n → 0 < get_or result (entry_at s (next s)) 0 }
 {
     if !sums::is_short(l) {

@@ -1,11 +1,11 @@
 // The program rowlist: reads a message, a bit count and a row from standard input, lists the rows that are consistent with them, and
 // prints their number and each row in hexadecimal, or the number of a refusal. Contracts cite specs/Output.antt.
 ghost use Rattle.std.specs.Prelude.{◌≡◌, ◌≤◌, length};
-ghost use Rattle.bits.specs.Bits.{bytesFor};
+ghost use Rattle.bits.specs.Bits.{bytes_for};
 ghost use Rattle.io.specs.Counts.{IsPrefixLen};
 ghost use Rattle.consistent.specs.Consistent.{bits_of};
 ghost use Rattle.rowtext.specs.Text.{Put};
-ghost use Rattle.rowlist.specs.Output.{longestText, printed};
+ghost use Rattle.rowlist.specs.Output.{longest_text, printed};
 
 use lister::Listed;
 
@@ -17,7 +17,7 @@ const LONGEST_TEXT: usize = 12300;
 
 // The bytes of a row under the layout that the message names.
 fn row_bytes(msg: &[u8]) -> usize
-    ensures { result ≡ bytesFor (bits_of msg.now) }
+    ensures { result ≡ bytes_for (bits_of msg.now) }
 {
     if msg.len() < 8 {
         return 0;
@@ -28,7 +28,7 @@ fn row_bytes(msg: &[u8]) -> usize
 
 // Puts what is to be printed for the input at the start of a slice, and answers its length.
 fn respond(input: &[u8], out: &mut [u8]) -> usize
-    requires { longestText ≤ length out.old }
+    requires { longest_text ≤ length out.old }
     ensures { Put (printed input.now) 0 out.old out.new result
         × IsPrefixLen result out.new }
 {

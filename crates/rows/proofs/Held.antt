@@ -13,13 +13,13 @@ use lib.Seq.{take_all, take_at, take-take}
 use Rattle.rows.specs.Held.{Held, none, insert, union, add, WellHeld, Known}
 use Rattle.rows.specs.Order.{Less, by_order, order, Mem, Before, After, Ascending, Row}
 use Rattle.rows.specs.Rows.{all_rows, keep}
-use Rattle.rows.proofs.Order.{less-trans, Compared, compared, answer, mem-before, mem-left, mem-right, mem-append, same-members, rows-ascending, keep-ascending, keep-complete, keep-sound}
+use Rattle.rows.proofs.Order.{less_trans, Compared, compared, answer, mem_before, mem_left, mem_right, mem_append, same_members, rows-ascending, keep-ascending, keep_complete, keep-sound}
 
 -- ---- one row put in
-pub insert-mem : (z x : List ℕ) (ys : List (List ℕ)) → Mem z (x ∷ ys) → Mem z (insert x ys)
+pub insert_mem : (z x : List ℕ) (ys : List (List ℕ)) → Mem z (x ∷ ys) → Mem z (insert x ys)
 unfolding insert
-insert-mem z x [] m = m
-insert-mem z x (y ∷ ys) m = go (order x y) (compared x y) m (insert-mem z x ys)
+insert_mem z x [] m = m
+insert_mem z x (y ∷ ys) m = go (order x y) (compared x y) m (insert_mem z x ys)
   where
     go : (o : Ordering) → Compared x y o → Mem z (x ∷ (y ∷ ys)) → (Mem z (x ∷ ys) → Mem z (insert x ys))
         → Mem z (by_order o (x ∷ (y ∷ ys)) (y ∷ ys) (y ∷ insert x ys))
@@ -54,7 +54,7 @@ before-insert a x (y ∷ ys) h p = go (order x y) (before-insert a x ys h p.1)
 
 before-less : (x y : List ℕ) (ys : List (List ℕ)) → Less x y → Before y ys → Before x ys
 before-less x y [] h p = tt
-before-less x y (z ∷ zs) h p = (less-trans x y z h p.0, before-less x y zs h p.1)
+before-less x y (z ∷ zs) h p = (less_trans x y z h p.0, before-less x y zs h p.1)
 
 pub insert-ascending : (x : List ℕ) (ys : List (List ℕ)) → Ascending ys → Ascending (insert x ys)
 unfolding insert
@@ -97,11 +97,11 @@ insert-take (suc c) x (y ∷ ys) = go (order x y) (insert-take c x ys)
     go Ordering.gt r = ap (λ (m : List (List ℕ)). y ∷ m) r
 
 -- a row that is there already
-pub insert-held : (x : List ℕ) (ys : List (List ℕ)) → Ascending ys → Mem x ys → insert x ys ≡ ys
-insert-held x ys a m =
-    same-members (insert x ys) ys (insert-ascending x ys a) a
+pub insert_held : (x : List ℕ) (ys : List (List ℕ)) → Ascending ys → Mem x ys → insert x ys ≡ ys
+insert_held x ys a m =
+    same_members (insert x ys) ys (insert-ascending x ys a) a
     (λ z p. ⊎_elim (λ e. subst (λ (v : List ℕ). Mem v ys) (sym e) m) (λ q. q) (insert-only z x ys p))
-    (λ z p. insert-mem z x ys (inr p))
+    (λ z p. insert_mem z x ys (inr p))
 
 -- a row that comes after all
 pub insert-last : (x : List ℕ) (ys : List (List ℕ)) → After ys x → insert x ys ≡ ys ++ (x ∷ [])
@@ -111,13 +111,13 @@ insert-last x (y ∷ ys) a =
     rw (answer x y Ordering.gt a.0) (ap (λ (l : List (List ℕ)). y ∷ l) (insert-last x ys a.1))
 
 -- ---- the ordered union
-pub union-mem : (z : List ℕ) (ys xs : List (List ℕ)) → Mem z ys ⊎ Mem z xs → Mem z (union ys xs)
+pub union_mem : (z : List ℕ) (ys xs : List (List ℕ)) → Mem z ys ⊎ Mem z xs → Mem z (union ys xs)
 unfolding union
-union-mem z ys [] (inl m) = m
-union-mem z ys [] (inr m) = absurd m
-union-mem z ys (x ∷ xs) (inl m) = union-mem z (insert x ys) xs (inl (insert-mem z x ys (inr m)))
-union-mem z ys (x ∷ xs) (inr (inl e)) = union-mem z (insert x ys) xs (inl (insert-mem z x ys (inl e)))
-union-mem z ys (x ∷ xs) (inr (inr m)) = union-mem z (insert x ys) xs (inr m)
+union_mem z ys [] (inl m) = m
+union_mem z ys [] (inr m) = absurd m
+union_mem z ys (x ∷ xs) (inl m) = union_mem z (insert x ys) xs (inl (insert_mem z x ys (inr m)))
+union_mem z ys (x ∷ xs) (inr (inl e)) = union_mem z (insert x ys) xs (inl (insert_mem z x ys (inl e)))
+union_mem z ys (x ∷ xs) (inr (inr m)) = union_mem z (insert x ys) xs (inr m)
 
 pub union-only : (z : List ℕ) (ys xs : List (List ℕ)) → Mem z (union ys xs) → Mem z ys ⊎ Mem z xs
 unfolding union
@@ -158,25 +158,25 @@ union-take c ys (x ∷ xs) =
 pub union-same : (ys a b : List (List ℕ)) → Ascending ys → ((z : List ℕ) → Mem z a → Mem z ys ⊎ Mem z b)
     → ((z : List ℕ) → Mem z b → Mem z ys ⊎ Mem z a) → union ys a ≡ union ys b
 union-same ys a b asc f g =
-    same-members (union ys a) (union ys b) (union-ascending ys a asc) (union-ascending ys b asc) (half a b f) (half b a g)
+    same_members (union ys a) (union ys b) (union-ascending ys a asc) (union-ascending ys b asc) (half a b f) (half b a g)
   where
     half : (c d : List (List ℕ)) → ((z : List ℕ) → Mem z c → Mem z ys ⊎ Mem z d) → (z : List ℕ) → Mem z (union ys c)
         → Mem z (union ys d)
-    half c d k z m = union-mem z ys d (⊎_elim (λ p. inl p) (k z) (union-only z ys c m))
+    half c d k z m = union_mem z ys d (⊎_elim (λ p. inl p) (k z) (union-only z ys c m))
 
 -- an ascending list is the union of its members
 pub union-none : (xs : List (List ℕ)) → Ascending xs → union [] xs ≡ xs
 union-none xs a =
-    same-members (union [] xs) xs (union-ascending [] xs tt) a
+    same_members (union [] xs) xs (union-ascending [] xs tt) a
     (λ z m. ⊎_elim (λ p. absurd p) (λ p. p) (union-only z [] xs m))
-    (λ z m. union-mem z [] xs (inr m))
+    (λ z m. union_mem z [] xs (inr m))
 
 -- ---- a list cut at c
-pub take-mem : (c : ℕ) (z : List ℕ) (ys : List (List ℕ)) → Mem z (take c ys) → Mem z ys
-take-mem zero z ys m = absurd m
-take-mem (suc c) z [] m = absurd m
-take-mem (suc c) z (y ∷ ys) (inl e) = inl e
-take-mem (suc c) z (y ∷ ys) (inr m) = inr (take-mem c z ys m)
+pub take_mem : (c : ℕ) (z : List ℕ) (ys : List (List ℕ)) → Mem z (take c ys) → Mem z ys
+take_mem zero z ys m = absurd m
+take_mem (suc c) z [] m = absurd m
+take_mem (suc c) z (y ∷ ys) (inl e) = inl e
+take_mem (suc c) z (y ∷ ys) (inr m) = inr (take_mem c z ys m)
 
 before-take : (c : ℕ) (x : List ℕ) (ys : List (List ℕ)) → Before x ys → Before x (take c ys)
 before-take zero x ys b = tt
@@ -197,7 +197,7 @@ take_rest (suc c) z (y ∷ ys) a (inl e) = inl (inl e)
 take_rest (suc c) z (y ∷ ys) a (inr m) =
     ⊎_elim
     (λ p. inl (inr p))
-    (λ q. inr ((mem-before y z ys a.0 m, q.0), omega (arith, q.1)))
+    (λ q. inr ((mem_before y z ys a.0 m, q.0), omega (arith, q.1)))
     (take_rest c z ys a.1 m)
 
 -- ---- adding
@@ -205,16 +205,16 @@ take_rest (suc c) z (y ∷ ys) a (inr m) =
 abbrev Clip : ℕ → Bool → List (List ℕ) → Held
 Clip cap m u = record { rows = take cap u; more = m || ltb cap (length u) }
 
-held-path : (g h : Held) → g.rows ≡ h.rows → g.more ≡ h.more → g ≡ h
-held-path g h p q = λ i. record { rows = p i; more = q i }
+held_path : (g h : Held) → g.rows ≡ h.rows → g.more ≡ h.more → g ≡ h
+held_path g h p q = λ i. record { rows = p i; more = q i }
 
-pub or-true : (b : Bool) → b || true ≡ true
-or-true true = refl
-or-true false = refl
+pub or_true : (b : Bool) → b || true ≡ true
+or_true true = refl
+or_true false = refl
 
-pub or-false : (b : Bool) → b || false ≡ b
-or-false true = refl
-or-false false = refl
+pub or_false : (b : Bool) → b || false ≡ b
+or_false true = refl
+or_false false = refl
 
 more-more : (cap : ℕ) (m : Bool) (u b : List (List ℕ))
     → (m || ltb cap (length u)) || ltb cap (length (union (take cap u) b)) ≡ m || ltb cap (length (union u b))
@@ -234,7 +234,7 @@ pub add-add : (cap : ℕ) (h : Held) (a b : List (List ℕ)) → add cap (add ca
 unfolding add
 add-add cap h a b =
     let u = union h.rows a in
-    held-path (Clip cap (h.more || ltb cap (length u)) (union (take cap u) b)) (Clip cap h.more (union u b))
+    held_path (Clip cap (h.more || ltb cap (length u)) (union (take cap u) b)) (Clip cap h.more (union u b))
     (union-take cap u b) (more-more cap h.more u b)
     ∙ ap (Clip cap h.more) (union-union h.rows a b)
 
@@ -261,39 +261,39 @@ none-well cap n f =
     record { each = λ x m. absurd m; ascending = tt; at_most = omega arith; full = λ e. absurd (false≢true e) }
 
 -- only the members of what is added count, beside those held
-pub add-members : (cap : ℕ) (h : Held) (a b : List (List ℕ)) → Ascending h.rows
+pub add_members : (cap : ℕ) (h : Held) (a b : List (List ℕ)) → Ascending h.rows
     → ((z : List ℕ) → Mem z a → Mem z h.rows ⊎ Mem z b) → ((z : List ℕ) → Mem z b → Mem z h.rows ⊎ Mem z a)
     → add cap h a ≡ add cap h b
 unfolding add
-add-members cap h a b asc f g = ap (Clip cap h.more) (union-same h.rows a b asc f g)
+add_members cap h a b asc f g = ap (Clip cap h.more) (union-same h.rows a b asc f g)
 
 -- what was added is known afterwards
-pub known-added : (cap : ℕ) (h : Held) (a : List (List ℕ)) (x : List ℕ) → Ascending h.rows → Mem x h.rows ⊎ Mem x a
+pub known_added : (cap : ℕ) (h : Held) (a : List (List ℕ)) (x : List ℕ) → Ascending h.rows → Mem x h.rows ⊎ Mem x a
     → Known (add cap h a) x
 unfolding add
-known-added cap h a x asc m =
+known_added cap h a x asc m =
     let u = union h.rows a in
     ⊎_elim
     (λ p. inl p)
-    (λ q. inr (ap (λ (t : Bool). h.more || t) (lt-ltb cap (length u) q.1) ∙ or-true h.more, q.0))
-    (take_rest cap x u (union-ascending h.rows a asc) (union-mem x h.rows a m))
+    (λ q. inr (ap (λ (t : Bool). h.more || t) (lt-ltb cap (length u) q.1) ∙ or_true h.more, q.0))
+    (take_rest cap x u (union-ascending h.rows a asc) (union_mem x h.rows a m))
 
 module _ {cap n : ℕ} {f : List ℕ → Bool} {h : Held} (w : WellHeld cap n f h) where
   -- adding nothing changes nothing
   pub add_none : add cap h [] ≡ h
   unfolding add union
   add_none =
-      held-path (Clip cap h.more h.rows) h (take_all cap h.rows w.at_most)
-      (ap (λ (t : Bool). h.more || t) (le-ltb cap (length h.rows) w.at_most) ∙ or-false h.more)
+      held_path (Clip cap h.more h.rows) h (take_all cap h.rows w.at_most)
+      (ap (λ (t : Bool). h.more || t) (le-ltb cap (length h.rows) w.at_most) ∙ or_false h.more)
 
   one-held : (x : List ℕ) → Mem x h.rows → add cap h (x ∷ []) ≡ h
   unfolding add union
-  one-held x m = ap (Clip cap h.more) (insert-held x h.rows w.ascending m) ∙ add_none
+  one-held x m = ap (Clip cap h.more) (insert_held x h.rows w.ascending m) ∙ add_none
 
   one-after : (x : List ℕ) → h.more ≡ true → After h.rows x → add cap h (x ∷ []) ≡ h
   unfolding add union
   one-after x e a =
-      held-path (Clip cap h.more (insert x h.rows)) h
+      held_path (Clip cap h.more (insert x h.rows)) h
       (ap (take cap) (insert-last x h.rows a) ∙ take_at h.rows (x ∷ []) cap (w.full e))
       (ap (λ (t : Bool). t || ltb cap (length (insert x h.rows))) e ∙ sym e)
 
@@ -310,14 +310,14 @@ module _ {cap n : ℕ} {f : List ℕ → Bool} {h : Held} (w : WellHeld cap n f 
       let one : add cap h (x ∷ []) ≡ h =
       add-known (x ∷ []) (λ z m. ⊎_elim (λ e. subst (λ (v : List ℕ). Known h v) (sym e) k) (λ p. absurd p) m) in
       let both : add cap h (x ∷ a) ≡ add cap h a = sym (add-add cap h (x ∷ []) a) ∙ ap (λ (g : Held). add cap g a) one in
-      subst (λ (g : Held). Known g x) both (known-added cap h (x ∷ a) x w.ascending (inr (inl refl)))
+      subst (λ (g : Held). Known g x) both (known_added cap h (x ∷ a) x w.ascending (inr (inl refl)))
 
   -- the rows kept by an "or" are the rows kept by the one test and those kept by the other
-  pub add-or : (f g : List ℕ → Bool) (xs : List (List ℕ))
+  pub add_or : (f g : List ℕ → Bool) (xs : List (List ℕ))
       → add cap (add cap h (keep f xs)) (keep g xs) ≡ add cap h (keep (λ (x : List ℕ). f x || g x) xs)
-  add-or f g xs =
+  add_or f g xs =
       add-add cap h (keep f xs) (keep g xs)
-      ∙ add-members cap h (keep f xs ++ keep g xs) (keep (λ (x : List ℕ). f x || g x) xs) w.ascending there back
+      ∙ add_members cap h (keep f xs ++ keep g xs) (keep (λ (x : List ℕ). f x || g x) xs) w.ascending there back
     where
       there : (z : List ℕ) → Mem z (keep f xs ++ keep g xs)
           → Mem z h.rows ⊎ Mem z (keep (λ (x : List ℕ). f x || g x) xs)
@@ -325,15 +325,15 @@ module _ {cap n : ℕ} {f : List ℕ → Bool} {h : Held} (w : WellHeld cap n f 
           inr
           (⊎_elim
           (λ p. let k = keep-sound f z xs p in
-          keep-complete (λ (x : List ℕ). f x || g x) z xs k.0 (ap (λ (t : Bool). t || g z) k.1))
+          keep_complete (λ (x : List ℕ). f x || g x) z xs k.0 (ap (λ (t : Bool). t || g z) k.1))
           (λ p. let k = keep-sound g z xs p in
-          keep-complete (λ (x : List ℕ). f x || g x) z xs k.0 (ap (λ (t : Bool). f z || t) k.1 ∙ or-true (f z)))
-          (mem-append z (keep f xs) (keep g xs) m))
+          keep_complete (λ (x : List ℕ). f x || g x) z xs k.0 (ap (λ (t : Bool). f z || t) k.1 ∙ or_true (f z)))
+          (mem_append z (keep f xs) (keep g xs) m))
 
       one_of : (z : List ℕ) (t : Bool) → f z ≡ t → f z || g z ≡ true → Mem z xs → Mem z (keep f xs ++ keep g xs)
-      one_of z true e q m = mem-left z (keep f xs) (keep g xs) (keep-complete f z xs m e)
+      one_of z true e q m = mem_left z (keep f xs) (keep g xs) (keep_complete f z xs m e)
       one_of z false e q m =
-          mem-right z (keep f xs) (keep g xs) (keep-complete g z xs m (ap (λ (t : Bool). t || g z) (sym e) ∙ q))
+          mem_right z (keep f xs) (keep g xs) (keep_complete g z xs m (ap (λ (t : Bool). t || g z) (sym e) ∙ q))
 
       back : (z : List ℕ) → Mem z (keep (λ (x : List ℕ). f x || g x) xs)
           → Mem z h.rows ⊎ Mem z (keep f xs ++ keep g xs)
@@ -345,7 +345,7 @@ module _ {cap n : ℕ} {f : List ℕ → Bool} {h : Held} (w : WellHeld cap n f 
   add-well a k =
       let u = union h.rows a in
       record {
-        each = λ x m. ⊎_elim (w.each x) (k x) (union-only x h.rows a (take-mem cap x u m));
+        each = λ x m. ⊎_elim (w.each x) (k x) (union-only x h.rows a (take_mem cap x u m));
         ascending = take-ascending cap u (union-ascending h.rows a w.ascending);
         at_most = simp length-take (omega arith);
         full = cut-full h.more refl;
@@ -366,6 +366,6 @@ keep_same f g (x ∷ xs) e = rw (e x (inl refl), keep_same f g xs (λ z m. e z (
 pub after_last : (ys : List (List ℕ)) (y x : List ℕ) → Ascending (ys ++ (y ∷ [])) → Less y x → After (ys ++ (y ∷ [])) x
 after_last [] y x a l = (l, tt)
 after_last (z ∷ zs) y x a l = (
-  less-trans z y x (mem-before z y (zs ++ (y ∷ [])) a.0 (mem-right y zs (y ∷ []) (inl refl))) l,
+  less_trans z y x (mem_before z y (zs ++ (y ∷ [])) a.0 (mem_right y zs (y ∷ []) (inl refl))) l,
   after_last zs y x a.1 l,
 )

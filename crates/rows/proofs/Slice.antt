@@ -12,15 +12,15 @@ use lib.Seq.{take_at, take-append-le, drop-append-le, drop_at, drop-drop, take-t
 use Rattle.bits.specs.Bits.{cut}
 use Rattle.rows.specs.Held.{Held, insert}
 use Rattle.rows.specs.Order.{Less, by_order, order, Mem, Ascending}
-use Rattle.rows.specs.Slice.{flat, heldIn, Written, place}
-use Rattle.rows.proofs.Held.{insert-held}
-use Rattle.rows.proofs.Order.{less-trans, Compared, compared, answer, ComparedN, answer-n, order_same, mem-before}
+use Rattle.rows.specs.Slice.{flat, held_in, Written, place}
+use Rattle.rows.proofs.Held.{insert_held}
+use Rattle.rows.proofs.Order.{less_trans, Compared, compared, answer, ComparedN, answer_n, order_same, mem_before}
 
 -- ---- the place of a row among ordered rows
-row-mem : (m : ℕ) (ys : List (List ℕ)) → m < length ys → Mem (get_or ys m []) ys
-row-mem m [] h = absurd (omega arith)
-row-mem zero (y ∷ ys) h = inl refl
-row-mem (suc m) (y ∷ ys) h = inr (row-mem m ys (omega arith))
+row_mem : (m : ℕ) (ys : List (List ℕ)) → m < length ys → Mem (get_or ys m []) ys
+row_mem m [] h = absurd (omega arith)
+row_mem zero (y ∷ ys) h = inl refl
+row_mem (suc m) (y ∷ ys) h = inr (row_mem m ys (omega arith))
 
 pub place-length : (x : List ℕ) (ys : List (List ℕ)) → place x ys ≤ length ys
 unfolding place
@@ -40,7 +40,7 @@ place-above x m [] a h l = absurd (omega arith)
 place-above x zero (y ∷ ys) a h l = rw l (omega arith)
 place-above x (suc m) (y ∷ ys) a h l =
     let first : Less y x =
-    less-trans y (get_or ys m []) x (mem-before y (get_or ys m []) ys a.0 (row-mem m ys (omega arith)))
+    less_trans y (get_or ys m []) x (mem_before y (get_or ys m []) ys a.0 (row_mem m ys (omega arith)))
     (subst (λ (o : Ordering). Compared (get_or ys m []) x o) l (compared (get_or ys m []) x)) in
     let r = place-above x m ys a.1 (omega arith) l in
     rw (answer y x Ordering.lt first) (omega arith)
@@ -68,7 +68,7 @@ pub insert-there : (x : List ℕ) (ys : List (List ℕ)) → Ascending ys → pl
     → order (get_or ys (place x ys) []) x ≡ Ordering.eq → insert x ys ≡ ys
 insert-there x ys a h e =
     let p : ℕ = place x ys in
-    insert-held x ys a (subst (λ (v : List ℕ). Mem v ys) (order_same (get_or ys p []) x e) (row-mem p ys h))
+    insert_held x ys a (subst (λ (v : List ℕ). Mem v ys) (order_same (get_or ys p []) x e) (row_mem p ys h))
 
 -- the row at the place of x is another, or there is none: x goes there
 pub insert-place : (x : List ℕ) (ys : List (List ℕ))
@@ -159,22 +159,22 @@ cut-flat w (x ∷ xs) s a =
 
 -- ---- what a slice holds after rows were written
 pub written_held : (w : ℕ) (h : Held) (entry exit : List ℕ) (c : ℕ) (m : Bool) → Wide w h.rows
-    → Written w h entry exit c m → heldIn w exit c m ≡ h
+    → Written w h entry exit c m → held_in w exit c m ≡ h
 written_held w h entry exit c m a r =
     let e : cut c w exit ≡ h.rows =
     ap (λ (k : ℕ). cut k w exit) r.count ∙ ap (cut (length h.rows) w) r.slice
     ∙ cut-flat w h.rows (drop (c * w) entry) a in
     λ i. record { rows = e i; more = r.more i }
 
-pub rows-le : (a b w : ℕ) → a ≤ b → a * w ≤ b * w
-rows-le a b w h = mul-le-mul_right w h
+pub rows_le : (a b w : ℕ) → a ≤ b → a * w ≤ b * w
+rows_le a b w h = mul-le-mul_right w h
 
 -- one write after another, where the rows do not become fewer
 pub written-written : (w : ℕ) (g h : Held) (entry mid exit : List ℕ) (c d : ℕ) (m o : Bool) → Wide w g.rows → c ≤ d
     → Written w g entry mid c m → Written w h mid exit d o → Written w h entry exit d o
 written-written w g h entry mid exit c d m o a le r s =
     let f : length (flat g.rows) ≡ c * w = length-flat w g.rows a ∙ ap (λ (k : ℕ). k * w) (sym r.count) in
-    let k : c * w ≤ d * w = rows-le c d w le in
+    let k : c * w ≤ d * w = rows_le c d w le in
     let e : d * w ≡ length (flat g.rows) + (d * w - c * w) = omega arith in
     let t : c * w + (d * w - c * w) ≡ d * w = omega arith in
     let b : drop (d * w) mid ≡ drop (d * w) entry =
@@ -217,7 +217,7 @@ module _ (s : List ℕ) (at : ℕ) (x : List ℕ) (i : ℕ) (fits : at + length 
   from-by o l =
       from_step
       ∙ ap (λ (p : Ordering). by_order p Ordering.lt (From s at x (i + 1)) Ordering.gt)
-      (answer-n (get_or s (at + i) 0) (get_or x i 0) o l)
+      (answer_n (get_or s (at + i) 0) (get_or x i 0) o l)
 
   pub from_less : get_or s (at + i) 0 < get_or x i 0 → From s at x i ≡ Ordering.lt
   from_less l = from-by Ordering.lt l
@@ -232,21 +232,21 @@ module _ (s : List ℕ) (at : ℕ) (x : List ℕ) (i : ℕ) (fits : at + length 
 abbrev pub Moved : (s : List ℕ) (to w i : ℕ) → List ℕ
 Moved s to w i = take (i + w) s ++ (take (to - i) (drop i s) ++ drop (to + w) s)
 
-pub moved-start : (s : List ℕ) (to w : ℕ) → s ≡ Moved s to w to
-moved-start s to w =
+pub moved_start : (s : List ℕ) (to w : ℕ) → s ≡ Moved s to w to
+moved_start s to w =
     let e : to - to ≡ 0 = omega arith in
     rw e (sym (take-append-drop (to + w) s))
 
 module _ (s : List ℕ) (to w i : ℕ) (fits : to + w ≤ length s) (low : i < to) where
   -- the byte to move next is still the one at entry
-  pub moved-read : 1 ≤ w → get_or (Moved s to w (i + 1)) i 0 ≡ get_or s i 0
-  moved-read h =
+  pub moved_read : 1 ≤ w → get_or (Moved s to w (i + 1)) i 0 ≡ get_or s i 0
+  moved_read h =
       let l : length (take (i + 1 + w) s) ≡ i + 1 + w = length-take-le (i + 1 + w) s (omega arith) in
       get_or-append (take (i + 1 + w) s) (take (to - (i + 1)) (drop (i + 1) s) ++ drop (to + w) s) 0 i (omega arith)
       ∙ get_or-take (i + 1 + w) s i 0 (omega arith)
 
-  pub moved-next : set (Moved s to w (i + 1)) (i + w) (get_or s i 0) ≡ Moved s to w i
-  moved-next =
+  pub moved_next : set (Moved s to w (i + 1)) (i + w) (get_or s i 0) ≡ Moved s to w i
+  moved_next =
       let e : i + 1 + w ≡ suc (i + w) = omega arith in
       let f : to - i ≡ suc (to - suc i) = omega arith in
       let r : List ℕ = take (to - suc i) (drop (suc i) s) ++ drop (to + w) s in
@@ -268,9 +268,9 @@ part_of p r n k h =
     ∙ take-append-le n (drop k p) r (omega (arith, length-drop k p))
 
 -- bytes moved up from byte i on, and then those from byte k to byte i
-pub moved-part : (s : List ℕ) (to w i k : ℕ) → to + w ≤ length s → k ≤ i → i ≤ to
+pub moved_part : (s : List ℕ) (to w i k : ℕ) → to + w ≤ length s → k ≤ i → i ≤ to
     → Moved (Moved s to w i) i w k ≡ Moved s to w k
-moved-part s to w i k fits low high =
+moved_part s to w i k fits low high =
     let p : List ℕ = take (i + w) s in
     let r : List ℕ = take (to - i) (drop i s) ++ drop (to + w) s in
     let l : length p ≡ i + w = length-take-le (i + w) s (omega arith) in
@@ -298,20 +298,20 @@ answered_less Ordering.lt r e z = refl
 answered_less Ordering.eq r e z = absurd (omega arith)
 answered_less Ordering.gt r e z = absurd (omega arith)
 
-pub answered-not-less : (o : Ordering) (r : ℕ) → r ≡ by_order o 0 1 2 → (r ≡ 0 → ⊥) → o ≡ Ordering.lt → ⊥
-answered-not-less o r e n l = n (e ∙ ap (λ (p : Ordering). by_order p 0 1 2) l)
+pub answered_not_less : (o : Ordering) (r : ℕ) → r ≡ by_order o 0 1 2 → (r ≡ 0 → ⊥) → o ≡ Ordering.lt → ⊥
+answered_not_less o r e n l = n (e ∙ ap (λ (p : Ordering). by_order p 0 1 2) l)
 
-pub answered-same : (o : Ordering) (r : ℕ) → r ≡ by_order o 0 1 2 → r ≡ 1 → o ≡ Ordering.eq
-answered-same Ordering.lt r e z = absurd (omega arith)
-answered-same Ordering.eq r e z = refl
-answered-same Ordering.gt r e z = absurd (omega arith)
+pub answered_same : (o : Ordering) (r : ℕ) → r ≡ by_order o 0 1 2 → r ≡ 1 → o ≡ Ordering.eq
+answered_same Ordering.lt r e z = absurd (omega arith)
+answered_same Ordering.eq r e z = refl
+answered_same Ordering.gt r e z = absurd (omega arith)
 
-pub answered-not-same : (o : Ordering) (r : ℕ) → r ≡ by_order o 0 1 2 → (r ≡ 1 → ⊥) → o ≡ Ordering.eq → ⊥
-answered-not-same o r e n l = n (e ∙ ap (λ (p : Ordering). by_order p 0 1 2) l)
+pub answered_not_same : (o : Ordering) (r : ℕ) → r ≡ by_order o 0 1 2 → (r ≡ 1 → ⊥) → o ≡ Ordering.eq → ⊥
+answered_not_same o r e n l = n (e ∙ ap (λ (p : Ordering). by_order p 0 1 2) l)
 
 -- a row below the count lies in the bytes of the rows
 pub row_fits : (i c w : ℕ) → i < c → i * w + w ≤ c * w
-row_fits i c w h = omega (arith, suc-mul i w, rows-le (suc i) c w h)
+row_fits i c w h = omega (arith, suc-mul i w, rows_le (suc i) c w h)
 
 -- the order of row m of the slice and x
 abbrev pub OrderAt : (s : List ℕ) (m : ℕ) (x : List ℕ) → Ordering
@@ -334,17 +334,17 @@ module _ (s : List ℕ) (c : ℕ) (x : List ℕ) (m r : ℕ) (low : m < c) (e : 
   pub place_down : (r ≡ 0 → ⊥) → place x (cut c (length x) s) ≤ m
   place_down n =
       place-below x m (cut c (length x) s) in_rows
-      (λ l. answered-not-less (OrderAt s m x) r e n (sym (order-at s c x m low) ∙ l))
+      (λ l. answered_not_less (OrderAt s m x) r e n (sym (order-at s c x m low) ∙ l))
 
 pub place-count : (s : List ℕ) (c : ℕ) (x : List ℕ) → place x (cut c (length x) s) ≤ c
 place-count s c x = let p = place-length x (cut c (length x) s) in omega (arith, length_cut (length x) c s)
 
 -- ---- a row put in at a place
 -- the bytes moved up, and then the row written
-pub moved-written : (s x : List ℕ) (at to : ℕ) → at ≤ to → to + length x ≤ length s
+pub moved_written : (s x : List ℕ) (at to : ℕ) → at ≤ to → to + length x ≤ length s
     → take at (Moved s to (length x) at) ++ (x ++ drop (at + length x) (Moved s to (length x) at))
     ≡ take at s ++ (x ++ (take (to - at) (drop at s) ++ drop (to + length x) s))
-moved-written s x at to h k =
+moved_written s x at to h k =
     let w : ℕ = length x in
     let l : length (take (at + w) s) ≡ at + w = length-take-le (at + w) s (omega arith) in
     let r : List ℕ = take (to - at) (drop at s) ++ drop (to + w) s in

@@ -14,9 +14,9 @@ use lib.Seq.{take_all, take_at, take-append-add, length-take-le}
 use Rattle.bits.specs.Bits.{cut}
 use Rattle.rows.specs.Held.{Held, insert, union, add}
 use Rattle.rows.specs.Order.{by_order, order, Ascending}
-use Rattle.rows.specs.Slice.{flat, heldIn, Written, place}
-use Rattle.rows.proofs.Held.{or-true, or-false}
-use Rattle.rows.proofs.Slice.{place-length, insert-there, insert-place, length_cut, cut-take, cut-drop, flat-cut, flat_append, OrderAt, order-at, answered-same, answered-not-same}
+use Rattle.rows.specs.Slice.{flat, held_in, Written, place}
+use Rattle.rows.proofs.Held.{or_true, or_false}
+use Rattle.rows.proofs.Slice.{place-length, insert-there, insert-place, length_cut, cut-take, cut-drop, flat-cut, flat_append, OrderAt, order-at, answered_same, answered_not_same}
 
 -- the row at the place p of x, if there is one, is not x
 abbrev pub Absent : (s : List ℕ) (c : ℕ) (x : List ℕ) (p : ℕ) → Type 0
@@ -24,13 +24,13 @@ Absent s c x p = p < c → order (get_or (cut c (length x) s) p []) x ≡ Orderi
 
 module _ (s : List ℕ) (c : ℕ) (x : List ℕ) (p r : ℕ) (low : p < c) (e : r ≡ by_order (OrderAt s p x) 0 1 2) where
   pub present : r ≡ 1 → order (get_or (cut c (length x) s) p []) x ≡ Ordering.eq
-  present one = order-at s c x p low ∙ answered-same (OrderAt s p x) r e one
+  present one = order-at s c x p low ∙ answered_same (OrderAt s p x) r e one
 
-  pub absent-other : (r ≡ 1 → ⊥) → Absent s c x p
-  absent-other n h q = answered-not-same (OrderAt s p x) r e n (sym (order-at s c x p low) ∙ q)
+  pub absent_other : (r ≡ 1 → ⊥) → Absent s c x p
+  absent_other n h q = answered_not_same (OrderAt s p x) r e n (sym (order-at s c x p low) ∙ q)
 
-pub absent-end : (s : List ℕ) (c : ℕ) (x : List ℕ) (p : ℕ) → c ≤ p → Absent s c x p
-absent-end s c x p h l = absurd (omega arith)
+pub absent_end : (s : List ℕ) (c : ℕ) (x : List ℕ) (p : ℕ) → c ≤ p → Absent s c x p
+absent_end s c x p h l = absurd (omega arith)
 
 -- the bytes that the row and the rows around it take, where the first t rows stay
 put-flat : (w c p t : ℕ) (s x : List ℕ) → p ≤ t → t ≤ c
@@ -59,7 +59,7 @@ module _ (s : List ℕ) (c : ℕ) (m : Bool) (cap : ℕ) (x : List ℕ) (fewer :
   Now = cut c (length x) s
 
   abbrev Next : Held
-  Next = add cap (heldIn (length x) s c m) (x ∷ [])
+  Next = add cap (held_in (length x) s c m) (x ∷ [])
 
   count-now : length Now ≡ c
   count-now = length_cut (length x) c s
@@ -84,14 +84,14 @@ module _ (s : List ℕ) (c : ℕ) (m : Bool) (cap : ℕ) (x : List ℕ) (fewer :
       sym (ap (λ (l : List ℕ). l ++ drop (c * length x) s) (flat-cut (length x) c s) ∙ take-append-drop (c * length x) s)
 
   -- the row is held already
-  pub written-repeat : Ascending Now → p < c → order (get_or Now p []) x ≡ Ordering.eq → Written (length x) Next s s c m
-  written-repeat asc h e =
+  pub written_repeat : Ascending Now → p < c → order (get_or Now p []) x ≡ Ordering.eq → Written (length x) Next s s c m
+  written_repeat asc h e =
       let same : insert x Now ≡ Now =
       insert-there x Now asc (omega (arith, count-now)) (ap (λ (k : ℕ). order (get_or Now k []) x) (sym at) ∙ e) in
       let few : ltb cap (length (insert x Now)) ≡ false =
       ap (λ (l : List (List ℕ)). ltb cap (length l)) same ∙ le-ltb cap (length Now) (omega (arith, count-now)) in
       written Now s c m (ap (take cap) same ∙ take_all cap Now (omega (arith, count-now)))
-      (sym (or-false m) ∙ ap (λ (t : Bool). m || t) (sym few)) as_it_was (sym count-now)
+      (sym (or_false m) ∙ ap (λ (t : Bool). m || t) (sym few)) as_it_was (sym count-now)
 
   module _ (new : Absent s c x p) where
     put : insert x Now ≡ take p Now ++ (x ∷ drop p Now)
@@ -120,12 +120,12 @@ module _ (s : List ℕ) (c : ℕ) (m : Bool) (cap : ℕ) (x : List ℕ) (fewer :
         le-ltb cap (length (insert x Now)) (omega (arith, length-put)) in
         written q exit (c + 1) m
         (take_all cap (insert x Now) (omega (arith, length-put)) ∙ is)
-        (sym (or-false m) ∙ ap (λ (t : Bool). m || t) (sym few))
+        (sym (or_false m) ∙ ap (λ (t : Bool). m || t) (sym few))
         (e ∙ put-flat (length x) c p c s x place_in (omega arith))
         (omega (arith, length-put, ap length is))
 
     over : cap ≤ c → true ≡ m || ltb cap (length (insert x Now))
-    over h = sym (ap (λ (t : Bool). m || t) (lt-ltb cap (length (insert x Now)) (omega (arith, length-put))) ∙ or-true m)
+    over h = sym (ap (λ (t : Bool). m || t) (lt-ltb cap (length (insert x Now)) (omega (arith, length-put))) ∙ or_true m)
 
     -- the list is full, and the row goes before its last: that one is pushed out
     pub written-full : (exit : List ℕ) → cap ≤ c → p < cap

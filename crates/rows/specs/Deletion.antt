@@ -4,11 +4,11 @@ use Rattle.std.specs.Prelude.{ℕ, zero, suc, Bool, true, false, ◌&&◌, ◌||
 
 -- y comes from x by deleting k bits: each place of x in turn is struck out, while some of the k are left, or kept as the
 -- next bit of y
-unfoldable pub comesFrom : (x : List ℕ) (k : ℕ) (y : List ℕ) → Bool
-comesFrom [] zero [] = true
-comesFrom [] zero (c ∷ y) = false
-comesFrom [] (suc k) y = false
-comesFrom (b ∷ x) zero [] = false
-comesFrom (b ∷ x) zero (c ∷ y) = eqb b c && comesFrom x zero y
-comesFrom (b ∷ x) (suc k) [] = comesFrom x k []
-comesFrom (b ∷ x) (suc k) (c ∷ y) = comesFrom x k (c ∷ y) || (eqb b c && comesFrom x (suc k) y)
+unfoldable pub comes_from : (x : List ℕ) (k : ℕ) (y : List ℕ) → Bool
+comes_from [] zero [] = true
+comes_from [] zero (c ∷ y) = false
+comes_from [] (suc k) y = false
+comes_from (b ∷ x) zero [] = false
+comes_from (b ∷ x) zero (c ∷ y) = eqb b c && comes_from x zero y
+comes_from (b ∷ x) (suc k) [] = comes_from x k []
+comes_from (b ∷ x) (suc k) (c ∷ y) = comes_from x k (c ∷ y) || (eqb b c && comes_from x (suc k) y)

@@ -4,7 +4,7 @@ ghost use Rattle.std.specs.Prelude.{◌≡◌, [], ◌∷◌, ◌++◌, ◌+◌,
 ghost use Rattle.rows.specs.Order.{order, by_order, Ascending};
 ghost use Rattle.rows.specs.Held.{add};
 ghost use Rattle.bits.specs.Bits.{cut};
-ghost use Rattle.rows.specs.Slice.{heldIn, Written, place as placed};
+ghost use Rattle.rows.specs.Slice.{held_in, Written, place as placed};
 
 // How many rows the list slice holds, and whether more were found than fit.
 #[derive(Drop)]
@@ -113,7 +113,7 @@ pub fn insert(list: &mut [u8], kept: Kept, cap: usize, x: &[u8]) -> Kept
     requires { (1 ≤ length x.now) × ((cap * length x.now ≤ length list.old) × ((kept.count ≤ cap)
         × Ascending (cut kept.count (length x.now) list.old))) }
     ensures { Written (length x.now)
-        (add cap (heldIn (length x.now) list.old kept.count kept.more) (x.now ∷ []))
+        (add cap (held_in (length x.now) list.old kept.count kept.more) (x.now ∷ []))
         list.old list.new result.count result.more }
 {
     let w = x.len();

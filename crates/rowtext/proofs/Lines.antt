@@ -11,7 +11,7 @@ use lib.Dec.{ltb}
 use lib.ListN.{length, take, drop, get_or, length-append, length-drop}
 use lib.Seq.{take-suc, length-take-le, drop-drop}
 use Rattle.bits.specs.Bits.{cut}
-use Rattle.rowtext.specs.Text.{hexByte, row_line, lineFeed, lastDigits, decimal, Put}
+use Rattle.rowtext.specs.Text.{hex_byte, row_line, line_feed, last_digits, decimal, Put}
 
 -- ---- rows
 flat_append : {A : Type 0} (f : A → List ℕ) (a b : List A) → flat_map f (a ++ b) ≡ flat_map f a ++ flat_map f b
@@ -24,28 +24,28 @@ flat-one : {A : Type 0} (f : A → List ℕ) (x : A) → flat_map f (x ∷ []) �
 unfolding flat_map
 flat-one f x = append-nil (f x)
 
-pub length-hex : (row : List ℕ) → length (flat_map hexByte row) ≡ length row * 2
+pub length_hex : (row : List ℕ) → length (flat_map hex_byte row) ≡ length row * 2
 unfolding flat_map
-length-hex [] = refl
-length-hex (b ∷ row) = omega (arith, length-hex row)
+length_hex [] = refl
+length_hex (b ∷ row) = omega (arith, length_hex row)
 
 pub length-line : (row : List ℕ) → length (row_line row) ≡ length row * 2 + 1
 unfolding row_line
-length-line row = length-append (flat_map hexByte row) lineFeed ∙ omega (arith, length-hex row)
+length-line row = length-append (flat_map hex_byte row) line_feed ∙ omega (arith, length_hex row)
 
 -- one byte more
-pub hex-next : (row : List ℕ) (i : ℕ) → i < length row
-    → flat_map hexByte (take i row) ++ hexByte (get_or row i 0) ≡ flat_map hexByte (take (i + 1) row)
-hex-next row i h =
+pub hex_next : (row : List ℕ) (i : ℕ) → i < length row
+    → flat_map hex_byte (take i row) ++ hex_byte (get_or row i 0) ≡ flat_map hex_byte (take (i + 1) row)
+hex_next row i h =
     sym
-    (ap (flat_map hexByte) (rw (add-one i) (take-suc row i 0 h))
-    ∙ flat_append hexByte (take i row) (get_or row i 0 ∷ [])
-    ∙ ap (λ (t : List ℕ). flat_map hexByte (take i row) ++ t) (flat-one hexByte (get_or row i 0)))
+    (ap (flat_map hex_byte) (rw (add-one i) (take-suc row i 0 h))
+    ∙ flat_append hex_byte (take i row) (get_or row i 0 ∷ [])
+    ∙ ap (λ (t : List ℕ). flat_map hex_byte (take i row) ++ t) (flat-one hex_byte (get_or row i 0)))
 
 -- the place after the digits of i bytes
-pub hex-place : (row : List ℕ) (i : ℕ) {entry now : List ℕ} {at next : ℕ} → i ≤ length row
-    → Put (flat_map hexByte (take i row)) at entry now next → next ≡ at + i * 2
-hex-place row i h p = omega (arith, p.after, length-hex (take i row), length-take-le i row h)
+pub hex_place : (row : List ℕ) (i : ℕ) {entry now : List ℕ} {at next : ℕ} → i ≤ length row
+    → Put (flat_map hex_byte (take i row)) at entry now next → next ≡ at + i * 2
+hex_place row i h p = omega (arith, p.after, length_hex (take i row), length-take-le i row h)
 
 -- one row more
 cut-next : (w i : ℕ) (s : List ℕ) → cut (suc i) w s ≡ cut i w s ++ (take w (drop (i * w) s) ∷ [])
@@ -83,15 +83,15 @@ rows-place w i s h p = omega (arith, p.after, length-rows w i s h)
 
 -- ---- numbers
 -- any number of digits that is large enough gives the same
-enough-digits : (f g n : ℕ) → n < f → n < g → lastDigits f n ≡ lastDigits g n
-unfolding lastDigits
-enough-digits zero g n h k = absurd (omega arith)
-enough-digits (suc f) zero n h k = absurd (omega arith)
-enough-digits (suc f) (suc g) n h k = go (ltb n 10) refl (enough-digits f g (n / 10))
+enough_digits : (f g n : ℕ) → n < f → n < g → last_digits f n ≡ last_digits g n
+unfolding last_digits
+enough_digits zero g n h k = absurd (omega arith)
+enough_digits (suc f) zero n h k = absurd (omega arith)
+enough_digits (suc f) (suc g) n h k = go (ltb n 10) refl (enough_digits f g (n / 10))
   where
-    go : (t : Bool) → ltb n 10 ≡ t → (n / 10 < f → n / 10 < g → lastDigits f (n / 10) ≡ lastDigits g (n / 10))
-        → cond t ((48 + n) ∷ []) (lastDigits f (n / 10) ++ ((48 + n % 10) ∷ []))
-        ≡ cond t ((48 + n) ∷ []) (lastDigits g (n / 10) ++ ((48 + n % 10) ∷ []))
+    go : (t : Bool) → ltb n 10 ≡ t → (n / 10 < f → n / 10 < g → last_digits f (n / 10) ≡ last_digits g (n / 10))
+        → cond t ((48 + n) ∷ []) (last_digits f (n / 10) ++ ((48 + n % 10) ∷ []))
+        ≡ cond t ((48 + n) ∷ []) (last_digits g (n / 10) ++ ((48 + n % 10) ∷ []))
     go true e same = refl
     go false e same =
         let l = ltb-false n 10 e in
@@ -99,16 +99,16 @@ enough-digits (suc f) (suc g) n h k = go (ltb n 10) refl (enough-digits f g (n /
 
 -- a number below ten is its one digit
 pub decimal-one : (n : ℕ) → n < 10 → decimal n ≡ (48 + n) ∷ []
-unfolding decimal lastDigits
+unfolding decimal last_digits
 decimal-one n h = rw (lt-ltb n 10 h) refl
 
 -- any other is that of its tens, and its last digit
 pub decimal-more : (n : ℕ) → 10 ≤ n → decimal n ≡ decimal (n / 10) ++ ((48 + n % 10) ∷ [])
-unfolding decimal lastDigits
+unfolding decimal last_digits
 decimal-more n h =
     rw (le-ltb n 10 h)
     (ap (λ (ds : List ℕ). ds ++ ((48 + n % 10) ∷ []))
-    (enough-digits n (suc (n / 10)) (n / 10) (omega arith) (omega arith)))
+    (enough_digits n (suc (n / 10)) (n / 10) (omega arith) (omega arith)))
 
 pub length_more : (n : ℕ) → 10 ≤ n → length (decimal n) ≡ length (decimal (n / 10)) + 1
 length_more n h = ap length (decimal-more n h) ∙ length-append (decimal (n / 10)) ((48 + n % 10) ∷ [])
@@ -126,6 +126,6 @@ decimal-short (suc k) n h = go (ltb n 10) refl (decimal-short k (n / 10))
         omega (arith, length_more n (ltb-false n 10 e), tens (omega arith))
 
 -- a word and a number below a hundred thousand make a line of at most six characters more than the word
-pub header-short : (word : List ℕ) (n : ℕ) → n < 100000 → length (word ++ decimal n ++ lineFeed) ≤ length word + 6
-header-short word n h =
-    omega (arith, length-append (word ++ decimal n) lineFeed, length-append word (decimal n), decimal-short 4 n h)
+pub header_short : (word : List ℕ) (n : ℕ) → n < 100000 → length (word ++ decimal n ++ line_feed) ≤ length word + 6
+header_short word n h =
+    omega (arith, length-append (word ++ decimal n) line_feed, length-append word (decimal n), decimal-short 4 n h)

@@ -8,16 +8,16 @@ use borrow.Author.Tests.{lt-ltb, le-ltb, ltb-true, ltb-false}
 use lib.Dec.{ltb}
 use lib.ListN.{length, get_or, take, drop, length-drop, drop_of_length-le}
 use lib.Seq.{take_all, drop-drop}
-use Rattle.rowtext.specs.Input.{lengthAt, messageIn, afterMessage, bitsIn, row_in, Split}
+use Rattle.rowtext.specs.Input.{length_at, message_in, after_message, bits_in, row_in, Split}
 
 -- ---- the two bytes of a length
 module _ (s : List ℕ) where
-  pub no_length : length s < 2 → 0 ≡ lengthAt s
-  unfolding lengthAt
+  pub no_length : length s < 2 → 0 ≡ length_at s
+  unfolding length_at
   no_length h = rw (lt-ltb (length s) 2 h) refl
 
-  pub two_bytes : 2 ≤ length s → get_or s 0 0 * 256 + get_or s 1 0 ≡ lengthAt s
-  unfolding lengthAt
+  pub two_bytes : 2 ≤ length s → get_or s 0 0 * 256 + get_or s 1 0 ≡ length_at s
+  unfolding length_at
   two_bytes h = rw (le-ltb (length s) 2 h) refl
 
 -- ---- the parts
@@ -60,22 +60,22 @@ behind s k =
     let n : 4 + k ≡ 2 + k + 2 = omega arith in
     drop-lower (4 + k) s ∙ ap (λ (i : ℕ). drop i s) n ∙ sym (drop-drop 2 (2 + k) s)
 
-pub split_at : (s : List ℕ) (k m : ℕ) → k ≡ lengthAt s → m ≡ lengthAt (drop (min (2 + k) (length s)) s)
+pub split_at : (s : List ℕ) (k m : ℕ) → k ≡ length_at s → m ≡ length_at (drop (min (2 + k) (length s)) s)
     → Split s (min 2 (length s)) (min (2 + k) (length s)) m (min (4 + k) (length s))
 split_at s k m e h = record {
   ordered = omega arith;
   ends = omega arith;
   begins = omega arith;
   message = middle s k ∙ rw e message-is;
-  bits = h ∙ ap lengthAt (drop-lower (2 + k) s) ∙ rw e bits_are;
+  bits = h ∙ ap length_at (drop-lower (2 + k) s) ∙ rw e bits_are;
   rest = behind s k ∙ rw e row_is;
 }
   where
-    message-is : take (lengthAt s) (drop 2 s) ≡ messageIn s
-    message-is = unfold messageIn in refl
+    message-is : take (length_at s) (drop 2 s) ≡ message_in s
+    message-is = unfold message_in in refl
 
-    bits_are : lengthAt (drop (2 + lengthAt s) s) ≡ bitsIn s
-    bits_are = unfold bitsIn afterMessage in refl
+    bits_are : length_at (drop (2 + length_at s) s) ≡ bits_in s
+    bits_are = unfold bits_in after_message in refl
 
-    row_is : drop 2 (drop (2 + lengthAt s) s) ≡ row_in s
-    row_is = unfold row_in afterMessage in refl
+    row_is : drop 2 (drop (2 + length_at s) s) ≡ row_in s
+    row_is = unfold row_in after_message in refl

@@ -7,7 +7,7 @@ use native.Mathlib.Numerals.{add-one}
 use native.Mathlib.Omega.{arith}
 use lib.ListN.{length, take, drop, set, length-append, take-append-drop}
 use lib.Seq.{length-take-le, set_split}
-use Rattle.bits.proofs.Copy.{part-next}
+use Rattle.bits.proofs.Copy.{part_next}
 use Rattle.rowtext.specs.Text.{Put}
 
 -- nothing is put
@@ -22,8 +22,8 @@ put-none s at = record {
 }
 
 -- what stands up to the end of a text
-length-up-to : (text entry : List ℕ) (at : ℕ) → at ≤ length entry → length (take at entry ++ text) ≡ at + length text
-length-up-to text entry at h =
+length_up_to : (text entry : List ℕ) (at : ℕ) → at ≤ length entry → length (take at entry ++ text) ≡ at + length text
+length_up_to text entry at h =
     length-append (take at entry) text ∙ ap (λ (k : ℕ). k + length text) (length-take-le at entry h)
 
 -- one text after another is both together
@@ -36,7 +36,7 @@ put_then {a} {b} {entry} {mid} {exit} {at} {p} {q} f g h =
       slice =
           g.slice
           ∙ ap₂ (λ (k : ℕ) (t : List ℕ). take k t ++ b ++ drop (k + length b) t) f.after f.slice
-          ∙ part-next (take at entry ++ a) b entry (at + length a) (length b) (length-up-to a entry at h)
+          ∙ part_next (take at entry ++ a) b entry (at + length a) (length b) (length_up_to a entry at h)
           ∙ ap₂ (λ (t : List ℕ) (k : ℕ). t ++ drop k entry) (append_assoc (take at entry) a b) e;
       after = omega (arith, f.after, g.after);
     }
@@ -46,7 +46,7 @@ pub put-within : {text entry exit : List ℕ} {at next : ℕ} → Put text at en
     → next ≤ length exit
 put-within {text} {entry} {exit} {at} p h =
     let n = ap length p.slice ∙ length-append (take at entry ++ text) (drop (at + length text) entry) in
-    omega (arith, p.after, length-up-to text entry at h)
+    omega (arith, p.after, length_up_to text entry at h)
 
 -- one character
 pub put_one : (s : List ℕ) (at b : ℕ) → at < length s → Put (b ∷ []) at s (set s at b) (at + 1)

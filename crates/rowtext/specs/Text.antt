@@ -5,49 +5,49 @@ use Rattle.std.specs.Prelude.{ℕ, zero, suc, ◌+◌, ◌/◌, ◌%◌, ◌≡�
 use mathlib.Core.List.{List, [], ◌∷◌, ◌++◌, flat_map}
 
 -- a hexadecimal digit: 0 to 9, then A to F
-abbrev pub hexDigit : ℕ → ℕ
-hexDigit d = cond (ltb d 10) (48 + d) (55 + d)
+abbrev pub hex_digit : ℕ → ℕ
+hex_digit d = cond (ltb d 10) (48 + d) (55 + d)
 
 -- a byte in capital hexadecimal
-abbrev pub hexByte : ℕ → List ℕ
-hexByte b = hexDigit (b / 16) ∷ hexDigit (b % 16) ∷ []
+abbrev pub hex_byte : ℕ → List ℕ
+hex_byte b = hex_digit (b / 16) ∷ hex_digit (b % 16) ∷ []
 
 -- each line ends in a line feed
-abbrev pub lineFeed : List ℕ
-lineFeed = 10 ∷ []
+abbrev pub line_feed : List ℕ
+line_feed = 10 ∷ []
 
 -- a row's line
 unfoldable pub row_line : List ℕ → List ℕ
 unfolding flat_map
-row_line row = flat_map hexByte row ++ lineFeed
+row_line row = flat_map hex_byte row ++ line_feed
 
 -- the decimal digits of n, at most f of them
-unfoldable pub lastDigits : (f n : ℕ) → List ℕ
-lastDigits zero n = []
-lastDigits (suc f) n = cond (ltb n 10) ((48 + n) ∷ []) (lastDigits f (n / 10) ++ ((48 + n % 10) ∷ []))
+unfoldable pub last_digits : (f n : ℕ) → List ℕ
+last_digits zero n = []
+last_digits (suc f) n = cond (ltb n 10) ((48 + n) ∷ []) (last_digits f (n / 10) ++ ((48 + n % 10) ∷ []))
 
 -- a number in decimal: it has no more digits than it has ones to count, and 0 has one
 unfoldable pub decimal : ℕ → List ℕ
-unfolding lastDigits
-decimal n = lastDigits (suc n) n
+unfolding last_digits
+decimal n = last_digits (suc n) n
 
 -- "count" and a space
-abbrev pub countWord : List ℕ
-countWord = 99 ∷ 111 ∷ 117 ∷ 110 ∷ 116 ∷ 32 ∷ []
+abbrev pub count_word : List ℕ
+count_word = 99 ∷ 111 ∷ 117 ∷ 110 ∷ 116 ∷ 32 ∷ []
 
 -- "refused" and a space
-abbrev pub refusedWord : List ℕ
-refusedWord = 114 ∷ 101 ∷ 102 ∷ 117 ∷ 115 ∷ 101 ∷ 100 ∷ 32 ∷ []
+abbrev pub refused_word : List ℕ
+refused_word = 114 ∷ 101 ∷ 102 ∷ 117 ∷ 115 ∷ 101 ∷ 100 ∷ 32 ∷ []
 
 -- what is printed for a list of packed rows
-unfoldable pub countText : List (List ℕ) → List ℕ
+unfoldable pub count_text : List (List ℕ) → List ℕ
 unfolding decimal row_line flat_map
-countText rows = countWord ++ decimal (length rows) ++ lineFeed ++ flat_map row_line rows
+count_text rows = count_word ++ decimal (length rows) ++ line_feed ++ flat_map row_line rows
 
 -- and for a refusal
-unfoldable pub refusedText : ℕ → List ℕ
+unfoldable pub refused_text : ℕ → List ℕ
 unfolding decimal
-refusedText number = refusedWord ++ decimal number ++ lineFeed
+refused_text number = refused_word ++ decimal number ++ line_feed
 
 -- a text was put into a slice from a place on; next is the place after it
 pub record Put (text : List ℕ) (at : ℕ) (entry exit : List ℕ) (next : ℕ) : Type 0 where

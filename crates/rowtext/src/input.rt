@@ -1,6 +1,6 @@
 // What stands where in the input.
 ghost use Rattle.std.specs.Prelude.{◌≡◌, ◌≤◌, min};
-ghost use Rattle.rowtext.specs.Input.{lengthAt, Split};
+ghost use Rattle.rowtext.specs.Input.{length_at, Split};
 
 // Where the message stands in the input, the number of bits, and where the row begins.
 #[derive(Drop)]
@@ -23,7 +23,7 @@ fn lower(a: usize, b: usize) -> usize
 
 // The number in the first two bytes, high first; 0 where there are fewer.
 fn length_at(s: &[u8]) -> usize
-    ensures { (result ≡ lengthAt s.now) × (result ≤ 65535) }
+    ensures { (result ≡ length_at s.now) × (result ≤ 65535) }
 {
     if s.len() < 2 {
         return 0;

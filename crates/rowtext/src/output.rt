@@ -2,12 +2,12 @@
 ghost use Rattle.std.specs.Prelude.{◌≡◌, ◌+◌, ◌*◌, ◌≤◌, ◌<◌, length};
 ghost use mathlib.Core.List.{[], ◌∷◌, ◌++◌, flat_map};
 ghost use Rattle.bits.specs.Bits.{cut};
-ghost use Rattle.rowtext.specs.Text.{hexDigit, hexByte, row_line, lineFeed, decimal, countText, refusedText, Put};
+ghost use Rattle.rowtext.specs.Text.{hex_digit, hex_byte, row_line, line_feed, decimal, count_text, refused_text, Put};
 
 // A hexadecimal digit.
 fn hex_digit(d: u8) -> u8
     requires { d < 16 }
-    ensures { result ≡ hexDigit d }
+    ensures { result ≡ hex_digit d }
 {
     if d < 10 {
         return 48 + d;
@@ -27,7 +27,7 @@ fn put_char(b: u8, out: &mut [u8], at: usize) -> usize
 // A byte in hexadecimal.
 fn put_hex(b: u8, out: &mut [u8], at: usize) -> usize
     requires { at + 2 ≤ length out.old }
-    ensures { Put (hexByte b) at out.old out.new result }
+    ensures { Put (hex_byte b) at out.old out.new result }
 {
     let next = put_char(hex_digit(b / 16), out, at);
     put_char(hex_digit(b % 16), out, next)
@@ -78,7 +78,7 @@ fn put_decimal(n: usize, out: &mut [u8], at: usize) -> usize
 // A line that begins with a word and ends with a number below a hundred thousand.
 fn put_header(word: &[u8], n: usize, out: &mut [u8]) -> usize
     requires { (n < 100000) × (length word.now + 6 ≤ length out.old) }
-    ensures { Put (word.now ++ decimal n ++ lineFeed) 0 out.old out.new result }
+    ensures { Put (word.now ++ decimal n ++ line_feed) 0 out.old out.new result }
 {
     bits::copy_to(word, out, 0);
     let next = put_decimal(n, out, word.len());
@@ -88,7 +88,7 @@ fn put_header(word: &[u8], n: usize, out: &mut [u8]) -> usize
 // What is printed for the first count rows of w bytes in a slice.
 pub fn put_count(list: &[u8], count: usize, w: usize, out: &mut [u8]) -> usize
     requires { (count < 100000) × ((count * w ≤ length list.now) × (12 + count * (w * 2 + 1) ≤ length out.old)) }
-    ensures { Put (countText (cut count w list.now)) 0 out.old out.new result }
+    ensures { Put (count_text (cut count w list.now)) 0 out.old out.new result }
 {
     let next = put_header(b"count ", count, out);
     put_rows(list, count, w, out, next)
@@ -97,7 +97,7 @@ pub fn put_count(list: &[u8], count: usize, w: usize, out: &mut [u8]) -> usize
 // What is printed for a refusal.
 pub fn put_refused(number: usize, out: &mut [u8]) -> usize
     requires { (number < 100000) × (14 ≤ length out.old) }
-    ensures { Put (refusedText number) 0 out.old out.new result }
+    ensures { Put (refused_text number) 0 out.old out.new result }
 {
     put_header(b"refused ", number, out)
 }

@@ -6,8 +6,8 @@ use mathlib.Core.List.{List}
 use native.Mathlib.Omega.{arith}
 use lib.ListN.{length, get_or, take, set}
 use lib.Seq.{get_or-set_same, get_or-set_other}
-use Rattle.bits.proofs.Laws.{lt-or-ge}
-use Rattle.consistent.specs.Greedy.{inAll}
+use Rattle.bits.proofs.Laws.{lt_or_ge}
+use Rattle.consistent.specs.Greedy.{in_all}
 use Rattle.column.specs.declared.Heavy.{Heavy}
 use Rattle.search.specs.Patterns.{HeavyIn, Joined}
 use Rattle.anchor.proofs.Totals.{total-next}
@@ -15,14 +15,14 @@ use Rattle.search.proofs.Totals.{total-set}
 
 -- either below i or i itself
 below_next : (b i : ℕ) → b < i + 1 → (b < i) ⊎ (b ≡ i)
-below_next b i h = ⊎_elim (λ k. inl k) (λ k. inr (omega arith)) (lt-or-ge b i)
+below_next b i h = ⊎_elim (λ k. inl k) (λ k. inr (omega arith)) (lt_or_ge b i)
 
 -- no block yet
-pub heavy-none : (counts : List ℕ) (heavy : Heavy) (left : List ℕ) → heavy.n ≡ 0 → inAll left ≡ 0
+pub heavy_none : (counts : List ℕ) (heavy : Heavy) (left : List ℕ) → heavy.n ≡ 0 → in_all left ≡ 0
     → ((s : ℕ) → get_or left s 0 ≡ 0)
     → HeavyIn counts 0 heavy left
-unfolding inAll
-heavy-none counts heavy left e z f =
+unfolding in_all
+heavy_none counts heavy left e z f =
     record {
       few = omega arith;
       inside = λ s h. absurd (omega arith);
@@ -38,8 +38,8 @@ heavy-none counts heavy left e z f =
 module _ (counts : List ℕ) (i : ℕ) (heavy : Heavy) (left : List ℕ) (q : HeavyIn counts i heavy left)
     (h : i < length counts) where
   -- block i has none or one loss
-  pub heavy-light : get_or counts i 0 < 2 → HeavyIn counts (i + 1) heavy left
-  heavy-light a =
+  pub heavy_light : get_or counts i 0 < 2 → HeavyIn counts (i + 1) heavy left
+  heavy_light a =
       record {
         few = omega (arith, q.few, total-next counts i h);
         inside = λ s k. omega (arith, q.inside s k);
@@ -57,7 +57,7 @@ module _ (counts : List ℕ) (i : ℕ) (heavy : Heavy) (left : List ℕ) (q : He
 
   -- block i is heavy
   module _ (e : ℕ) (after : Heavy) (lefts : List ℕ) (j : Joined heavy left i (get_or counts i 0) e after lefts)
-      (room : heavy.n < 6) (total : e ≡ inAll (take (i + 1) counts)) where
+      (room : heavy.n < 6) (total : e ≡ in_all (take (i + 1) counts)) where
     -- what holds of the entries that were there, and of the new one, holds of all
     all : (P : ℕ → Type 0) → ((s : ℕ) → s < heavy.n → P s) → P heavy.n → (s : ℕ) → s < after.n → P s
     all P f g s k = ⊎_elim (f s) (λ (m : s ≡ heavy.n). rw m g) (below_next s heavy.n (omega (arith, j.one_more)))
@@ -93,10 +93,10 @@ module _ (counts : List ℕ) (i : ℕ) (heavy : Heavy) (left : List ℕ) (q : He
     count b = get_or counts b 0
 
     abbrev up_to : ℕ → ℕ
-    up_to b = inAll (take (b + 1) counts)
+    up_to b = in_all (take (b + 1) counts)
 
-    pub heavy-more : 2 ≤ get_or counts i 0 → HeavyIn counts (i + 1) after lefts
-    heavy-more a =
+    pub heavy_more : 2 ≤ get_or counts i 0 → HeavyIn counts (i + 1) after lefts
+    heavy_more a =
         record {
           few = omega (arith, q.few, total-next counts i h, j.one_more);
           inside =
@@ -128,6 +128,6 @@ module _ (counts : List ℕ) (i : ℕ) (heavy : Heavy) (left : List ℕ) (q : He
                 q.total,
                 total-next counts i h,
                 total-set left heavy.n (get_or counts i 0),
-                ap inAll j.lefts,
+                ap in_all j.lefts,
               );
         }

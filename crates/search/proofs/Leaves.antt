@@ -8,15 +8,15 @@ use native.Mathlib.Nat.{add-zero, mul_assoc, mod-lt, div-add-mod', div-lt_iff_lt
 use native.Mathlib.Omega.{arith}
 use borrow.Author.Tests.{le-ltb}
 use lib.ListN.{length, get_or, take, drop, drop_of_length-le}
-use Rattle.bits.proofs.Laws.{lt-or-ge}
-use Rattle.rows.proofs.Deletion.{strikes, strikes-none}
-use Rattle.message.specs.Layout.{rowBits, block_bits}
+use Rattle.bits.proofs.Laws.{lt_or_ge}
+use Rattle.rows.proofs.Deletion.{strikes, strikes_none}
+use Rattle.message.specs.Layout.{row_bits, block_bits}
 use Rattle.message.specs.declared.Layout.{Layout}
-use Rattle.consistent.specs.Greedy.{losses, inAll}
+use Rattle.consistent.specs.Greedy.{losses, in_all}
 use Rattle.cells.specs.Cells.{share}
-use Rattle.cells.proofs.Shares.{share-some, share-single}
+use Rattle.cells.proofs.Shares.{share-some, share_single}
 use Rattle.found.specs.Found.{Given, Sent, InHand}
-use Rattle.found.proofs.Found.{sent-parts}
+use Rattle.found.proofs.Found.{sent_parts}
 use Rattle.tables.specs.Tables.{reached, Sound}
 use Rattle.tables.specs.Tables.{Under as UnderTable}
 use Rattle.column.specs.declared.Heavy.{Heavy}
@@ -28,16 +28,16 @@ use Rattle.anchor.proofs.Totals.{total-next}
 -- the counts of a consistent row are all losses
 pub all-counts : {l : Layout} {numbers y : List ℕ} (given : Given l numbers y) (counts row x : List ℕ)
     → Sent l numbers y x
-    → Under l y counts l.l1 row x → inAll (take l.l1 counts) ≡ rowBits l - length y
+    → Under l y counts l.l1 row x → in_all (take l.l1 counts) ≡ row_bits l - length y
 all-counts {l} given counts row x sent u = sym (u.own l.l1 (omega arith)) ∙ blocks-lose given x sent
 
 -- where no bit is lost, a consistent row is the received one
-pub only-received : {l : Layout} {numbers y : List ℕ} → Given l numbers y → length y ≡ rowBits l → (x : List ℕ)
+pub only-received : {l : Layout} {numbers y : List ℕ} → Given l numbers y → length y ≡ row_bits l → (x : List ℕ)
     → Sent l numbers y x
     → x ≡ y
 only-received {l} {numbers} {y} given n x sent =
-    let z : rowBits l - length y ≡ 0 = omega arith in
-    strikes-none x y (strikes x 0 y (rw z at (sent-parts given x sent).comes))
+    let z : row_bits l - length y ≡ 0 = omega arith in
+    strikes_none x y (strikes x 0 y (rw z at (sent_parts given x sent).comes))
 
 module _ (l : Layout) (y counts : List ℕ) (heavy : Heavy) (left : List ℕ) (q : HeavyIn counts l.l1 heavy left) where
   -- no block is heavy
@@ -45,10 +45,10 @@ module _ (l : Layout) (y counts : List ℕ) (heavy : Heavy) (left : List ℕ) (q
   light z b h =
       ⊎_elim (λ p. omega arith)
       (λ (p : 2 ≤ get_or counts b 0). let w = q.every b h p in absurd (omega (arith, w.1.0)))
-      (lt-or-ge (get_or counts b 0) 2)
+      (lt_or_ge (get_or counts b 0) 2)
 
-  pub all-in-hand : 1 ≤ l.l2 → heavy.n ≡ 0 → (row x : List ℕ) → Under l y counts l.l1 row x → InHand l row x
-  all-in-hand low z row x u c h =
+  pub all_in_hand : 1 ≤ l.l2 → heavy.n ≡ 0 → (row x : List ℕ) → Under l y counts l.l1 row x → InHand l row x
+  all_in_hand low z row x u c h =
       let b : ℕ = c / l.l2 in
       let j : ℕ = c % l.l2 in
       let e : b * l.l2 + j ≡ c = div-add-mod' c l.l2 in
@@ -68,13 +68,13 @@ module _ (l : Layout) (counts : List ℕ) (heavy : Heavy) (t : Table) (q : Heavy
       ⊎_elim (λ p. omega arith)
       (λ (p : 1 ≤ share t.cells.block t.cells.lost i).
       let w = share-some t.cells.block t.cells.lost i p in absurd (omega (arith, w.1.1.1, closed w.0)))
-      (lt-or-ge (share t.cells.block t.cells.lost i) 1)
+      (lt_or_ge (share t.cells.block t.cells.lost i) 1)
 
   -- a heavy block has two losses or more
-  not-one : (s : ℕ) → get_or t.left s 0 ≡ 1 → ⊥
-  not-one s e = ⊎_elim (λ k. omega (arith, q.many s k)) (λ k. omega (arith, q.spare s k)) (lt-or-ge s heavy.n)
+  not_one : (s : ℕ) → get_or t.left s 0 ≡ 1 → ⊥
+  not_one s e = ⊎_elim (λ k. omega (arith, q.many s k)) (λ k. omega (arith, q.spare s k)) (lt_or_ge s heavy.n)
 
-  pub starts-sound : (m : ℕ) → inAll (take l.l1 counts) ≤ 12 → Sound l m heavy t
+  pub starts-sound : (m : ℕ) → in_all (take l.l1 counts) ≤ 12 → Sound l m heavy t
   starts-sound m h =
       record {
         few = omega (arith, q.few);
@@ -84,8 +84,8 @@ module _ (l : Layout) (counts : List ℕ) (heavy : Heavy) (t : Table) (q : Heavy
         room = omega (arith, q.total);
         fresh = λ z k. closed z;
         spare = q.spare;
-        not-one = λ i e. let w = share-single heavy.block t.left i (omega (arith, no-share i)) in
-            not-one w.0 w.1.1.1;
+        not_one = λ i e. let w = share_single heavy.block t.left i (omega (arith, no-share i)) in
+            not_one w.0 w.1.1.1;
       }
 
   -- every row under the pattern is under it
@@ -106,7 +106,7 @@ module _ (l : Layout) (counts : List ℕ) (heavy : Heavy) (t : Table) (q : Heavy
               (λ (p : get_or counts i 0 < 2). inr (u.light i c h k (omega arith)))
               (λ (p : 2 ≤ get_or counts i 0).
               let w = q.every i h p in inl (inl (w.0, (w.1.0, (w.1.1, omega (arith, none-reached w.0))))))
-              (lt-or-ge (get_or counts i 0) 2);
+              (lt_or_ge (get_or counts i 0) 2);
         };
         loses = λ z o. absurd (omega (arith, closed z, o.1));
       }

@@ -1,11 +1,11 @@
 // The search for all consistent rows: loss patterns, block by block. Contracts cite specs/Patterns.antt; one block is tried
 // with a count in pieces.
 ghost use Rattle.std.specs.Prelude.{◌≡◌, false, ◌*◌, ◌-◌, ◌<◌, ◌≤◌, length, get_or, take};
-ghost use Rattle.bits.specs.Bits.{bytesFor, mostChunks, mostInLine};
-ghost use Rattle.message.specs.Layout.{rowBits, block_bits};
-ghost use Rattle.consistent.specs.Consistent.{mostLosses};
-ghost use Rattle.consistent.specs.Greedy.{inAll};
-ghost use Rattle.rows.specs.Slice.{rowsIn};
+ghost use Rattle.bits.specs.Bits.{bytes_for, most_chunks, most_in_line};
+ghost use Rattle.message.specs.Layout.{row_bits, block_bits};
+ghost use Rattle.consistent.specs.Consistent.{most_losses};
+ghost use Rattle.consistent.specs.Greedy.{in_all};
+ghost use Rattle.rows.specs.Slice.{rows_of_slice};
 ghost use Rattle.windows.specs.Windows.{Tables};
 ghost use Rattle.found.specs.Found.{Given, Holding, Grown, Listed};
 ghost use Rattle.anchor.specs.Anchor.{Anchored};
@@ -58,7 +58,7 @@ fn with_block(hs: Heavies, i: usize, a: u8, end: usize) -> Heavies
 
 // The blocks of a pattern with two losses or more. As all losses are at most twelve, these blocks are at most six.
 fn heavy_of(l1: usize, pattern: Pattern) -> Heavies
-    requires { (l1 ≤ mostInLine) × (inAll (take l1 pattern.counts) ≤ mostLosses) }
+    requires { (l1 ≤ most_in_line) × (in_all (take l1 pattern.counts) ≤ most_losses) }
     ensures { HeavyIn pattern.counts l1 result.heavy result.left }
 {
     let none = Heavy {
@@ -99,9 +99,9 @@ fn finish(
     kept: Kept,
 ) -> Kept
     requires { Given l numbers.now y.now × (Holding l numbers.now y.now cap list.old kept.count kept.more
-        × (((inAll (take l.l1 pattern.counts) ≤ mostLosses) × (l.l1 * l.l2 ≤ length row.old))
+        × (((in_all (take l.l1 pattern.counts) ≤ most_losses) × (l.l1 * l.l2 ≤ length row.old))
         × (Tables y.now 0 totals.now counts.now
-        × Anchored l numbers.now y.now (rowsIn (rowBits l) list.old kept.count kept.more) desk.now))) }
+        × Anchored l numbers.now y.now (rows_of_slice (row_bits l) list.old kept.count kept.more) desk.now))) }
     ensures { Grown l numbers.now y.now cap
         (Under l y.now pattern.counts l.l1 row.old)
         list.old kept.count kept.more list.new result.count result.more }
@@ -163,9 +163,9 @@ fn one_pattern(
     kept: Kept,
 ) -> Kept
     requires { Given l numbers.now y.now × (Holding l numbers.now y.now cap list.old kept.count kept.more
-        × (((length row.now ≡ mostChunks) × (pattern.total ≡ inAll (take l.l1 pattern.counts)))
+        × (((length row.now ≡ most_chunks) × (pattern.total ≡ in_all (take l.l1 pattern.counts)))
         × (Tables y.now 0 totals.now counts.now
-        × Anchored l numbers.now y.now (rowsIn (rowBits l) list.old kept.count kept.more) desk.now))) }
+        × Anchored l numbers.now y.now (rows_of_slice (row_bits l) list.old kept.count kept.more) desk.now))) }
     ensures { Grown l numbers.now y.now cap
         (Under l y.now pattern.counts l.l1 row.now)
         list.old kept.count kept.more list.new result.count result.more }
@@ -208,12 +208,12 @@ fn patterns(
         × ((later ≤ l.l1) × (Begun l y.now rest.now pattern.counts row.old (l.l1 - later) pattern.total
         × ((Tables y.now 0 ytotals.now ycounts.now
         × Tabled rest.now ((l.l1 - later) * block_bits l - pattern.total) totals.now counts.now)
-        × Anchored l numbers.now y.now (rowsIn (rowBits l) list.old kept.count kept.more) desk.old))) }
+        × Anchored l numbers.now y.now (rows_of_slice (row_bits l) list.old kept.count kept.more) desk.old))) }
     ensures { Grown l numbers.now y.now cap
         (Under l y.now pattern.counts (l.l1 - later) row.old)
         list.old kept.count kept.more list.new result.count result.more
         × ((take ((l.l1 - later) * l.l2) row.new ≡ take ((l.l1 - later) * l.l2) row.old)
-        × Anchored l numbers.now y.now (rowsIn (rowBits l) list.new result.count result.more) desk.new) }
+        × Anchored l numbers.now y.now (rows_of_slice (row_bits l) list.new result.count result.more) desk.new) }
 {
     let i = l.l1 - later;
     let own = pattern.counts;
@@ -276,11 +276,11 @@ fn early_anchor(
     cap: usize,
     list: &mut [u8],
 ) -> Kept
-    requires { Given l numbers.now y.now × ((cap * bytesFor (rowBits l) ≤ length list.old)
+    requires { Given l numbers.now y.now × ((cap * bytes_for (row_bits l) ≤ length list.old)
         × (get_or desk.old 0 0 ≡ 0)) }
     ensures { Grown l numbers.now y.now cap (λ x. ⊥)
         list.old 0 false list.new result.count result.more
-        × Anchored l numbers.now y.now (rowsIn (rowBits l) list.new result.count result.more) desk.new }
+        × Anchored l numbers.now y.now (rows_of_slice (row_bits l) list.new result.count result.more) desk.new }
 {
     let none = Kept {
         count: 0,
@@ -307,7 +307,7 @@ fn all_patterns(
     cap: usize,
     list: &mut [u8],
 ) -> Kept
-    requires { Given l numbers.now y.now × ((cap * bytesFor (rowBits l) ≤ length list.old)
+    requires { Given l numbers.now y.now × ((cap * bytes_for (row_bits l) ≤ length list.old)
         × (get_or desk.old 0 0 ≡ 0)) }
     ensures { Listed l numbers.now y.now cap list.old list.new
         result.count result.more }
@@ -338,7 +338,7 @@ fn anchor_pays(r: usize, lost: usize) -> bool {
 
 // All consistent rows where bits were lost. Where an anchor does not pay, the desk is too short for it.
 fn some_lost(l: Layout, y: &[u8], numbers: &[u16], cap: usize, list: &mut [u8]) -> Kept
-    requires { Given l numbers.now y.now × (cap * bytesFor (rowBits l) ≤ length list.old) }
+    requires { Given l numbers.now y.now × (cap * bytes_for (row_bits l) ≤ length list.old) }
     ensures { Listed l numbers.now y.now cap list.old list.new
         result.count result.more }
 {
@@ -353,7 +353,7 @@ fn some_lost(l: Layout, y: &[u8], numbers: &[u16], cap: usize, list: &mut [u8]) 
 
 // All consistent rows: the first of them, as many as fit, in the list slice. Where no bit is lost, only the received row can be one.
 pub fn search(l: Layout, y: &[u8], numbers: &[u16], cap: usize, list: &mut [u8]) -> Kept
-    requires { Given l numbers.now y.now × (cap * bytesFor (rowBits l) ≤ length list.old) }
+    requires { Given l numbers.now y.now × (cap * bytes_for (row_bits l) ≤ length list.old) }
     ensures { Listed l numbers.now y.now cap list.old list.new
         result.count result.more }
 {

@@ -1,7 +1,7 @@
 -- Sets of residues modulo some number, as the bits of words, 64 to a word; a set may stand twice, the second copy behind
 -- the first.
 use Rattle.std.specs.Prelude.{ℕ, ◌+◌, ◌*◌, ◌/◌, ◌%◌, ◌^◌, ◌<◌, ◌≤◌, ◌≡◌, List, length, get_or}
-use Rattle.bits.specs.Bits.{longestLine}
+use Rattle.bits.specs.Bits.{longest_line}
 
 -- bit b of a word is one
 abbrev pub One : (w b : ℕ) → Type 0
@@ -29,7 +29,7 @@ MovedTwice m by from to = (r : ℕ) → r < m → Twice m from r → Twice m to 
 
 -- m is the modulus of the sum of at most 2,040 bits, and a set of residues modulo m is long enough to stand twice
 abbrev pub Long : (m : ℕ) (set : List ℕ) → Type 0
-Long m set = (m ≤ longestLine + 1) × (2 * (m / 64) + 1 < length set)
+Long m set = (m ≤ longest_line + 1) × (2 * (m / 64) + 1 < length set)
 
 -- and there is room for another one
 abbrev pub Room : (m : ℕ) (set other : List ℕ) → Type 0

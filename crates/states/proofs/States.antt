@@ -19,17 +19,17 @@ use Rattle.states.specs.States.{stride, state, each}
 abbrev pub lowered : (left : ℕ → ℕ) (s : ℕ) → ℕ → ℕ
 lowered left s t = cond (eqb t s) (left t - 1) (left t)
 
-pub lowered-there : (left : ℕ → ℕ) (s : ℕ) → lowered left s s ≡ left s - 1
-lowered-there left s = rw (eq-eqb s s refl) refl
+pub lowered_there : (left : ℕ → ℕ) (s : ℕ) → lowered left s s ≡ left s - 1
+lowered_there left s = rw (eq-eqb s s refl) refl
 
-pub lowered-other : (left : ℕ → ℕ) (s t : ℕ) → (t ≡ s → ⊥) → lowered left s t ≡ left t
-lowered-other left s t n = rw (ne_eqb t s n) refl
+pub lowered_other : (left : ℕ → ℕ) (s t : ℕ) → (t ≡ s → ⊥) → lowered left s t ≡ left t
+lowered_other left s t n = rw (ne_eqb t s n) refl
 
 module _ (size : ℕ → ℕ) where
-  pub stride-pos : (s : ℕ) → 0 < stride size s
+  pub stride_pos : (s : ℕ) → 0 < stride size s
   unfolding stride
-  stride-pos zero = omega arith
-  stride-pos (suc s) = mul-pos (stride size s) (size s) (stride-pos s)
+  stride_pos zero = omega arith
+  stride_pos (suc s) = mul-pos (stride size s) (size s) (stride_pos s)
     where
       mul-pos : (a b : ℕ) → 0 < a → 0 < a * (b + 1)
       mul-pos a b h = omega (arith, mul-le-mul_left {m = 1} {n = b + 1} a (omega arith))
@@ -81,11 +81,11 @@ module _ (size : ℕ → ℕ) where
         let m = mul-le-mul_right (stride size n) (h n (omega arith)) in
         omega (arith, mul_comm (stride size n) (size n))
 
-    last-digit : (n : ℕ) → ((t : ℕ) → t < n → left t ≤ size t) → left n ≤ size n
+    last_digit : (n : ℕ) → ((t : ℕ) → t < n → left t ≤ size t) → left n ≤ size n
         → (state size left n + left n * stride size n) / stride size n % (size n + 1) ≡ left n
-    last-digit n h l =
+    last_digit n h l =
         let d : (state size left n + left n * stride size n) / stride size n ≡ left n =
-        add-mul-div_right (state size left n) (left n) (stride-pos n)
+        add-mul-div_right (state size left n) (left n) (stride_pos n)
         ∙ ap (λ (v : ℕ). v + left n) (div-eq_of_lt (state-low n h)) ∙ zero-add (left n)
         in
         ap (λ (v : ℕ). v % (size n + 1)) d ∙ mod-eq_of_lt (omega arith)
@@ -102,7 +102,7 @@ module _ (size : ℕ → ℕ) where
         ∙ regroup (left n) r.0 (stride size s) b
         in
         ap (λ (v : ℕ). (state size left n + v) / stride size s % b) e
-        ∙ ap (λ (v : ℕ). v % b) (add-mul-div_right (state size left n) (left n * r.0 * b) (stride-pos s))
+        ∙ ap (λ (v : ℕ). v % b) (add-mul-div_right (state size left n) (left n * r.0 * b) (stride_pos s))
         ∙ add-mul-mod_self_right (state size left n / stride size s) (left n * r.0) b
       where
         next : (t : ℕ) → stride size (suc t) ≡ stride size t * (size t + 1)
@@ -121,7 +121,7 @@ module _ (size : ℕ → ℕ) where
       where
         go : Dec (s ≡ n) → (s < n → state size left n / stride size s % (size s + 1) ≡ left s)
             → (state size left n + left n * stride size n) / stride size s % (size s + 1) ≡ left s
-        go (yes e) r = rw e (last-digit n (λ t m. b t (omega arith)) (b n (omega arith)))
+        go (yes e) r = rw e (last_digit n (λ t m. b t (omega arith)) (b n (omega arith)))
         go (no e) r = early-digit n s (omega arith) ∙ r (omega arith)
 
   -- the state in which nothing is left is the first
@@ -142,11 +142,11 @@ module _ (size : ℕ → ℕ) where
       ap₂ (λ (u v : ℕ). u + v * stride size n) (state-same a b n (λ t l. h t (omega arith))) (h n (omega arith))
 
   -- where only block s has another number of losses left, the numbers of two states differ by what these count
-  pub state-but : (a b : ℕ → ℕ) (n s : ℕ) → s < n → ((t : ℕ) → t < n → (t ≡ s → ⊥) → a t ≡ b t)
+  pub state_but : (a b : ℕ → ℕ) (n s : ℕ) → s < n → ((t : ℕ) → t < n → (t ≡ s → ⊥) → a t ≡ b t)
       → state size a n + b s * stride size s ≡ state size b n + a s * stride size s
   unfolding state
-  state-but a b zero s h same = absurd (omega arith)
-  state-but a b (suc n) s h same = go (ℕ_discrete s n) (λ l. state-but a b n s l (λ t k d. same t (omega arith) d))
+  state_but a b zero s h same = absurd (omega arith)
+  state_but a b (suc n) s h same = go (ℕ_discrete s n) (λ l. state_but a b n s l (λ t k d. same t (omega arith) d))
     where
       go : Dec (s ≡ n) → (s < n → state size a n + b s * stride size s ≡ state size b n + a s * stride size s)
           → state size a n + a n * stride size n + b s * stride size s
@@ -155,21 +155,21 @@ module _ (size : ℕ → ℕ) where
       go (no e) r = rw (same n (omega arith) (λ q. e (sym q))) (omega (arith, r (omega arith)))
 
   -- one loss less lowers the number by the block's stride
-  pub state-lowered : (left : ℕ → ℕ) (n s : ℕ) → s < n → 0 < left s
+  pub state_lowered : (left : ℕ → ℕ) (n s : ℕ) → s < n → 0 < left s
       → state size (lowered left s) n + stride size s ≡ state size left n
   unfolding state
-  state-lowered left zero s h p = absurd (omega arith)
-  state-lowered left (suc n) s h p = go (ℕ_discrete s n) (λ l. state-lowered left n s l p)
+  state_lowered left zero s h p = absurd (omega arith)
+  state_lowered left (suc n) s h p = go (ℕ_discrete s n) (λ l. state_lowered left n s l p)
     where
       go : Dec (s ≡ n) → (s < n → state size (lowered left s) n + stride size s ≡ state size left n)
           → state size (lowered left s) n + lowered left s n * stride size n + stride size s
           ≡ state size left n + left n * stride size n
       go (yes e) r =
           let same : state size (lowered left s) n ≡ state size left n =
-          state-same (lowered left s) left n (λ t l. lowered-other left s t (λ q. omega arith))
+          state-same (lowered left s) left n (λ t l. lowered_other left s t (λ q. omega arith))
           in
           let own : lowered left s n ≡ left n - 1 =
-          ap (lowered left s) (sym e) ∙ lowered-there left s ∙ ap (λ (v : ℕ). left v - 1) e
+          ap (lowered left s) (sym e) ∙ lowered_there left s ∙ ap (λ (v : ℕ). left v - 1) e
           in
           let one : (left n - 1) * stride size n + stride size n ≡ left n * stride size n =
           less (left n) (stride size n) (rw (← e) p)
@@ -180,15 +180,15 @@ module _ (size : ℕ → ℕ) where
           less (suc a) b h = omega (arith, ap (λ (v : ℕ). v * b) (sub-one (suc a)))
           less zero b h = absurd (omega arith)
       go (no e) r =
-          let other : lowered left s n ≡ left n = lowered-other left s n (λ q. e (sym q)) in
+          let other : lowered left s n ≡ left n = lowered_other left s n (λ q. e (sym q)) in
           rw other (omega (arith, r (omega arith)))
 
   -- with no more left in any block the number is no higher
-  pub state-up : (a b : ℕ → ℕ) (n : ℕ) → ((t : ℕ) → t < n → a t ≤ b t) → state size a n ≤ state size b n
+  pub state_up : (a b : ℕ → ℕ) (n : ℕ) → ((t : ℕ) → t < n → a t ≤ b t) → state size a n ≤ state size b n
   unfolding state
-  state-up a b zero h = omega arith
-  state-up a b (suc n) h =
-      omega (arith, state-up a b n (λ t l. h t (omega arith)), mul-le-mul_right (stride size n) (h n (omega arith)))
+  state_up a b zero h = omega arith
+  state_up a b (suc n) h =
+      omega (arith, state_up a b n (λ t l. h t (omega arith)), mul-le-mul_right (stride size n) (h n (omega arith)))
 
   -- states with one number have the same losses left
   pub state-only : (a b : ℕ → ℕ) (n : ℕ) → ((t : ℕ) → t < n → a t ≤ size t) → ((t : ℕ) → t < n → b t ≤ size t)
@@ -197,19 +197,19 @@ module _ (size : ℕ → ℕ) where
       sym (digit a n s h ha) ∙ ap (λ (q : ℕ). q / stride size s % (size s + 1)) e ∙ digit b n s h hb
 
 -- bytes: six of them make at most 256 ^ 6 states
-pub byte-strides : (xs : List ℕ) (s : ℕ) → s ≤ 6 → ((t : ℕ) → t < s → get_or xs t 0 ≤ 255)
+pub byte_strides : (xs : List ℕ) (s : ℕ) → s ≤ 6 → ((t : ℕ) → t < s → get_or xs t 0 ≤ 255)
     → stride (each xs) s ≤ 281474976710656
-byte-strides xs s h bytes =
+byte_strides xs s h bytes =
     omega (arith, stride-high (each xs) s bytes, pow-le-pow_right {n = 256} (omega arith) h)
 
 -- ---- the state with a number
 -- the losses left in it
-abbrev pub digitsOf : (size : ℕ → ℕ) (q : ℕ) → ℕ → ℕ
-digitsOf size q s = q / stride size s % (size s + 1)
+abbrev pub digits_of : (size : ℕ → ℕ) (q : ℕ) → ℕ → ℕ
+digits_of size q s = q / stride size s % (size s + 1)
 
 -- the number of the state whose digits are those of q, and what is above them
 state-digits : (size : ℕ → ℕ) (q n : ℕ)
-    → state size (digitsOf size q) n + q / stride size n * stride size n ≡ q
+    → state size (digits_of size q) n + q / stride size n * stride size n ≡ q
 unfolding state stride
 state-digits size q zero = omega (arith, div-one q)
 state-digits size q (suc n) =
@@ -227,11 +227,11 @@ state-digits size q (suc n) =
     regroup : (m a b : ℕ) → m * (a * b) ≡ m * b * a
     regroup m a b = omega arith
 
-pub state-of : (size : ℕ → ℕ) (q n : ℕ) → q < stride size n → state size (digitsOf size q) n ≡ q
-state-of size q n low =
+pub state_of_is : (size : ℕ → ℕ) (q n : ℕ) → q < stride size n → state size (digits_of size q) n ≡ q
+state_of_is size q n low =
     let z : q / stride size n ≡ 0 = div-eq_of_lt low in
     omega (arith, rw z at (state-digits size q n))
 
 -- no block has more left than it has at most
-pub digits-most : (size : ℕ → ℕ) (q s : ℕ) → digitsOf size q s ≤ size s
+pub digits-most : (size : ℕ → ℕ) (q s : ℕ) → digits_of size q s ≤ size s
 digits-most size q s = omega (arith, mod-lt (q / stride size s) {m = size s + 1} (omega arith))

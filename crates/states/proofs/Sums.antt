@@ -11,8 +11,8 @@ use native.Mathlib.Omega.{arith}
 use lib.ListN.{length, get_or, set}
 use lib.Seq.{get_or-set_same, get_or-set_other}
 use Rattle.states.specs.declared.Shape.{Shape}
-use Rattle.states.specs.States.{stride, state, each, lefts, firsts, entry_at, addedUp, Valued, Raised, WithBlock}
-use Rattle.states.proofs.States.{state-low, state-of, digitsOf, digits-most}
+use Rattle.states.specs.States.{stride, state, each, lefts, firsts, entry_at, added_up, Valued, Raised, WithBlock}
+use Rattle.states.proofs.States.{state-low, state_of_is, digits_of, digits-most}
 
 -- ---- sums over the first blocks
 -- of what is the same in each
@@ -22,11 +22,11 @@ firsts_same f g zero h = refl
 firsts_same f g (suc n) h = omega (arith, firsts_same f g n (λ s k. h s (omega arith)), h n (omega arith))
 
 -- of what is the same in each but one
-pub firsts-but : (f g : ℕ → ℕ) (n s : ℕ) → s < n → ((t : ℕ) → t < n → (t ≡ s → ⊥) → f t ≡ g t)
+pub firsts_but : (f g : ℕ → ℕ) (n s : ℕ) → s < n → ((t : ℕ) → t < n → (t ≡ s → ⊥) → f t ≡ g t)
     → firsts f n + g s ≡ firsts g n + f s
 unfolding firsts
-firsts-but f g zero s k h = absurd (omega arith)
-firsts-but f g (suc n) s k h = go (ℕ_discrete s n) (λ i. firsts-but f g n s i (λ t i d. h t (omega arith) d))
+firsts_but f g zero s k h = absurd (omega arith)
+firsts_but f g (suc n) s k h = go (ℕ_discrete s n) (λ i. firsts_but f g n s i (λ t i d. h t (omega arith) d))
   where
     go : Dec (s ≡ n) → (s < n → firsts f n + g s ≡ firsts g n + f s) → firsts f n + f n + g s ≡ firsts g n + g n + f s
     go (yes e) before = rw e (omega (arith, firsts_same f g n (λ t i. h t (omega arith) (λ d. omega (arith, d, e)))))
@@ -44,8 +44,8 @@ firsts-one f (suc n) s k = go (ℕ_discrete s n) (firsts-one f n s)
 
 -- ---- an entry more of those that are put at a place
 module _ (to v : ℕ) (xs : List ℕ) where
-  pub raised-none : Raised to 0 v xs xs
-  raised-none = record {
+  pub raised_none : Raised to 0 v xs xs
+  raised_none = record {
     put = λ p h. absurd (omega arith);
     below = λ i h. refl;
     behind = λ i h. refl;
@@ -57,9 +57,9 @@ module _ (to v : ℕ) (xs : List ℕ) where
     unraised apart =
         ⊎_elim (λ e. so_far.behind p (omega arith)) (λ h. so_far.below p h) apart
 
-    pub raised-more : (to ≡ 0) ⊎ (p < to) → to + p < length ys
+    pub raised_more : (to ≡ 0) ⊎ (p < to) → to + p < length ys
         → Raised to (p + 1) v xs (set ys (to + p) (get_or ys p 0 + v))
-    raised-more apart room = record {
+    raised_more apart room = record {
       put = λ k h. put k h (ℕ_discrete k p);
       below = λ i h. get_or-set_other ys (to + p) i w 0 (λ e. omega (arith, e)) ∙ so_far.below i h;
       behind = λ i h. get_or-set_other ys (to + p) i w 0 (λ e. omega (arith, e)) ∙ so_far.behind i (omega arith);
@@ -81,28 +81,28 @@ pub record DownTo (d len size at : ℕ) (values entry exit : List ℕ) : Type 0 
   pub below : (i : ℕ) → i < d * len → get_or exit i 0 ≡ get_or entry i 0
 
 -- there is room for each of them, at the place of the sums themselves or behind them
-pub down-room : (len size d room : ℕ) → len * (size + 1) ≤ room → d ≤ size → d * len + len ≤ room
-down-room len size d room h k = omega (arith, mul-le-mul_right {m = d + 1} {n = size + 1} len (omega arith))
+pub down_room : (len size d room : ℕ) → len * (size + 1) ≤ room → d ≤ size → d * len + len ≤ room
+down_room len size d room h k = omega (arith, mul-le-mul_right {m = d + 1} {n = size + 1} len (omega arith))
 
-pub down-apart : (len d : ℕ) → (d * len ≡ 0) ⊎ (len ≤ d * len)
-down-apart len zero = inl (omega arith)
-down-apart len (suc d) = inr (omega arith)
+pub down_apart : (len d : ℕ) → (d * len ≡ 0) ⊎ (len ≤ d * len)
+down_apart len zero = inl (omega arith)
+down_apart len (suc d) = inr (omega arith)
 
 module _ (len size at : ℕ) (values xs : List ℕ) where
-  pub down-none : DownTo (size + 1) len size at values xs xs
-  down-none = record { put = λ e p h k l. absurd (omega arith); below = λ i h. refl }
+  pub down_none : DownTo (size + 1) len size at values xs xs
+  down_none = record { put = λ e p h k l. absurd (omega arith); below = λ i h. refl }
 
-  pub down-all : (ys : List ℕ) → DownTo 0 len size at values xs ys → WithBlock len size at values xs ys
-  down-all ys down = record { put = λ e p h k. down.put e p (omega arith) h k }
+  pub down_all : (ys : List ℕ) → DownTo 0 len size at values xs ys → WithBlock len size at values xs ys
+  down_all ys down = record { put = λ e p h k. down.put e p (omega arith) h k }
 
   module _ (d : ℕ) (ys : List ℕ) (down : DownTo (d + 1) len size at values xs ys) where
     -- the sums to be put stand as they did
     pub own : (p : ℕ) → p < len → get_or ys p 0 ≡ get_or xs p 0
     own p h = down.below p (omega (arith, mul-le-mul_right {m = 1} {n = d + 1} len (omega arith)))
 
-    pub down-more : (zs : List ℕ) → Raised (d * len) len (get_or values (at + d) 0) ys zs
+    pub down_more : (zs : List ℕ) → Raised (d * len) len (get_or values (at + d) 0) ys zs
         → DownTo d len size at values xs zs
-    down-more zs raised = record {
+    down_more zs raised = record {
       put = λ e p h k l. put e p h k l (ℕ_discrete e d);
       below = λ i h. raised.below i h ∙ down.below i (omega (arith, next));
     }
@@ -123,7 +123,7 @@ module _ (shape : Shape) (values : List ℕ) where
   -- what the values of the first n blocks add up to stands at the number of each state of them
   abbrev pub Sums : (n : ℕ) (sums : List ℕ) → Type 0
   Sums n sums = (left : ℕ → ℕ) → ((t : ℕ) → t < n → left t ≤ each shape.size t)
-      → get_or sums (state (each shape.size) left n) 0 ≡ addedUp values left n
+      → get_or sums (state (each shape.size) left n) 0 ≡ added_up values left n
 
   pub sums_none : (sums : List ℕ) → get_or sums 0 0 ≡ 0 → Sums 0 sums
   unfolding state firsts
@@ -145,7 +145,7 @@ module _ (shape : Shape) (values : List ℕ) where
   module _ (valued : Valued shape values) where
     -- no sum is greater than a thousand a block
     added-low : (left : ℕ → ℕ) (n : ℕ) → n ≤ shape.n → ((t : ℕ) → t < n → left t ≤ each shape.size t)
-        → addedUp values left n ≤ 1000 * n
+        → added_up values left n ≤ 1000 * n
     unfolding firsts
     added-low left zero k h = omega arith
     added-low left (suc n) k h =
@@ -160,8 +160,8 @@ module _ (shape : Shape) (values : List ℕ) where
         → (p : ℕ) → p < stride (each shape.size) n → get_or sums p 0 ≤ 1000 * n
     sums-low n k sums is p l =
         let size = each shape.size in
-        let left = digitsOf size p in
+        let left = digits_of size p in
         let within : (t : ℕ) → t < n → left t ≤ size t = λ t h. digits-most size p t in
-        let e : get_or sums p 0 ≡ addedUp values left n =
-        ap (λ (i : ℕ). get_or sums i 0) (sym (state-of size p n l)) ∙ is left within in
+        let e : get_or sums p 0 ≡ added_up values left n =
+        ap (λ (i : ℕ). get_or sums i 0) (sym (state_of_is size p n l)) ∙ is left within in
         omega (arith, e, added-low left n k within)

@@ -18,8 +18,8 @@ abbrev pub each : List ℕ → ℕ → ℕ
 each xs s = get_or xs s 0
 
 -- the most loss states whose marks are kept
-abbrev pub mostStates : ℕ
-mostStates = 729
+abbrev pub most_states : ℕ
+most_states = 729
 
 -- the numbers of losses that tables tell apart, none to twelve
 abbrev pub lefts : ℕ
@@ -48,8 +48,8 @@ abbrev pub entries : ℕ
 entries = 78
 
 -- what the values of the first n blocks add up to, where block s has left s losses left
-abbrev pub addedUp : (values : List ℕ) (left : ℕ → ℕ) (n : ℕ) → ℕ
-addedUp values left n = firsts (λ s. get_or values (entry_at s (left s)) 0) n
+abbrev pub added_up : (values : List ℕ) (left : ℕ → ℕ) (n : ℕ) → ℕ
+added_up values left n = firsts (λ s. get_or values (entry_at s (left s)) 0) n
 
 -- a table of values for the blocks of a shape, which have few losses: there is room for all, and the values are small
 pub record Valued (shape : Shape) (values : List ℕ) : Type 0 where

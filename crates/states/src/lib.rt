@@ -1,7 +1,7 @@
 // Loss states: how many losses each of a few blocks has left, as one number of mixed radix. Contracts cite specs/States.antt.
 ghost use Rattle.std.specs.Prelude.{◌≡◌, ◌⊎◌, ℕ, ◌+◌, ◌*◌, ◌<◌, ◌≤◌, length, get_or};
 ghost use Rattle.states.specs.States.{stride, state, each, Shaped, state_of};
-ghost use Rattle.states.specs.States.{Valued, addedUp, Raised, WithBlock};
+ghost use Rattle.states.specs.States.{Valued, added_up, Raised, WithBlock};
 
 // The most blocks with two losses or more.
 pub const MOST_HEAVY: usize = 6;
@@ -132,7 +132,7 @@ pub fn add_up(shape: Shape, values: &[u16], sums: &mut [u16])
         × ((shape.states ≤ length sums.old) × Valued shape values.now) }
     ensures { (length sums.new ≡ length sums.old)
         × ((left : ℕ → ℕ) → ((s : ℕ) → s < shape.n → left s ≤ each shape.size s)
-        → get_or sums.new (state_of shape left) 0 ≡ addedUp values.now left shape.n) }
+        → get_or sums.new (state_of shape left) 0 ≡ added_up values.now left shape.n) }
 {
     sums[0] = 0;
     let mut s: usize = 0;

@@ -11,40 +11,40 @@ use borrow.Author.Tests.{ne_eqb}
 use lib.Dec.{eqb}
 use lib.ListN.{length, get_or, set, length-set}
 use lib.Seq.{get_or-set_same, get_or-set_other}
-use Rattle.bits.proofs.Laws.{lt-or-ge}
+use Rattle.bits.proofs.Laws.{lt_or_ge}
 use Rattle.message.specs.declared.Layout.{Layout}
 use Rattle.states.specs.States.{state, stride, each, firsts}
 use Rattle.states.specs.declared.Shape.{Shape}
-use Rattle.states.proofs.States.{stride-pos}
+use Rattle.states.proofs.States.{stride_pos}
 use Rattle.weigh.specs.Weigh.{brought}
-use Rattle.column.specs.Column.{apartIn}
+use Rattle.column.specs.Column.{apart_in}
 use Rattle.column.specs.declared.Heavy.{Heavy}
 use Rattle.column.proofs.Rows.{one-most}
-use Rattle.choices.specs.Choices.{addsOf, leastOf, most_of, other_of, Suits, Offers}
-use Rattle.steps.specs.Steps.{Above, Raises, oneIf, markedBelow, Counts, broughtIn}
-use Rattle.steps.specs.Steps.{addedBy, Picks, Ground, Low, Stands, With, Ends, Gains}
+use Rattle.choices.specs.Choices.{adds_of, least_of, most_of, other_of, Suits, Offers}
+use Rattle.steps.specs.Steps.{Above, Raises, one_if, marked_below, Counts, brought_in}
+use Rattle.steps.specs.Steps.{added_by, Picks, Ground, Low, Stands, With, Ends, Gains}
 use Rattle.steps.specs.declared.Stand.{Stand}
 
 -- ---- marked states are counted
 module _ (marks : List ℕ) (at : ℕ) where
   -- no more states are marked than there are
-  pub marked-most : (q : ℕ) → markedBelow marks at q ≤ q
-  unfolding markedBelow
+  pub marked-most : (q : ℕ) → marked_below marks at q ≤ q
+  unfolding marked_below
   marked-most zero = omega arith
   marked-most (suc q) = omega (arith, marked-most q, one-most (eqb (get_or marks (at + q) 0) 0))
 
   -- below a higher state no fewer are marked
-  marked-rises : (low high : ℕ) → low ≤ high → markedBelow marks at low ≤ markedBelow marks at high
-  unfolding markedBelow
+  marked-rises : (low high : ℕ) → low ≤ high → marked_below marks at low ≤ marked_below marks at high
+  unfolding marked_below
   marked-rises low zero h = let e : low ≡ 0 = omega arith in rw e (omega arith)
   marked-rises low (suc high) h =
       ⊎_elim (λ (k : low < suc high). omega (arith, marked-rises low high (omega arith)))
       (λ (k : suc high ≤ low). let e : low ≡ suc high = omega arith in rw e (omega arith))
-      (lt-or-ge low (suc high))
+      (lt_or_ge low (suc high))
 
   -- a marked state counts
-  marked-counts : (q : ℕ) → 0 < get_or marks (at + q) 0 → markedBelow marks at q < markedBelow marks at (suc q)
-  unfolding markedBelow
+  marked-counts : (q : ℕ) → 0 < get_or marks (at + q) 0 → marked_below marks at q < marked_below marks at (suc q)
+  unfolding marked_below
   marked-counts q m = rw (ne_eqb (get_or marks (at + q) 0) 0 (λ e. omega arith)) (omega arith)
 
   -- where as many states are marked below two states, none between them is
@@ -55,9 +55,9 @@ module _ (marks : List ℕ) (at : ℕ) where
       omega (arith, c low (omega arith), c high top, marked-rises low q a, marked-counts q m, up)
 
   -- the counts with those of one state more
-  pub counts-next : (q d : ℕ) (some : List ℕ) → q + 1 < length some → d ≡ oneIf (get_or marks (at + q) 0)
+  pub counts-next : (q d : ℕ) (some : List ℕ) → q + 1 < length some → d ≡ one_if (get_or marks (at + q) 0)
       → Counts marks at q some → Counts marks at (q + 1) (set some (q + 1) (get_or some q 0 + d))
-  unfolding markedBelow
+  unfolding marked_below
   counts-next q d some long own c i h =
       ⊎_elim
       (λ (k : i < q + 1).
@@ -66,7 +66,7 @@ module _ (marks : List ℕ) (at : ℕ) where
       let e : i ≡ suc q = omega arith in
       let is = get_or-set_same some (q + 1) (get_or some q 0 + d) 0 long in
       rw (e, ← add-one q) (is ∙ ap₂ ◌+◌ (c q (omega arith)) own))
-      (lt-or-ge i (q + 1))
+      (lt_or_ge i (q + 1))
 
 -- ---- marks are raised
 -- a mark that is higher is above as much
@@ -76,16 +76,16 @@ above_more there apart a b h u = ⊎_elim (λ k. inl (omega arith)) (λ k. inr (
 pub above-less : (there few more mark : ℕ) → few ≤ more → Above there more mark → Above there few mark
 above-less there few more mark h u = ⊎_elim (λ k. inl (omega arith)) (λ k. inr k) u
 
-pub raises-same : (fresh : List ℕ) → Raises fresh fresh
-raises-same fresh = record { long = refl; grows = λ i. omega arith }
+pub raises_same : (fresh : List ℕ) → Raises fresh fresh
+raises_same fresh = record { long = refl; grows = λ i. omega arith }
 
-pub raises-then : {entry mid exit : List ℕ} → Raises entry mid → Raises mid exit → Raises entry exit
-raises-then a b =
+pub raises_then : {entry mid exit : List ℕ} → Raises entry mid → Raises mid exit → Raises entry exit
+raises_then a b =
     record { long = b.long ∙ a.long; grows = λ i. omega (arith, a.grows i, b.grows i) }
 
 -- a mark that is set to a higher one
-pub raises-set : (fresh : List ℕ) (q v : ℕ) → q < length fresh → get_or fresh q 0 ≤ v → Raises fresh (set fresh q v)
-raises-set fresh q v h up = record { long = length-set fresh q v; grows = λ i. go i (ℕ_discrete i q) }
+pub raises_set : (fresh : List ℕ) (q v : ℕ) → q < length fresh → get_or fresh q 0 ≤ v → Raises fresh (set fresh q v)
+raises_set fresh q v h up = record { long = length-set fresh q v; grows = λ i. go i (ℕ_discrete i q) }
   where
     go : (i : ℕ) → Dec (i ≡ q) → get_or fresh i 0 ≤ get_or (set fresh q v) i 0
     go i (yes e) = rw (e, get_or-set_same fresh q v 0 h) up
@@ -95,9 +95,9 @@ raises-set fresh q v h up = record { long = length-set fresh q v; grows = λ i. 
 module _ {choices from : List ℕ} {shape : Shape} {modulus need : ℕ} {marks : List ℕ} {at : ℕ} {some fresh : List ℕ}
     (g : Ground choices from shape modulus need marks at some fresh) where
   -- what a sweep reads stays as it is while marks are raised
-  pub ground-stays : (new : List ℕ) → length new ≡ length fresh
+  pub ground_stays : (new : List ℕ) → length new ≡ length fresh
       → Ground choices from shape modulus need marks at some new
-  ground-stays new same =
+  ground_stays new same =
       record {
         few = g.few;
         shaped = g.shaped;
@@ -110,41 +110,41 @@ module _ {choices from : List ℕ} {shape : Shape} {modulus need : ℕ} {marks :
       }
 
   -- where a sweep stands its numbers are small
-  pub stands-low : {s : ℕ} {stand : Stand} → Stands shape s stand → Low stand
-  stands-low k =
+  pub stands_low : {s : ℕ} {stand : Stand} → Stands shape s stand → Low stand
+  stands_low k =
       record {
-        q-low = omega (arith, k.room, g.states);
+        q_low = omega (arith, k.room, g.states);
         least-low = omega (arith, k.least, g.few);
         most-low = omega (arith, k.most, g.few);
         apart_low = omega (arith, k.others, g.few);
       }
 
   -- and the number that it stands at is that of a state
-  pub stands-inside : {s : ℕ} {stand : Stand} → Stands shape s stand → stand.q < shape.states
-  stands-inside {s} k = omega (arith, k.room, stride-pos (each shape.size) s)
+  pub stands_inside : {s : ℕ} {stand : Stand} → Stands shape s stand → stand.q < shape.states
+  stands_inside {s} k = omega (arith, k.room, stride_pos (each shape.size) s)
 
   -- with a choice of block b picked it stands one block further
-  pub stands-with : (b t : ℕ) {stand wider : Stand} → get_or from b 0 ≤ t → t < get_or from (b + 1) 0
+  pub stands_with : (b t : ℕ) {stand wider : Stand} → get_or from b 0 ≤ t → t < get_or from (b + 1) 0
       → Stands shape (suc b) stand → With choices t stand wider → Stands shape b wider
   unfolding stride
-  stands-with b t low high k w =
+  stands_with b t low high k w =
       let small = (g.listed b t (omega (arith, k.inside)) low high).1 in
       record {
         inside = omega (arith, k.inside);
-        room = omega (arith, k.room, w.q-is, small.adds-small);
-        least = omega (arith, k.least, w.least-is, small.least-small);
-        most = omega (arith, k.most, w.most-is, small.most-small);
-        others = omega (arith, k.others, w.apart-is, small.other-small);
+        room = omega (arith, k.room, w.q_is, small.adds_small);
+        least = omega (arith, k.least, w.least_is, small.least-small);
+        most = omega (arith, k.most, w.most_is, small.most-small);
+        others = omega (arith, k.others, w.apart_is, small.other-small);
       }
 
   -- the choices of the first s blocks add less than a loss of block s
   picked_low : (pick : ℕ → ℕ) (s : ℕ) → s ≤ shape.n → Picks from pick s
-      → addedBy (addsOf choices) pick s < stride (each shape.size) s
+      → added_by (adds_of choices) pick s < stride (each shape.size) s
   unfolding firsts stride
   picked_low pick zero h p = omega arith
   picked_low pick (suc b) h p =
       let own = p b (omega arith) in
-      let small = (g.listed b (pick b) (omega arith) own.0 own.1).1.adds-small in
+      let small = (g.listed b (pick b) (omega arith) own.0 own.1).1.adds_small in
       omega (arith, small, picked_low pick b (omega arith) (λ c k. p c (omega arith)))
 
   -- where none of the states is marked that the blocks left can make, nothing is to be raised
@@ -156,7 +156,7 @@ module _ {choices from : List ℕ} {shape : Shape} {modulus need : ℕ} {marks :
       record {
         above = λ n low high e m.
             absurd (none_between marks at shape.states some g.counted.counted stand.q
-            (stand.q + stride (each shape.size) s) k.room same (stand.q + addedBy (addsOf choices) pick s)
+            (stand.q + stride (each shape.size) s) k.room same (stand.q + added_by (adds_of choices) pick s)
             (omega arith) (omega (arith, less)) m);
       }
 
@@ -178,24 +178,24 @@ module _ {choices : List ℕ} {modulus need there : ℕ} {marks : List ℕ} {at 
       })
 
   -- the choice of block b with those of the blocks before it
-  pub gains-pick : (b t : ℕ) {stand wider : Stand} {exit : List ℕ} (pick : ℕ → ℕ) → pick b ≡ t
+  pub gains_pick : (b t : ℕ) {stand wider : Stand} {exit : List ℕ} (pick : ℕ → ℕ) → pick b ≡ t
       → With choices t stand wider → Gains choices modulus need there marks at b wider exit pick
       → Gains choices modulus need there marks at (suc b) stand exit pick
   unfolding firsts
-  gains-pick b t {stand} {wider} {exit} pick is w r =
-      let d : ℕ = addedBy (addsOf choices) pick b in
-      let o : ℕ = addedBy (other_of choices) pick b in
-      let adds : addsOf choices (pick b) ≡ addsOf choices t = ap (addsOf choices) is in
+  gains_pick b t {stand} {wider} {exit} pick is w r =
+      let d : ℕ = added_by (adds_of choices) pick b in
+      let o : ℕ = added_by (other_of choices) pick b in
+      let adds : adds_of choices (pick b) ≡ adds_of choices t = ap (adds_of choices) is in
       let other : other_of choices (pick b) ≡ other_of choices t = ap (other_of choices) is in
-      let state : stand.q + (d + addsOf choices (pick b)) ≡ wider.q + d = omega (arith, adds, w.q-is) in
-      let apart-is : stand.apart + (o + other_of choices (pick b)) ≡ wider.apart + o =
-      omega (arith, other, w.apart-is) in
-      let least : leastOf choices (pick b) ≡ leastOf choices t = ap (leastOf choices) is in
+      let state : stand.q + (d + adds_of choices (pick b)) ≡ wider.q + d = omega (arith, adds, w.q_is) in
+      let apart_is : stand.apart + (o + other_of choices (pick b)) ≡ wider.apart + o =
+      omega (arith, other, w.apart_is) in
+      let least : least_of choices (pick b) ≡ least_of choices t = ap (least_of choices) is in
       let most : most_of choices (pick b) ≡ most_of choices t = ap (most_of choices) is in
       record {
         above = λ n low high e m.
-            rw (state, apart-is)
-            (r.above n (omega (arith, low, w.least-is, least)) (omega (arith, high, w.most-is, most)) e
+            rw (state, apart_is)
+            (r.above n (omega (arith, low, w.least_is, least)) (omega (arith, high, w.most_is, most)) e
             (rw state at m));
       }
 
@@ -205,58 +205,58 @@ module _ {l : Layout} {heavy : Heavy} {z vs : List ℕ} {j : ℕ} {choices : Lis
     → Offers l heavy z vs j b choices (next b * stride size b) (get_or from b 0) (get_or from (b + 1) 0)) where
   -- the choice of its chunk in block b
   pub its : ℕ → ℕ
-  its b = ⊎_elim (λ h. (offers b h).0) (λ (h : heavy.n ≤ b). 0) (lt-or-ge b heavy.n)
+  its b = ⊎_elim (λ h. (offers b h).0) (λ (h : heavy.n ≤ b). 0) (lt_or_ge b heavy.n)
 
   its-suits : (b : ℕ) → b < heavy.n
       → ((get_or from b 0 ≤ its b) × (its b < get_or from (b + 1) 0))
       × Suits l heavy z vs j b choices (next b * stride size b) (its b)
   unfolding its
-  its-suits b h = go (lt-or-ge b heavy.n)
+  its-suits b h = go (lt_or_ge b heavy.n)
     where
       go : (d : (b < heavy.n) ⊎ (heavy.n ≤ b)) → let t = ⊎_elim (λ h. (offers b h).0) (λ (h : heavy.n ≤ b). 0) d in
           ((get_or from b 0 ≤ t) × (t < get_or from (b + 1) 0)) × Suits l heavy z vs j b choices (next b * stride size b) t
       go (inl k) = (offers b k).1
       go (inr k) = absurd (omega arith)
 
-  pub its-picks : Picks from its heavy.n
-  its-picks b h = (its-suits b h).0
+  pub its_picks : Picks from its heavy.n
+  its_picks b h = (its-suits b h).0
 
   -- they add up to the state that it is at after the column, and to what it brings and where it is another
-  pub its-state : (s : ℕ) → s ≤ heavy.n → addedBy (addsOf choices) its s ≡ state size next s
+  pub its_state : (s : ℕ) → s ≤ heavy.n → added_by (adds_of choices) its s ≡ state size next s
   unfolding firsts state
-  its-state zero h = refl
-  its-state (suc b) h = ap₂ ◌+◌ (its-state b (omega arith)) (its-suits b (omega arith)).1.adds-just
+  its_state zero h = refl
+  its_state (suc b) h = ap₂ ◌+◌ (its_state b (omega arith)) (its-suits b (omega arith)).1.adds_just
 
-  pub its-least : (s : ℕ) → s ≤ heavy.n → addedBy (leastOf choices) its s ≤ 2 * broughtIn l heavy vs j s
+  pub its_least : (s : ℕ) → s ≤ heavy.n → added_by (least_of choices) its s ≤ 2 * brought_in l heavy vs j s
   unfolding firsts brought
-  its-least zero h = omega arith
-  its-least (suc b) h = omega (arith, its-least b (omega arith), (its-suits b (omega arith)).1.least)
+  its_least zero h = omega arith
+  its_least (suc b) h = omega (arith, its_least b (omega arith), (its-suits b (omega arith)).1.least)
 
-  pub its-most : (s : ℕ) → s ≤ heavy.n → 2 * broughtIn l heavy vs j s ≤ addedBy (most_of choices) its s
+  pub its_most : (s : ℕ) → s ≤ heavy.n → 2 * brought_in l heavy vs j s ≤ added_by (most_of choices) its s
   unfolding firsts brought
-  its-most zero h = omega arith
-  its-most (suc b) h = omega (arith, its-most b (omega arith), (its-suits b (omega arith)).1.most)
+  its_most zero h = omega arith
+  its_most (suc b) h = omega (arith, its_most b (omega arith), (its-suits b (omega arith)).1.most)
 
-  pub its-others : (s : ℕ) → s ≤ heavy.n → apartIn l heavy z vs j s ≤ addedBy (other_of choices) its s
-  unfolding firsts apartIn
-  its-others zero h = omega arith
-  its-others (suc b) h = omega (arith, its-others b (omega arith), (its-suits b (omega arith)).1.other)
+  pub its_others : (s : ℕ) → s ≤ heavy.n → apart_in l heavy z vs j s ≤ added_by (other_of choices) its s
+  unfolding firsts apart_in
+  its_others zero h = omega arith
+  its_others (suc b) h = omega (arith, its_others b (omega arith), (its-suits b (omega arith)).1.other)
 
   -- so with all blocks picked the mark of the state that it is at after the column is raised for it
-  pub its-above : {modulus need there : ℕ} {marks : List ℕ} {at : ℕ} {stand : Stand} {fresh : List ℕ}
+  pub its_above : {modulus need there : ℕ} {marks : List ℕ} {at : ℕ} {stand : Stand} {fresh : List ℕ}
       → Gains choices modulus need there marks at heavy.n stand fresh its
       → (stand.q ≡ 0) × ((stand.span.low ≡ 0) × ((stand.span.high ≡ 0) × (stand.apart ≡ 0)))
-      → broughtIn l heavy vs j heavy.n % modulus ≡ need → 0 < get_or marks (at + state size next heavy.n) 0
-      → Above there (apartIn l heavy z vs j heavy.n) (get_or fresh (state size next heavy.n) 0)
-  its-above {there = there} {marks} {at} {stand} {fresh} g none is m =
+      → brought_in l heavy vs j heavy.n % modulus ≡ need → 0 < get_or marks (at + state size next heavy.n) 0
+      → Above there (apart_in l heavy z vs j heavy.n) (get_or fresh (state size next heavy.n) 0)
+  its_above {there = there} {marks} {at} {stand} {fresh} g none is m =
       let n : ℕ = heavy.n in
       let whole : n ≤ heavy.n = omega arith in
-      let same : stand.q + addedBy (addsOf choices) its n ≡ state size next n =
-      omega (arith, none.0, its-state n whole) in
+      let same : stand.q + added_by (adds_of choices) its n ≡ state size next n =
+      omega (arith, none.0, its_state n whole) in
       let raised =
-      g.above (broughtIn l heavy vs j n) (omega (arith, none.1.0, its-least n whole))
-      (omega (arith, none.1.1.0, its-most n whole)) is
+      g.above (brought_in l heavy vs j n) (omega (arith, none.1.0, its_least n whole))
+      (omega (arith, none.1.1.0, its_most n whole)) is
       (subst (λ (v : ℕ). 0 < get_or marks (at + v) 0) (sym same) m) in
-      above-less there (apartIn l heavy z vs j n) (stand.apart + addedBy (other_of choices) its n) _
-      (omega (arith, its-others n whole))
-      (subst (λ (v : ℕ). Above there (stand.apart + addedBy (other_of choices) its n) (get_or fresh v 0)) same raised)
+      above-less there (apart_in l heavy z vs j n) (stand.apart + added_by (other_of choices) its n) _
+      (omega (arith, its_others n whole))
+      (subst (λ (v : ℕ). Above there (stand.apart + added_by (other_of choices) its n) (get_or fresh v 0)) same raised)

@@ -1,13 +1,13 @@
 // The steps over one column from a loss state: all loss states that a row can be at after it are found in one sweep over the choices of its
 // heavy blocks, block by block, and their marks are raised. Contracts cite specs/Steps.antt.
 ghost use Rattle.std.specs.Prelude.{◌≡◌, true, List, ℕ, ◌+◌, ◌*◌, ◌<◌, ◌≤◌, length, get_or};
-ghost use Rattle.bits.specs.Bits.{longestLine};
-ghost use Rattle.states.specs.States.{each, mostStates, state_of};
+ghost use Rattle.bits.specs.Bits.{longest_line};
+ghost use Rattle.states.specs.States.{each, most_states, state_of};
 ghost use Rattle.windows.specs.Windows.{Tables};
-ghost use Rattle.weigh.specs.Weigh.{chunkTop};
-ghost use Rattle.column.specs.Column.{Fit, Light, Crosses, apartIn};
+ghost use Rattle.weigh.specs.Weigh.{chunk_top};
+ghost use Rattle.column.specs.Column.{Fit, Light, Crosses, apart_in};
 ghost use Rattle.choices.specs.Choices.{Fitted, other_of};
-ghost use Rattle.steps.specs.Steps.{oneIf, Counts, Counted, Above, Raises, Picks, Ground, Low, Stands, With, Ends, Gains};
+ghost use Rattle.steps.specs.Steps.{one_if, Counts, Counted, Above, Raises, Picks, Ground, Low, Stands, With, Ends, Gains};
 
 use column::Heavy;
 use message::Layout;
@@ -16,7 +16,7 @@ use weigh::Span;
 
 // One for a mark, zero for none.
 fn one_if(mark: u8) -> u16
-    ensures { result ≡ oneIf mark }
+    ensures { result ≡ one_if mark }
 {
     if mark == 0 {
         return 0;
@@ -26,7 +26,7 @@ fn one_if(mark: u8) -> u16
 
 // Counts of the marked states below each, of the marks from a place on.
 pub fn count_marked(marks: &[u8], at: usize, states: usize, some: &mut [u16])
-    requires { (at + states ≤ length marks.now) × ((states < length some.old) × (states ≤ mostStates)) }
+    requires { (at + states ≤ length marks.now) × ((states < length some.old) × (states ≤ most_states)) }
     ensures { (length some.new ≡ length some.old)
         × Counts marks.now at states some.new }
 {
@@ -67,7 +67,7 @@ fn raise_one(
     stand: Stand,
     fresh: &mut [u8],
 )
-    requires { ((need < modulus) × (modulus ≤ longestLine + 1)) × ((stand.span.low ≤ 6 * chunkTop)
+    requires { ((need < modulus) × (modulus ≤ longest_line + 1)) × ((stand.span.low ≤ 6 * chunk_top)
         × ((at + stand.q < length marks.now) × (stand.q < length fresh.old))) }
     ensures { Raises fresh.old fresh.new
         × Ends modulus need there marks.now at stand fresh.new }
@@ -199,7 +199,7 @@ pub fn raise(
         → Light l heavy row known.now
         → Crosses l y.now numbers.now heavy row j (each left) next vs
         → 0 < get_or marks.now (at + state_of shape next) 0
-        → Above there (apartIn l heavy z.now vs j heavy.n)
+        → Above there (apart_in l heavy z.now vs j heavy.n)
         (get_or fresh.new (state_of shape next) 0)) }
 {
     let modulus = l.l1 * l.nc + 1;

@@ -14,14 +14,14 @@ use Rattle.message.specs.declared.Layout.{Layout}
 use Rattle.contents.specs.Contents.{Among}
 use Rattle.residues.specs.Residues.{Has}
 use Rattle.states.specs.States.{firsts}
-use Rattle.states.proofs.Sums.{firsts-but}
+use Rattle.states.proofs.Sums.{firsts_but}
 use Rattle.weigh.specs.Weigh.{brought}
 use Rattle.weigh.specs.declared.Chunks.{Chunks}
 use Rattle.column.specs.Column.{value_at, Crosses, Placed}
 use Rattle.column.specs.declared.Heavy.{Heavy}
 use Rattle.column.proofs.Rows.{crosses-can}
 use Rattle.sums.specs.declared.Beside.{Beside}
-use Rattle.sums.specs.Sums.{Completes, Listing, othersBring}
+use Rattle.sums.specs.Sums.{Completes, Listing, others_bring}
 
 -- what chunk b of a column brings
 abbrev own : (nc : ℕ) (block : List ℕ) (vs : ℕ → ℕ) → ℕ → ℕ
@@ -35,24 +35,24 @@ brought-firsts nc block vs (suc n) = omega (arith, brought-firsts nc block vs n)
 
 -- the others and one bring what all bring
 others-own : (nc : ℕ) (block : List ℕ) (vs : ℕ → ℕ) (s n : ℕ) → s < n
-    → othersBring nc block vs s n + own nc block vs s ≡ brought nc block vs n
+    → others_bring nc block vs s n + own nc block vs s ≡ brought nc block vs n
 others-own nc block vs s n h =
     let none : cond (eqb s s) 0 (own nc block vs s) ≡ 0 = rw (eq-eqb s s refl) refl in
     let but =
-    firsts-but (λ b. cond (eqb b s) 0 (own nc block vs b)) (own nc block vs) n s h
+    firsts_but (λ b. cond (eqb b s) 0 (own nc block vs b)) (own nc block vs) n s h
     (λ t k d. rw (ne_eqb t s d) refl)
     in
     omega (arith, but, none, brought-firsts nc block vs n)
 
 -- so a chunk with which they bring what the column is to have completes it
-pub others-complete : (nc m part : ℕ) (block : List ℕ) (vs : ℕ → ℕ) (s n : ℕ) → s < n → (beside : Beside) → beside.modulus ≡ m
-    → beside.first ≡ get_or block s 0 * nc + 1 → Has m beside.others (part + othersBring nc block vs s n)
+pub others_complete : (nc m part : ℕ) (block : List ℕ) (vs : ℕ → ℕ) (s n : ℕ) → s < n → (beside : Beside) → beside.modulus ≡ m
+    → beside.first ≡ get_or block s 0 * nc + 1 → Has m beside.others (part + others_bring nc block vs s n)
     → (part + brought nc block vs n) % m ≡ beside.want → Completes nc beside (vs s)
-others-complete nc m part block vs s n h beside modulus first has sum =
-    let all : part + othersBring nc block vs s n + own nc block vs s ≡ part + brought nc block vs n =
+others_complete nc m part block vs s n h beside modulus first has sum =
+    let all : part + others_bring nc block vs s n + own nc block vs s ≡ part + brought nc block vs n =
     omega (arith, others-own nc block vs s n h)
     in
-    rw (modulus, first) (part + othersBring nc block vs s n, (has, ap (λ (k : ℕ). k % m) all ∙ sum))
+    rw (modulus, first) (part + others_bring nc block vs s n, (has, ap (λ (k : ℕ). k % m) all ∙ sum))
 
 module _ {l : Layout} {y numbers : List ℕ} {heavy : Heavy} {row : List ℕ} {j : ℕ} {left next : ℕ → ℕ} {vs : List ℕ}
     (c : Crosses l y numbers heavy row j left next vs) {chunks : Chunks}

@@ -12,7 +12,7 @@ ghost use Rattle.residues.specs.Residues.{Has};
 ghost use Rattle.states.specs.States.{each};
 ghost use Rattle.weigh.specs.Weigh.{brought};
 ghost use Rattle.column.specs.Column.{Fit, Light, Crosses};
-ghost use Rattle.sums.specs.Sums.{Short, blockModulus, rest, Holds, HoldsFrom, Weighs, Completes, Listing, othersBring};
+ghost use Rattle.sums.specs.Sums.{Short, block_modulus, rest, Holds, HoldsFrom, Weighs, Completes, Listing, others_bring};
 
 use column::Heavy;
 use message::Layout;
@@ -144,7 +144,7 @@ fn other_sums(
         × (((b : ℕ) → b < n → get_or from (b + 1) 0 ≤ length list.now) × (known < 64))) }
     ensures { (vs : ℕ → ℕ) → known < l.l1 * l.nc + 1
         → ((b : ℕ) → b < n → (b ≡ s → ⊥) → Among list.now (get_or from b 0) (get_or from (b + 1) 0) (vs b))
-        → Has (l.l1 * l.nc + 1) result (known + othersBring l.nc block vs s n) }
+        → Has (l.l1 * l.nc + 1) result (known + others_bring l.nc block vs s n) }
 {
     let nc = l.nc;
     let modulus = l.l1 * nc + 1;
@@ -179,7 +179,7 @@ fn set_after(
     ensures { (vs : ℕ → ℕ) (k : ℕ) → known < l.l1 * l.nc + 1
         → ((b : ℕ) → b < heavy.n → Among list.now (get_or from b 0) (get_or from (b + 1) 0) (vs b))
         → (known + brought l.nc heavy.block vs heavy.n) % (l.l1 * l.nc + 1) ≡ want
-        → Has (blockModulus l) set (k + total (j * l.nc + 1) (digits l.nc (vs s))) → Has (blockModulus l) result k }
+        → Has (block_modulus l) set (k + total (j * l.nc + 1) (digits l.nc (vs s))) → Has (block_modulus l) result k }
 {
     let nc = l.nc;
     let beside = Beside {

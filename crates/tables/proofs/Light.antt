@@ -9,14 +9,14 @@ use native.Mathlib.Omega.{arith}
 use native.Mathlib.Decide.{ℕ_discrete}
 use lib.Dec.{eqb}
 use lib.ListN.{get_or}
-use Rattle.bits.proofs.Laws.{lt-or-ge}
+use Rattle.bits.proofs.Laws.{lt_or_ge}
 use Rattle.message.specs.declared.Layout.{Layout}
 use Rattle.lines.specs.Lines.{unlike}
 use Rattle.anchor.specs.Anchor.{over}
-use Rattle.anchor.proofs.Over.{over_none, over-next, over-front, over-same}
-use Rattle.column.specs.Column.{chunkAt, apartIn}
+use Rattle.anchor.proofs.Over.{over_none, over-next, over_front, over-same}
+use Rattle.column.specs.Column.{chunk_at, apart_in}
 use Rattle.column.specs.declared.Heavy.{Heavy}
-use Rattle.marks.specs.Marks.{apartBefore, apartFrom}
+use Rattle.marks.specs.Marks.{apart_before, apart_from}
 use Rattle.tables.specs.Tables.{HeavyOf, LightIn}
 
 module _ (l : Layout) (heavy : Heavy) (z vs : List ℕ) where
@@ -34,25 +34,25 @@ module _ (l : Layout) (heavy : Heavy) (z vs : List ℕ) where
   none_yet (suc s) = omega (arith, none_yet s, over_none differs (get_or heavy.block s 0 * l.l2))
 
   -- one column more
-  column-more : (n k : ℕ) → inBlocks n (k + 1) ≡ inBlocks n k + apartIn l heavy z vs k n
-  unfolding apartIn inBlocks
+  column-more : (n k : ℕ) → inBlocks n (k + 1) ≡ inBlocks n k + apart_in l heavy z vs k n
+  unfolding apart_in inBlocks
   column-more zero k = omega arith
   column-more (suc s) k = omega (arith, column-more s k, over-next differs (get_or heavy.block s 0 * l.l2) k)
 
   -- counted by columns they are as many as counted by blocks
-  by-columns : (k : ℕ) → apartBefore l heavy z vs k ≡ inBlocks heavy.n k
-  unfolding apartBefore
+  by-columns : (k : ℕ) → apart_before l heavy z vs k ≡ inBlocks heavy.n k
+  unfolding apart_before
   by-columns zero = sym (none_yet heavy.n)
   by-columns (suc k) =
       let e : k + 1 ≡ suc k = omega arith in
       omega (arith, by-columns k, rw e at (column-more heavy.n k))
 
-  start_none : apartBefore l heavy z vs 0 ≡ 0
-  unfolding apartBefore
+  start_none : apart_before l heavy z vs 0 ≡ 0
+  unfolding apart_before
   start_none = refl
 
   -- all of them
-  pub all_apart : apartFrom l heavy z vs 0 ≡ inBlocks heavy.n l.l2
+  pub all_apart : apart_from l heavy z vs 0 ≡ inBlocks heavy.n l.l2
   all_apart = omega (arith, by-columns l.l2, start_none)
 
 -- ---- the count, block by block: the first i blocks, of which h are heavy
@@ -86,9 +86,9 @@ module _ (l : Layout) (heavy : Heavy) (row z : List ℕ) (of : HeavyOf l heavy) 
     next = omega arith
 
     -- a heavy block
-    pub counted-heavy : h < heavy.n → get_or heavy.block h 0 ≡ i → Counted l heavy row z count (h + 1) (i + 1)
+    pub counted_heavy : h < heavy.n → get_or heavy.block h 0 ≡ i → Counted l heavy row z count (h + 1) (i + 1)
     unfolding inBlocks
-    counted-heavy k e =
+    counted_heavy k e =
         record {
           blocks = omega arith;
           few = omega arith;
@@ -101,7 +101,7 @@ module _ (l : Layout) (heavy : Heavy) (row z : List ℕ) (of : HeavyOf l heavy) 
               ≡ inBlocks l heavy z vs h l.l2 + over (unlike vs z) (get_or heavy.block h 0 * l.l2) l.l2 =
               ap (λ (n : ℕ). inBlocks l heavy z vs n l.l2) up
               in
-              rw next (omega (arith, c.bound vs light, over-front (unlike vs z) (i * l.l2) l.l2, rw e at one));
+              rw next (omega (arith, c.bound vs light, over_front (unlike vs z) (i * l.l2) l.l2, rw e at one));
         }
       where
         earlier : (s : ℕ) → s < h + 1 → Dec (s ≡ h) → get_or heavy.block s 0 < i + 1
@@ -122,7 +122,7 @@ module _ (l : Layout) (heavy : Heavy) (row z : List ℕ) (of : HeavyOf l heavy) 
               let same = over-same (unlike vs z) (unlike row z) (i * l.l2) l.l2
               (λ t q. ap (λ (v : ℕ). cond (eqb v (get_or z (i * l.l2 + t) 0)) 0 1) (light i t less q not-heavy))
               in
-              rw next (omega (arith, c.bound vs light, over-front (unlike vs z) (i * l.l2) l.l2, same));
+              rw next (omega (arith, c.bound vs light, over_front (unlike vs z) (i * l.l2) l.l2, same));
         }
       where
         later : (s : ℕ) → h ≤ s → s < heavy.n → Dec (s ≡ h) → i < get_or heavy.block s 0
@@ -134,14 +134,14 @@ module _ (l : Layout) (heavy : Heavy) (row z : List ℕ) (of : HeavyOf l heavy) 
 
         not-heavy : (s : ℕ) → s < heavy.n → get_or heavy.block s 0 ≡ i → ⊥
         not-heavy s r k =
-            ⊎_elim (λ q. omega (arith, c.passed s q)) (λ q. omega (arith, later s q r (ℕ_discrete s h))) (lt-or-ge s h)
+            ⊎_elim (λ q. omega (arith, c.passed s q)) (λ q. omega (arith, later s q r (ℕ_discrete s h))) (lt_or_ge s h)
 
   -- all blocks are counted
   pub counted-all : (count h i : ℕ) → Counted l heavy row z count h i → l.l1 ≤ i → (vs : List ℕ) → LightIn l heavy row vs
-      → over (unlike vs z) 0 (l.l1 * l.l2) ≤ count + apartFrom l heavy z vs 0
+      → over (unlike vs z) 0 (l.l1 * l.l2) ≤ count + apart_from l heavy z vs 0
   counted-all count h i c done vs light =
       let all : i ≡ l.l1 = omega (arith, c.blocks) in
       let none : h ≡ heavy.n =
       ⊎_elim (λ q. absurd (omega (arith, c.ahead h (omega arith) q, of.inside h q))) (λ q. omega (arith, c.few))
-      (lt-or-ge h heavy.n) in
+      (lt_or_ge h heavy.n) in
       rw (all_apart l heavy z vs) (rw (all, none) at (c.bound vs light))

@@ -13,73 +13,73 @@ use lib.Dec.{eqb}
 use lib.ListN.{length, get_or, set, take, drop}
 use lib.Seq.{get_or-set_same, get_or-set_other, set-set}
 use Rattle.bits.specs.Bits.{digits}
-use Rattle.bits.proofs.Laws.{lt-or-ge}
+use Rattle.bits.proofs.Laws.{lt_or_ge}
 use Rattle.message.specs.Layout.{block_bits}
 use Rattle.message.specs.declared.Layout.{Layout}
-use Rattle.consistent.specs.Greedy.{losses, inAll}
+use Rattle.consistent.specs.Greedy.{losses, in_all}
 use Rattle.lines.specs.Lines.{values}
 use Rattle.cells.specs.Cells.{share, NoSingle, Open, OpenAt, SameBut}
 use Rattle.cells.specs.declared.Cells.{Cells}
-use Rattle.cells.proofs.Same.{same-sym, same-trans, same-wider}
+use Rattle.cells.proofs.Same.{same_sym, same_trans, same_wider}
 use Rattle.cells.proofs.Shares.{share-found, all_found}
 use Rattle.cells.proofs.State.{same_or_not}
-use Rattle.column.specs.Column.{chunkAt}
-use Rattle.tables.specs.Tables.{reached, Undecided, Free, lostBefore, Loses, Sound, Under}
-use Rattle.tables.specs.Tables.{pushed, withCell, NoneLeft, Whole}
+use Rattle.column.specs.Column.{chunk_at}
+use Rattle.tables.specs.Tables.{reached, Undecided, Free, lost_before, Loses, Sound, Under}
+use Rattle.tables.specs.Tables.{pushed, with_cell, NoneLeft, Whole}
 use Rattle.column.specs.declared.Heavy.{Heavy}
 use Rattle.tables.specs.declared.Table.{Table}
 use Rattle.tables.proofs.Chunk.{chunk_next}
 
 -- ---- how far the heavy blocks have come
-pub reached-past : (j h s : ℕ) → s < h → reached j h s ≡ j + 1
-reached-past j h s p = rw (lt-ltb s h p) refl
+pub reached_past : (j h s : ℕ) → s < h → reached j h s ≡ j + 1
+reached_past j h s p = rw (lt-ltb s h p) refl
 
-pub reached-not : (j h s : ℕ) → h ≤ s → reached j h s ≡ j
-reached-not j h s p = rw (le-ltb s h p) refl
+pub reached_not : (j h s : ℕ) → h ≤ s → reached j h s ≡ j
+reached_not j h s p = rw (le-ltb s h p) refl
 
 -- a share moves its own heavy block alone
 reached-next : (j h s : ℕ) → (s ≡ h → ⊥) → reached j (h + 1) s ≡ reached j h s
 reached-next j h s n =
     ⊎_elim
-    (λ p. reached-past j (h + 1) s (omega arith) ∙ sym (reached-past j h s p))
-    (λ p. let q : h < s = past p in reached-not j (h + 1) s (omega arith) ∙ sym (reached-not j h s p))
-    (lt-or-ge s h)
+    (λ p. reached_past j (h + 1) s (omega arith) ∙ sym (reached_past j h s p))
+    (λ p. let q : h < s = past p in reached_not j (h + 1) s (omega arith) ∙ sym (reached_not j h s p))
+    (lt_or_ge s h)
   where
     past : h ≤ s → h < s
-    past p = ⊎_elim (λ q. q) (λ q. absurd (n (omega arith))) (lt-or-ge h s)
+    past p = ⊎_elim (λ q. q) (λ q. absurd (n (omega arith))) (lt_or_ge h s)
 
 -- a chunk that is not decided was not where its heavy block had come less far
-undecided-less : (heavy : Heavy) (j h k g i c : ℕ)
+undecided_less : (heavy : Heavy) (j h k g i c : ℕ)
     → ((s : ℕ) → s < heavy.n → reached k g s ≤ reached j h s)
     → Undecided heavy j h i c → Undecided heavy k g i c
-undecided-less heavy j h k g i c less (s, (m, (b, r))) = (s, (m, (b, omega (arith, less s m, r))))
+undecided_less heavy j h k g i c less (s, (m, (b, r))) = (s, (m, (b, omega (arith, less s m, r))))
 
-pub undecided-share : (heavy : Heavy) (j h i c : ℕ) → Undecided heavy j (h + 1) i c → Undecided heavy j h i c
-undecided-share heavy j h i c =
-    undecided-less heavy j (h + 1) j h i c (λ s k. ⊎_elim (here s) (other s) (same_or_not s h))
+pub undecided_share : (heavy : Heavy) (j h i c : ℕ) → Undecided heavy j (h + 1) i c → Undecided heavy j h i c
+undecided_share heavy j h i c =
+    undecided_less heavy j (h + 1) j h i c (λ s k. ⊎_elim (here s) (other s) (same_or_not s h))
   where
     here : (s : ℕ) → s ≡ h → reached j h s ≤ reached j (h + 1) s
-    here s e = omega (arith, reached-past j (h + 1) s (omega arith), reached-not j h s (omega arith))
+    here s e = omega (arith, reached_past j (h + 1) s (omega arith), reached_not j h s (omega arith))
 
     other : (s : ℕ) → (s ≡ h → ⊥) → reached j h s ≤ reached j (h + 1) s
     other s n = omega (arith, reached-next j h s n)
 
 -- the start of a column is the end of the one before
 reached-end : (j n s : ℕ) → s < n → reached (j + 1) 0 s ≡ reached j n s
-reached-end j n s k = reached-not (j + 1) 0 s (omega arith) ∙ sym (reached-past j n s k)
+reached-end j n s k = reached_not (j + 1) 0 s (omega arith) ∙ sym (reached_past j n s k)
 
-pub undecided-end : (heavy : Heavy) (j i c : ℕ) → Undecided heavy (j + 1) 0 i c → Undecided heavy j heavy.n i c
-undecided-end heavy j i c =
-    undecided-less heavy (j + 1) 0 j heavy.n i c (λ s k. omega (arith, reached-end j heavy.n s k))
+pub undecided_end : (heavy : Heavy) (j i c : ℕ) → Undecided heavy (j + 1) 0 i c → Undecided heavy j heavy.n i c
+undecided_end heavy j i c =
+    undecided_less heavy (j + 1) 0 j heavy.n i c (λ s k. omega (arith, reached-end j heavy.n s k))
 
-pub undecided-start : (heavy : Heavy) (j i c : ℕ) → Undecided heavy j heavy.n i c → Undecided heavy (j + 1) 0 i c
-undecided-start heavy j i c =
-    undecided-less heavy j heavy.n (j + 1) 0 i c (λ s k. omega (arith, reached-end j heavy.n s k))
+pub undecided_start : (heavy : Heavy) (j i c : ℕ) → Undecided heavy j heavy.n i c → Undecided heavy (j + 1) 0 i c
+undecided_start heavy j i c =
+    undecided_less heavy j heavy.n (j + 1) 0 i c (λ s k. omega (arith, reached-end j heavy.n s k))
 
-pub undecided-column : (heavy : Heavy) (j i c : ℕ) → Undecided heavy (j + 1) 0 i c → Undecided heavy j 0 i c
-undecided-column heavy j i c =
-    undecided-less heavy (j + 1) 0 j 0 i c
-    (λ s k. omega (arith, reached-not j 0 s (omega arith), reached-not (j + 1) 0 s (omega arith)))
+pub undecided_column : (heavy : Heavy) (j i c : ℕ) → Undecided heavy (j + 1) 0 i c → Undecided heavy j 0 i c
+undecided_column heavy j i c =
+    undecided_less heavy (j + 1) 0 j 0 i c
+    (λ s k. omega (arith, reached_not j 0 s (omega arith), reached_not (j + 1) 0 s (omega arith)))
 
 -- ---- losses that move from what is left to a cell
 -- those of a key and those of all
@@ -98,18 +98,18 @@ share-set keys lost key z a h g f =
     go false p q = omega arith
 
 all_set : (lost : List ℕ) (z a : ℕ) → z < length lost → a ≤ get_or lost z 0
-    → inAll (set lost z (get_or lost z 0 - a)) + a ≡ inAll lost
+    → in_all (set lost z (get_or lost z 0 - a)) + a ≡ in_all lost
 all_set lost z a g f =
     let e = get_or-set_same lost z (get_or lost z 0 - a) 0 g in
     let m = rw (set-set lost z (get_or lost z 0 - a) 0, e) at (all_found (set lost z (get_or lost z 0 - a)) z) in
     omega (arith, m, all_found lost z)
 
 -- where there are none
-share-zero : (keys lost : List ℕ) (key : ℕ) → NoneLeft lost → share keys lost key ≡ 0
+share_zero : (keys lost : List ℕ) (key : ℕ) → NoneLeft lost → share keys lost key ≡ 0
 unfolding share
-share-zero [] lost key n = refl
-share-zero (k ∷ keys) [] key n = refl
-share-zero (k ∷ keys) (a ∷ lost) key n = go (eqb k key) (n 0) (share-zero keys lost key (λ z. n (suc z)))
+share_zero [] lost key n = refl
+share_zero (k ∷ keys) [] key n = refl
+share_zero (k ∷ keys) (a ∷ lost) key n = go (eqb k key) (n 0) (share_zero keys lost key (λ z. n (suc z)))
   where
     go : (t : Bool) → a ≡ 0 → share keys lost key ≡ 0 → cond t a 0 + share keys lost key ≡ 0
     go true e f = omega arith
@@ -220,26 +220,26 @@ module _ (cells : Cells) (twelve : Twelve cells) (room : cells.n < 12) (unused :
 module _ {l : Layout} {y : List ℕ} {heavy : Heavy} {j h : ℕ} {t : Table} {hand x : List ℕ}
     (u : Under l y heavy j h t hand x) (some : h < heavy.n) where
   -- the losses before the chunk that is shared out to are those of the block's end without those left
-  pub shift-at : lostBefore l y x (chunkAt l heavy j h) + get_or t.left h 0 ≡ get_or heavy.end h 0
-  shift-at =
-      ap (λ (c : ℕ). lostBefore l y x (chunkAt l heavy c h) + get_or t.left h 0) (sym (reached-not j h h (omega arith)))
+  pub shift_at : lost_before l y x (chunk_at l heavy j h) + get_or t.left h 0 ≡ get_or heavy.end h 0
+  shift_at =
+      ap (λ (c : ℕ). lost_before l y x (chunk_at l heavy c h) + get_or t.left h 0) (sym (reached_not j h h (omega arith)))
       ∙ u.shifts h some
 
   -- after the share of a losses as many fewer are left
-  shifts-next : (left : List ℕ) (a : ℕ) → Loses l y x (chunkAt l heavy j h) a → get_or left h 0 + a ≡ get_or t.left h 0
+  shifts-next : (left : List ℕ) (a : ℕ) → Loses l y x (chunk_at l heavy j h) a → get_or left h 0 + a ≡ get_or t.left h 0
       → ((s : ℕ) → (s ≡ h → ⊥) → get_or left s 0 ≡ get_or t.left s 0)
       → (s : ℕ) → s < heavy.n
-      → lostBefore l y x (chunkAt l heavy (reached j (h + 1) s) s) + get_or left s 0 ≡ get_or heavy.end s 0
+      → lost_before l y x (chunk_at l heavy (reached j (h + 1) s) s) + get_or left s 0 ≡ get_or heavy.end s 0
   shifts-next left a own less others s k = ⊎_elim here other (same_or_not s h)
     where
-      next : chunkAt l heavy (reached j (h + 1) h) h ≡ chunkAt l heavy j h + 1
-      next = omega (arith, reached-past j (h + 1) h (omega arith))
+      next : chunk_at l heavy (reached j (h + 1) h) h ≡ chunk_at l heavy j h + 1
+      next = omega (arith, reached_past j (h + 1) h (omega arith))
 
-      here : s ≡ h → lostBefore l y x (chunkAt l heavy (reached j (h + 1) s) s) + get_or left s 0 ≡ get_or heavy.end s 0
-      here e = rw (e, next) (omega (arith, own, less, shift-at))
+      here : s ≡ h → lost_before l y x (chunk_at l heavy (reached j (h + 1) s) s) + get_or left s 0 ≡ get_or heavy.end s 0
+      here e = rw (e, next) (omega (arith, own, less, shift_at))
 
       other : (s ≡ h → ⊥)
-          → lostBefore l y x (chunkAt l heavy (reached j (h + 1) s) s) + get_or left s 0 ≡ get_or heavy.end s 0
+          → lost_before l y x (chunk_at l heavy (reached j (h + 1) s) s) + get_or left s 0 ≡ get_or heavy.end s 0
       other n = rw (reached-next j h s n, others s n) (u.shifts s k)
 
   -- the chunk that is shared out to is decided, and no other
@@ -251,15 +251,15 @@ module _ {l : Layout} {y : List ℕ} {heavy : Heavy} {j h : ℕ} {t : Table} {ha
       other n = inl (s, (k, (b, omega (arith, reached-next j h s n))))
 
       at : s ≡ h → (j < c) ⊎ (c ≤ j) → Undecided heavy j (h + 1) i c ⊎ ((get_or heavy.block h 0 ≡ i) × (j ≡ c))
-      at e (inl m) = inl (s, (k, (b, omega (arith, reached-past j (h + 1) s (omega arith)))))
-      at e (inr m) = inr (rw e at b, omega (arith, reached-not j h s (omega arith)))
+      at e (inl m) = inl (s, (k, (b, omega (arith, reached_past j (h + 1) s (omega arith)))))
+      at e (inr m) = inr (rw e at b, omega (arith, reached_not j h s (omega arith)))
 
       here : s ≡ h → Undecided heavy j (h + 1) i c ⊎ ((get_or heavy.block h 0 ≡ i) × (j ≡ c))
-      here e = at e (lt-or-ge j c)
+      here e = at e (lt_or_ge j c)
 
   -- a chunk without a loss is read
-  pub under-read : (v : ℕ) → Loses l y x (chunkAt l heavy j h) 0 → get_or (values l x) (chunkAt l heavy j h) 0 ≡ v
-      → chunkAt l heavy j h < length hand → Under l y heavy j (h + 1) t (set hand (chunkAt l heavy j h) v) x
+  pub under-read : (v : ℕ) → Loses l y x (chunk_at l heavy j h) 0 → get_or (values l x) (chunk_at l heavy j h) 0 ≡ v
+      → chunk_at l heavy j h < length hand → Under l y heavy j (h + 1) t (set hand (chunk_at l heavy j h) v) x
   under-read v own is in_row =
       record {
         ends = u.ends;
@@ -275,15 +275,15 @@ module _ {l : Layout} {y : List ℕ} {heavy : Heavy} {j h : ℕ} {t : Table} {ha
       }
     where
       new : List ℕ
-      new = set hand (chunkAt l heavy j h) v
+      new = set hand (chunk_at l heavy j h) v
 
-      there : (k : ℕ) → k ≡ chunkAt l heavy j h → get_or (values l x) k 0 ≡ get_or new k 0
-      there k e = rw e (is ∙ sym (get_or-set_same hand (chunkAt l heavy j h) v 0 in_row))
+      there : (k : ℕ) → k ≡ chunk_at l heavy j h → get_or (values l x) k 0 ≡ get_or new k 0
+      there k e = rw e (is ∙ sym (get_or-set_same hand (chunk_at l heavy j h) v 0 in_row))
 
       kept : (k : ℕ) → get_or (values l x) k 0 ≡ get_or hand k 0 → get_or (values l x) k 0 ≡ get_or new k 0
       kept k e =
-          ⊎_elim (there k) (λ n. e ∙ sym (get_or-set_other hand (chunkAt l heavy j h) k v 0 n))
-          (same_or_not k (chunkAt l heavy j h))
+          ⊎_elim (there k) (λ n. e ∙ sym (get_or-set_other hand (chunk_at l heavy j h) k v 0 n))
+          (same_or_not k (chunk_at l heavy j h))
 
       fresh : (i c : ℕ) → Undecided heavy j (h + 1) i c ⊎ ((get_or heavy.block h 0 ≡ i) × (j ≡ c))
           → Free heavy j (h + 1) t.cells i c ⊎ (get_or (values l x) (i * l.l2 + c) 0 ≡ get_or new (i * l.l2 + c) 0)
@@ -291,17 +291,17 @@ module _ {l : Layout} {y : List ℕ} {heavy : Heavy} {j h : ℕ} {t : Table} {ha
       fresh i c (inr w) = inr (there (i * l.l2 + c) (rw (w.0, w.1) refl))
 
   -- a chunk with losses becomes a cell
-  pub under-cell : (a place : ℕ) → Loses l y x (chunkAt l heavy j h) a → 0 < a → a ≤ get_or t.left h 0
+  pub under_cell : (a place : ℕ) → Loses l y x (chunk_at l heavy j h) a → 0 < a → a ≤ get_or t.left h 0
       → h < length t.left
       → Twelve t.cells → t.cells.n < 12 → get_or t.cells.lost t.cells.n 0 ≡ 0
-      → losses (digits l.nc (get_or (values l x) (chunkAt l heavy j h) 0)) (drop place y) ≡ a
-      → Under l y heavy j (h + 1) (withCell t h (get_or heavy.block h 0) j a place) hand x
-  under-cell a place own pos less in_left twelve room unused is =
+      → losses (digits l.nc (get_or (values l x) (chunk_at l heavy j h) 0)) (drop place y) ≡ a
+      → Under l y heavy j (h + 1) (with_cell t h (get_or heavy.block h 0) j a place) hand x
+  under_cell a place own pos less in_left twelve room unused is =
       record {
         ends = u.ends;
         shifts = shifts-next left a own (omega (arith, get_or-set_same t.left h (get_or t.left h 0 - a) 0 in_left))
             (λ s n. get_or-set_other t.left h s (get_or t.left h 0 - a) 0 n);
-        decided = same-wider
+        decided = same_wider
             (λ i c p q. ⊎_elim
             (λ w. fresh i c (undecided-next i c w))
             (λ o. inr (at-kept t.cells twelve room unused block j a place i c o)))
@@ -324,15 +324,15 @@ module _ {l : Layout} {y : List ℕ} {heavy : Heavy} {j h : ℕ} {t : Table} {ha
 -- ---- a share: the chunks that are decided stay so
 module _ (heavy : Heavy) (j h : ℕ) (some : h < heavy.n) where
   -- the chunk that is shared out to was not decided
-  pub undecided-here : Undecided heavy j h (get_or heavy.block h 0) j
-  undecided-here = (h, (some, (refl, omega (arith, reached-not j h h (omega arith)))))
+  pub undecided_here : Undecided heavy j h (get_or heavy.block h 0) j
+  undecided_here = (h, (some, (refl, omega (arith, reached_not j h h (omega arith)))))
 
-  pub fewer-cell : (cells : Cells) → Twelve cells → cells.n < 12 → get_or cells.lost cells.n 0 ≡ 0
+  pub fewer_cell : (cells : Cells) → Twelve cells → cells.n < 12 → get_or cells.lost cells.n 0 ≡ 0
       → (a place i c : ℕ) → Free heavy j (h + 1) (pushed cells (get_or heavy.block h 0) j a place) i c
       → Free heavy j h cells i c
-  fewer-cell cells twelve room unused a place i c (inl w) = inl (undecided-share heavy j h i c w)
-  fewer-cell cells twelve room unused a place i c (inr o) =
-      ⊎_elim inr (λ e. inl (rw (← e.0, ← e.1) undecided-here))
+  fewer_cell cells twelve room unused a place i c (inl w) = inl (undecided_share heavy j h i c w)
+  fewer_cell cells twelve room unused a place i c (inr o) =
+      ⊎_elim inr (λ e. inl (rw (← e.0, ← e.1) undecided_here))
       (at_old cells twelve room unused (get_or heavy.block h 0) j a place i c o)
 
 -- ---- a share: what holds of the table
@@ -340,12 +340,12 @@ module _ {l : Layout} {m : ℕ} {heavy : Heavy} {t : Table} (s : Sound l m heavy
   module _ (j h a place : ℕ) (some : h < heavy.n) (less : a ≤ get_or t.left h 0) (in_left : length t.left ≡ 6)
       (in_block : length heavy.block ≡ 6) where
     -- there is room for a cell
-    pub room-cell : 0 < a → t.cells.n < 12
-    room-cell p = omega (arith, all_set t.left h a (omega (arith, s.few)) less, s.room)
+    pub room_cell : 0 < a → t.cells.n < 12
+    room_cell p = omega (arith, all_set t.left h a (omega (arith, s.few)) less, s.room)
 
-    pub sound-cell : 0 < a → j < l.l2 → place ≤ m → Twelve t.cells
-        → Sound l m heavy (withCell t h (get_or heavy.block h 0) j a place)
-    sound-cell p inside within twelve =
+    pub sound_cell : 0 < a → j < l.l2 → place ≤ m → Twelve t.cells
+        → Sound l m heavy (with_cell t h (get_or heavy.block h 0) j a place)
+    sound_cell p inside within twelve =
         record {
           few = s.few;
           inside = s.inside;
@@ -358,14 +358,14 @@ module _ {l : Layout} {m : ℕ} {heavy : Heavy} {t : Table} (s : Sound l m heavy
               ∙ s.fresh z (omega arith);
           spare =
               λ r k. get_or-set_other t.left h r (get_or t.left h 0 - a) 0 (λ e. absurd (omega arith)) ∙ s.spare r k;
-          not-one = λ i e. s.not-one i (omega (arith, fewer i, more i));
+          not_one = λ i e. s.not_one i (omega (arith, fewer i, more i));
         }
       where
         block : ℕ
         block = get_or heavy.block h 0
 
         room : t.cells.n < 12
-        room = room-cell p
+        room = room_cell p
 
         unused : get_or t.cells.lost t.cells.n 0 ≡ 0
         unused = s.fresh t.cells.n (omega arith)
@@ -392,7 +392,7 @@ module _ {l : Layout} {y : List ℕ} {heavy : Heavy} {t : Table} {hand x : List 
       record {
         ends = u.ends;
         shifts = λ s k. rw (reached-end j heavy.n s k) (u.shifts s k);
-        decided = same-wider (λ i c p q. ⊎_elim (λ w. inl (undecided-start heavy j i c w)) inr) u.decided;
+        decided = same_wider (λ i c p q. ⊎_elim (λ w. inl (undecided_start heavy j i c w)) inr) u.decided;
         loses = u.loses;
       }
 
@@ -403,13 +403,13 @@ module _ {l : Layout} {y : List ℕ} {heavy : Heavy} {t : Table} {hand x : List 
       record {
         ends = u.ends;
         shifts = u.shifts;
-        decided = same-trans (same-sym s) u.decided;
+        decided = same_trans (same_sym s) u.decided;
         loses = u.loses;
       }
 
   -- the losses of a heavy block's end
   pub end-at : {j h : ℕ} → Under l y heavy j h t hand x → (s : ℕ) → s < heavy.n
-      → lostBefore l y x (chunkAt l heavy l.l2 s) ≡ get_or heavy.end s 0
+      → lost_before l y x (chunk_at l heavy l.l2 s) ≡ get_or heavy.end s 0
   end-at u s k =
       let b = get_or heavy.block s 0 in
       let e : (b * l.l2 + l.l2) * l.nc ≡ (b + 1) * block_bits l =
@@ -420,22 +420,22 @@ module _ {l : Layout} {y : List ℕ} {heavy : Heavy} {t : Table} {hand x : List 
   -- after the last column no losses are left, and all chunks but the cells are decided
   pub whole : {m : ℕ} → Sound l m heavy t → Under l y heavy l.l2 0 t hand x → Whole l y t hand x
   whole sound u = (
-    λ s. ⊎_elim (used-up s) (sound.spare s) (lt-or-ge s heavy.n),
+    λ s. ⊎_elim (used-up s) (sound.spare s) (lt_or_ge s heavy.n),
     record {
-      decided = same-wider (λ i c p q. ⊎_elim (λ w. absurd (past c q w)) (λ o. o)) u.decided;
+      decided = same_wider (λ i c p q. ⊎_elim (λ w. absurd (past c q w)) (λ o. o)) u.decided;
       loses = u.loses;
     },
   )
     where
       used-up : (s : ℕ) → s < heavy.n → get_or t.left s 0 ≡ 0
       used-up s k =
-          let e = rw (reached-not l.l2 0 s (omega arith)) at (u.shifts s k) in
+          let e = rw (reached_not l.l2 0 s (omega arith)) at (u.shifts s k) in
           omega (arith, e, end-at u s k)
 
       past : {i : ℕ} (c : ℕ) → c < l.l2 → Undecided heavy l.l2 0 i c → ⊥
-      past c q w = omega (arith, w.1.1.1, reached-not l.l2 0 w.0 (omega arith))
+      past c q w = omega (arith, w.1.1.1, reached_not l.l2 0 w.0 (omega arith))
 
 -- where no losses are left, no block has exactly one in its cells
-pub no-single : {l : Layout} {m : ℕ} {heavy : Heavy} {t : Table} → Sound l m heavy t → NoneLeft t.left
+pub no_single : {l : Layout} {m : ℕ} {heavy : Heavy} {t : Table} → Sound l m heavy t → NoneLeft t.left
     → NoSingle t.cells.block t.cells.lost
-no-single {l} {m} {heavy} {t} s none i e = s.not-one i (omega (arith, share-zero heavy.block t.left i none))
+no_single {l} {m} {heavy} {t} s none i e = s.not_one i (omega (arith, share_zero heavy.block t.left i none))

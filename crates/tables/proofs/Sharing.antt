@@ -8,64 +8,64 @@ use mathlib.Core.Logic.{inl, inr, ⊎_elim}
 use native.Mathlib.Omega.{arith}
 use lib.ListN.{length, get_or, set, drop}
 use lib.Seq.{get_or-set_same, get_or-set_other}
-use Rattle.bits.specs.Bits.{longest, number, digits, mostChunks, mostInLine}
+use Rattle.bits.specs.Bits.{longest, number, digits, most_chunks, most_in_line}
 use Rattle.rows.specs.Order.{Row}
-use Rattle.message.specs.Layout.{rowBits}
+use Rattle.message.specs.Layout.{row_bits}
 use Rattle.message.specs.declared.Layout.{Layout}
 use Rattle.message.proofs.Fields.{field_room}
-use Rattle.message.proofs.Legal.{Sizes, legal-bounds, sizes}
+use Rattle.message.proofs.Legal.{Sizes, legal_bounds, sizes}
 use Rattle.consistent.specs.Greedy.{losses}
 use Rattle.lines.specs.Lines.{values}
 use Rattle.cells.proofs.Same.{same_refl, same_set}
-use Rattle.column.specs.Column.{chunkAt}
-use Rattle.tables.specs.Tables.{Free, lostBefore, Loses, Under, withCell, Sharable, Shared}
+use Rattle.column.specs.Column.{chunk_at}
+use Rattle.tables.specs.Tables.{Free, lost_before, Loses, Under, with_cell, Sharable, Shared}
 use Rattle.column.specs.declared.Heavy.{Heavy}
 use Rattle.tables.specs.declared.Table.{Table}
 use Rattle.tables.proofs.Chunk.{chunk_inside, lost-before, place-within, chunk-within, chunk_read, chunk-loses}
-use Rattle.tables.proofs.Making.{Twelve, undecided-share, undecided-here, fewer-cell}
-use Rattle.tables.proofs.Making.{shift-at, under-read, under-cell, room-cell, sound-cell}
+use Rattle.tables.proofs.Making.{Twelve, undecided_share, undecided_here, fewer_cell}
+use Rattle.tables.proofs.Making.{shift_at, under-read, under_cell, room_cell, sound_cell}
 
 module _ {l : Layout} {y : List ℕ} {heavy : Heavy} {j h a : ℕ} {t : Table} (q : Sharable l y heavy j h a t) where
   -- the chunk is one of the row
-  pub inside : chunkAt l heavy j h < l.l1 * l.l2
+  pub inside : chunk_at l heavy j h < l.l1 * l.l2
   inside = chunk_inside l.l1 l.l2 (get_or heavy.block h 0) j (q.sound.inside h q.some) q.column
 
   size : Sizes l
-  size = sizes l (legal-bounds l q.is-legal)
+  size = sizes l (legal_bounds l q.is_legal)
 
   -- what follows for its number, for its place, and for the column
-  pub chunk-low : chunkAt l heavy j h < mostChunks
+  pub chunk-low : chunk_at l heavy j h < most_chunks
   chunk-low = omega (arith, inside, size.chunks)
 
-  pub start-low : chunkAt l heavy j h * l.nc ≤ longest
-  start-low = omega (arith, field_room (l.l1 * l.l2) l.nc (chunkAt l heavy j h) inside, size.row)
+  pub start-low : chunk_at l heavy j h * l.nc ≤ longest
+  start-low = omega (arith, field_room (l.l1 * l.l2) l.nc (chunk_at l heavy j h) inside, size.row)
 
   pub received-low : length y ≤ longest
   received-low = omega (arith, q.short, size.row)
 
-  pub column-low : j < mostInLine
-  column-low = omega (arith, q.column, size.l2-high)
+  pub column-low : j < most_in_line
+  column-low = omega (arith, q.column, size.l2_high)
 
   pub chunk-bits : l.nc ≤ 8
-  chunk-bits = (legal-bounds l q.is-legal).nc-high
+  chunk-bits = (legal_bounds l q.is_legal).nc_high
 
   -- there is room for a cell
   pub cell_room : 0 < a → length t.left ≡ 6 → length heavy.block ≡ 6 → t.cells.n < 12
-  cell_room pos in_left in_block = room-cell q.sound j h a 0 q.some q.less in_left in_block pos
+  cell_room pos in_left in_block = room_cell q.sound j h a 0 q.some q.less in_left in_block pos
 
 -- where the chunk is read: the place for the losses that a row has before it
 module _ {l : Layout} {y : List ℕ} {heavy : Heavy} {j h a : ℕ} {t : Table} (q : Sharable l y heavy j h a t)
     {hand : List ℕ} (place : ℕ)
-    (read : (d : ℕ) → d + get_or t.left h 0 ≡ get_or heavy.end h 0 → d ≤ chunkAt l heavy j h * l.nc
-    → chunkAt l heavy j h * l.nc - d ≤ length y → place ≡ chunkAt l heavy j h * l.nc - d) where
+    (read : (d : ℕ) → d + get_or t.left h 0 ≡ get_or heavy.end h 0 → d ≤ chunk_at l heavy j h * l.nc
+    → chunk_at l heavy j h * l.nc - d ≤ length y → place ≡ chunk_at l heavy j h * l.nc - d) where
   -- a row under the table: its chunk is read there
-  module _ (x : List ℕ) (row : Row (rowBits l) x) (u : Under l y heavy j h t hand x) where
+  module _ (x : List ℕ) (row : Row (row_bits l) x) (u : Under l y heavy j h t hand x) where
     abbrev chunk : ℕ
-    chunk = chunkAt l heavy j h
+    chunk = chunk_at l heavy j h
 
-    place_at : place ≡ chunk * l.nc - lostBefore l y x chunk
+    place_at : place ≡ chunk * l.nc - lost_before l y x chunk
     place_at =
-        read (lostBefore l y x chunk) (shift-at u q.some) (lost-before l y x row chunk (inside q))
+        read (lost_before l y x chunk) (shift_at u q.some) (lost-before l y x row chunk (inside q))
         (place-within l y x row chunk (inside q))
 
     reaches : place ≤ length y
@@ -82,7 +82,7 @@ module _ {l : Layout} {y : List ℕ} {heavy : Heavy} {j h a : ℕ} {t : Table} (
       is_read z = rw place_at (chunk_read l y x row chunk (inside q) a own z)
 
   -- no row has that share
-  failed : ((x : List ℕ) → Row (rowBits l) x → Under l y heavy j h t hand x → Loses l y x (chunkAt l heavy j h) a → ⊥)
+  failed : ((x : List ℕ) → Row (row_bits l) x → Under l y heavy j h t hand x → Loses l y x (chunk_at l heavy j h) a → ⊥)
       → Shared l y heavy j h a t hand false t hand
   failed none =
       record {
@@ -90,18 +90,18 @@ module _ {l : Layout} {y : List ℕ} {heavy : Heavy} {j h a : ℕ} {t : Table} (
         falls = λ e. absurd (false≢true e);
         others = λ s n. refl;
         under = λ x row u own. absurd (none x row u own);
-        fewer = λ i c. ⊎_elim (λ w. inl (undecided-share heavy j h i c w)) inr;
+        fewer = λ i c. ⊎_elim (λ w. inl (undecided_share heavy j h i c w)) inr;
         same = same_refl;
       }
 
   -- too few bits are left to read the chunk
-  pub shared-short : a ≡ 0 → length y < place + l.nc → Shared l y heavy j h a t hand false t hand
-  shared-short z short = failed (λ x row u own. omega (arith, fits x row u own z))
+  pub shared_short : a ≡ 0 → length y < place + l.nc → Shared l y heavy j h a t hand false t hand
+  shared_short z short = failed (λ x row u own. omega (arith, fits x row u own z))
 
   -- the chunk is read
-  pub shared-read : a ≡ 0 → l.l1 * l.l2 ≤ length hand
-      → Shared l y heavy j h a t hand true t (set hand (chunkAt l heavy j h) (number l.nc (drop place y)))
-  shared-read z n =
+  pub shared_read : a ≡ 0 → l.l1 * l.l2 ≤ length hand
+      → Shared l y heavy j h a t hand true t (set hand (chunk_at l heavy j h) (number l.nc (drop place y)))
+  shared_read z n =
       let v = number l.nc (drop place y) in
       record {
         sound = q.sound;
@@ -109,27 +109,27 @@ module _ {l : Layout} {y : List ℕ} {heavy : Heavy} {j h a : ℕ} {t : Table} (
         others = λ s n. refl;
         under = λ x row u own.
             (refl, under-read u q.some v (rw z at own) (is_read x row u own z) (omega (arith, inside q)));
-        fewer = λ i c. ⊎_elim (λ w. inl (undecided-share heavy j h i c w)) inr;
-        same = same_set (get_or heavy.block h 0) j v q.column (inl (undecided-here heavy j h q.some)) same_refl;
+        fewer = λ i c. ⊎_elim (λ w. inl (undecided_share heavy j h i c w)) inr;
+        same = same_set (get_or heavy.block h 0) j v q.column (inl (undecided_here heavy j h q.some)) same_refl;
       }
 
   -- the received row does not reach to where the chunk would be read
-  pub shared-beyond : length y < place → Shared l y heavy j h a t hand false t hand
-  shared-beyond beyond = failed (λ x row u own. omega (arith, reaches x row u))
+  pub shared_beyond : length y < place → Shared l y heavy j h a t hand false t hand
+  shared_beyond beyond = failed (λ x row u own. omega (arith, reaches x row u))
 
   -- the chunk becomes a cell
-  pub shared-cell : 0 < a → length t.left ≡ 6 → length heavy.block ≡ 6 → Twelve t.cells → place ≤ length y
-      → Shared l y heavy j h a t hand true (withCell t h (get_or heavy.block h 0) j a place) hand
-  shared-cell pos in_left in_block twelve within =
+  pub shared_cell : 0 < a → length t.left ≡ 6 → length heavy.block ≡ 6 → Twelve t.cells → place ≤ length y
+      → Shared l y heavy j h a t hand true (with_cell t h (get_or heavy.block h 0) j a place) hand
+  shared_cell pos in_left in_block twelve within =
       let in-range : h < length t.left = omega (arith, q.some, q.sound.few) in
       let unused = q.sound.fresh t.cells.n (omega arith) in
       let room = cell_room q pos in_left in_block in
       record {
-        sound = sound-cell q.sound j h a place q.some q.less in_left in_block pos q.column within twelve;
+        sound = sound_cell q.sound j h a place q.some q.less in_left in_block pos q.column within twelve;
         falls = λ e. omega (arith, get_or-set_same t.left h (get_or t.left h 0 - a) 0 in-range, q.less);
         others = λ s n. get_or-set_other t.left h s (get_or t.left h 0 - a) 0 n;
         under = λ x row u own.
-            (refl, under-cell u q.some a place own pos q.less in-range twelve room unused (loses x row u own));
-        fewer = fewer-cell heavy j h q.some t.cells twelve room unused a place;
+            (refl, under_cell u q.some a place own pos q.less in-range twelve room unused (loses x row u own));
+        fewer = fewer_cell heavy j h q.some t.cells twelve room unused a place;
         same = same_refl;
       }

@@ -1,15 +1,15 @@
 // Loss tables: how the losses of the heavy blocks are shared among their chunks. Contracts cite specs/Tables.antt.
 ghost use Rattle.std.specs.Prelude.{◌≡◌, true, false, List, ℕ, ◌+◌, ◌-◌, ◌*◌, ◌<◌, ◌≤◌, length, get_or};
-ghost use Rattle.bits.specs.Bits.{AllBits, longest, mostChunks};
-ghost use Rattle.rows.specs.Slice.{rowsIn};
-ghost use Rattle.message.specs.Layout.{legal, rowBits};
+ghost use Rattle.bits.specs.Bits.{AllBits, longest, most_chunks};
+ghost use Rattle.rows.specs.Slice.{rows_of_slice};
+ghost use Rattle.message.specs.Layout.{legal, row_bits};
 ghost use Rattle.windows.specs.Windows.{Tables};
 ghost use Rattle.lines.specs.Lines.{unlike};
 ghost use Rattle.found.specs.Found.{Given, Sent, Holding, Grown};
 ghost use Rattle.anchor.specs.Anchor.{over};
 ghost use Rattle.cells.specs.Cells.{NoSingle, OpenAt, Placed, SameBut};
 ghost use Rattle.states.specs.States.{each, state_of};
-ghost use Rattle.marks.specs.Marks.{Covers, apartFrom};
+ghost use Rattle.marks.specs.Marks.{Covers, apart_from};
 ghost use Rattle.tables.specs.Tables.{
   Undecided,
   Free,
@@ -20,7 +20,7 @@ ghost use Rattle.tables.specs.Tables.{
   Sound,
   Under,
   ShapeOf,
-  ownLeft,
+  own_left,
   IsMark,
   LightIn,
   HeavyOf,
@@ -144,7 +144,7 @@ fn step(
     t: Table,
     row: &mut [u8],
 ) -> Share
-    requires { (legal l ≡ true) × (AllBits y.now × ((length y.now ≤ rowBits l)
+    requires { (legal l ≡ true) × (AllBits y.now × ((length y.now ≤ row_bits l)
         × (Sound l (length y.now) heavy t × ((j < l.l2) × (l.l1 * l.l2 ≤ length row.old))))) }
     ensures { Stepped l y.now heavy j (each next) t row.old result.ok result.table row.new }
 {
@@ -296,7 +296,7 @@ fn columns(
     requires { Given l numbers.now y.now × (Holding l numbers.now y.now cap list.old kept.count kept.more
         × ((Sound l (length y.now) heavy t × (l.l1 * l.l2 ≤ length row.old)) × ((j ≤ l.l2) × (ShapeOf heavy shape t.left
         × (Looked l y.now totals.now counts.now known.now z.now differ j
-        × NearKnown l numbers.now y.now (rowsIn (rowBits l) list.old kept.count kept.more) z.now room))))) }
+        × NearKnown l numbers.now y.now (rows_of_slice (row_bits l) list.old kept.count kept.more) z.now room))))) }
     ensures { Grown l numbers.now y.now cap
         (UnderMarks l y.now numbers.now heavy shape known.now marks.now
         rests.now z.now sets differ j t row.old)
@@ -366,11 +366,11 @@ fn losses_here(
     requires { Given l numbers.now y.now × (Holding l numbers.now y.now cap list.old kept.count kept.more
         × ((Sound l (length y.now) heavy t × (l.l1 * l.l2 ≤ length row.old)) × ((j < l.l2) × (ShapeOf heavy shape t.left
         × (Looked l y.now totals.now counts.now known.now z.now differ j
-        × NearKnown l numbers.now y.now (rowsIn (rowBits l) list.old kept.count kept.more) z.now room))))) }
+        × NearKnown l numbers.now y.now (rows_of_slice (row_bits l) list.old kept.count kept.more) z.now room))))) }
     ensures { Grown l numbers.now y.now cap
         (λ x. UnderMarks l y.now numbers.now heavy shape known.now marks.now
         rests.now z.now sets differ j t row.old x
-        × (state_of shape (ownLeft l y.now heavy x (j + 1)) < state_of shape (each t.left)))
+        × (state_of shape (own_left l y.now heavy x (j + 1)) < state_of shape (each t.left)))
         list.old kept.count kept.more list.new result.count result.more
         × SameBut l (Free heavy j 0 t.cells) row.old row.new }
 {
@@ -422,13 +422,13 @@ fn losses_to(
     requires { (Given l numbers.now y.now × (Holding l numbers.now y.now cap list.old kept.count kept.more
         × ((Sound l (length y.now) heavy t × (l.l1 * l.l2 ≤ length row.old)) × ((j < l.l2) × (ShapeOf heavy shape t.left
         × (Looked l y.now totals.now counts.now known.now z.now differ j
-        × NearKnown l numbers.now y.now (rowsIn (rowBits l) list.old kept.count kept.more) z.now room))))))
+        × NearKnown l numbers.now y.now (rows_of_slice (row_bits l) list.old kept.count kept.more) z.now room))))))
         × (((to < state_of shape (each t.left)) × IsMark shape marks.now (j + 1) to mark)
         × Leaves l y.now numbers.now heavy shape known.now marks.now rests.now z.now sets differ j t row.old can.now) }
     ensures { Grown l numbers.now y.now cap
         (λ x. UnderMarks l y.now numbers.now heavy shape known.now marks.now
         rests.now z.now sets differ j t row.old x
-        × (state_of shape (ownLeft l y.now heavy x (j + 1)) ≡ to))
+        × (state_of shape (own_left l y.now heavy x (j + 1)) ≡ to))
         list.old kept.count kept.more list.new result.count result.more
         × SameBut l (Free heavy j 0 t.cells) row.old row.new }
 {
@@ -499,7 +499,7 @@ fn is_heavy(heavy: Heavy, h: usize, i: usize) -> bool
 fn apart_light(l: Layout, heavy: Heavy, row: &[u8], z: &[u8]) -> usize
     requires { (legal l ≡ true) × (HeavyOf l heavy × ((l.l1 * l.l2 ≤ length row.now) × (l.l1 * l.l2 ≤ length z.now))) }
     ensures { ((vs : List ℕ) → LightIn l heavy row.now vs
-        → over (unlike vs z.now) 0 (l.l1 * l.l2) ≤ result + apartFrom l heavy z.now vs 0) × (result ≤ mostChunks) }
+        → over (unlike vs z.now) 0 (l.l1 * l.l2) ≤ result + apart_from l heavy z.now vs 0) × (result ≤ most_chunks) }
 {
     let mut count: usize = 0;
     let mut h: usize = 0;
@@ -551,7 +551,7 @@ pub fn tables(
     requires { (Given l numbers.now y.now × Holding l numbers.now y.now cap list.old kept.count kept.more)
         × ((Sound l (length y.now) heavy t × (t.cells.n ≡ 0)) × (Tables y.now 0 totals.now counts.now
         × (((l.l1 * l.l2 ≤ length row.old) × (l.l1 * l.l2 ≤ length z.now))
-        × NearKnown l numbers.now y.now (rowsIn (rowBits l) list.old kept.count kept.more) z.now room))) }
+        × NearKnown l numbers.now y.now (rows_of_slice (row_bits l) list.old kept.count kept.more) z.now room))) }
     ensures { Grown l numbers.now y.now cap (Under l y.now heavy 0 0 t row.old)
         list.old kept.count kept.more list.new result.count result.more
         × SameBut l (Undecided heavy 0 0) row.old row.new }

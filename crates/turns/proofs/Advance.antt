@@ -7,22 +7,22 @@ use mathlib.Core.List.{List}
 use native.Mathlib.Omega.{arith}
 use lib.ListN.{length, get_or}
 use Rattle.message.specs.declared.Layout.{Layout}
-use Rattle.consistent.specs.Greedy.{inAll}
+use Rattle.consistent.specs.Greedy.{in_all}
 use Rattle.found.specs.Found.{Holding, Grown}
-use Rattle.found.proofs.Found.{grown-nothing, grown-weaken}
+use Rattle.found.proofs.Found.{grown_nothing, grown_weaken}
 use Rattle.cells.specs.Cells.{NoSingle, OpenAt, Placed, SameBut, Under}
 use Rattle.cells.specs.declared.Cells.{Cells}
-use Rattle.cells.proofs.Same.{same_refl, same-trans, same-wider, still_open}
+use Rattle.cells.proofs.Same.{same_refl, same_trans, same_wider, still_open}
 use Rattle.cells.proofs.Shares.{all_found}
 use Rattle.cells.proofs.State.{placed-found}
 use Rattle.turns.specs.Turns.{keys_of, Found, Advanced}
 use Rattle.turns.specs.declared.Turn.{Turn}
 
 -- nothing is found yet
-pub advanced-none : {l : Layout} (numbers : List ℕ) {y : List ℕ} {cells : Cells} {row : List ℕ}
+pub advanced_none : {l : Layout} (numbers : List ℕ) {y : List ℕ} {cells : Cells} {row : List ℕ}
     → Placed l (length y) cells
     → Advanced l numbers y cells row (record { ok = true; any = false; cells = cells }) row
-advanced-none numbers p =
+advanced_none numbers p =
     record {
       keeps = λ x s u. (refl, u);
       unchanged = λ e. refl;
@@ -35,12 +35,12 @@ advanced-none numbers p =
 module _ {l : Layout} {numbers y : List ℕ} {cells : Cells} {row : List ℕ} {t : Turn} {held : List ℕ}
     (a : Advanced l numbers y cells row t held) where
   -- open losses do not get more
-  no_more : inAll t.cells.lost ≤ inAll cells.lost
+  no_more : in_all t.cells.lost ≤ in_all cells.lost
   no_more = go t.any refl
     where
-      go : (b : Bool) → t.any ≡ b → inAll t.cells.lost ≤ inAll cells.lost
+      go : (b : Bool) → t.any ≡ b → in_all t.cells.lost ≤ in_all cells.lost
       go true e = omega (arith, a.fewer e)
-      go false e = omega (arith, ap (λ (c : Cells). inAll c.lost) (a.unchanged e))
+      go false e = omega (arith, ap (λ (c : Cells). in_all c.lost) (a.unchanged e))
 
   -- where no cell was found, no line has exactly one open loss that had not before
   pub still-none : (k : Bool) → t.any ≡ false → NoSingle (keys_of k cells) cells.lost
@@ -49,16 +49,16 @@ module _ {l : Layout} {numbers y : List ℕ} {cells : Cells} {row : List ℕ} {t
 
   -- what changes only chunks of cells that are open now has changed only chunks of cells that were open at first
   pub same_after : {exit : List ℕ} → SameBut l (OpenAt t.cells) held exit → SameBut l (OpenAt cells) row exit
-  same_after s = same-trans a.same (same-wider (λ i c h g. a.still i c) s)
+  same_after s = same_trans a.same (same_wider (λ i c h g. a.still i c) s)
 
   -- ---- the next cell is found
   module _ {z : ℕ} {r : Turn} {exit : List ℕ} (h : 0 < get_or t.cells.lost z 0)
       (f : Found l numbers y t.cells z held r exit) where
-    pub falls : inAll r.cells.lost < inAll t.cells.lost
-    falls = omega (arith, ap (λ (c : Cells). inAll c.lost) f.closed, all_found t.cells.lost z)
+    pub falls : in_all r.cells.lost < in_all t.cells.lost
+    falls = omega (arith, ap (λ (c : Cells). in_all c.lost) f.closed, all_found t.cells.lost z)
 
-    pub advanced-next : Advanced l numbers y cells row r exit
-    advanced-next =
+    pub advanced_next : Advanced l numbers y cells row r exit
+    advanced_next =
         record {
           keeps = λ x s u. f.keeps x s (a.keeps x s u).1;
           unchanged = λ e. absurd (true≢false (sym f.any ∙ e));
@@ -74,12 +74,12 @@ module _ {l : Layout} {numbers y : List ℕ} {cells : Cells} {row : List ℕ} {t
   -- ---- what is listed
   module _ {cap : ℕ} {entry : List ℕ} {c : ℕ} {m : Bool} where
     -- nothing, where the turn fails
-    pub grown-failed : Holding l numbers y cap entry c m → t.ok ≡ false
+    pub grown_failed : Holding l numbers y cap entry c m → t.ok ≡ false
         → Grown l numbers y cap (Under l y cells row) entry c m entry c m × SameBut l (OpenAt cells) row held
-    grown-failed h e = (grown-nothing h (λ x s u. false≢true (sym e ∙ (a.keeps x s u).0)), a.same)
+    grown_failed h e = (grown_nothing h (λ x s u. false≢true (sym e ∙ (a.keeps x s u).0)), a.same)
 
     -- else the rows under the state that it leaves
-    pub grown-advanced : {list : List ℕ} {d : ℕ} {o : Bool} {exit : List ℕ}
+    pub grown_advanced : {list : List ℕ} {d : ℕ} {o : Bool} {exit : List ℕ}
         → Grown l numbers y cap (Under l y t.cells held) entry c m list d o × SameBut l (OpenAt t.cells) held exit
         → Grown l numbers y cap (Under l y cells row) entry c m list d o × SameBut l (OpenAt cells) row exit
-    grown-advanced g = (grown-weaken (λ x s u. (a.keeps x s u).1) g.0, same_after g.1)
+    grown_advanced g = (grown_weaken (λ x s u. (a.keeps x s u).1) g.0, same_after g.1)

@@ -4,7 +4,7 @@ ghost use Rattle.std.specs.Prelude.{◌≡◌, true, List, ℕ, ◌*◌, ◌<◌
 ghost use Rattle.message.specs.Layout.{legal as isLegal};
 ghost use Rattle.found.specs.Found.{Given, Holding, Grown};
 ghost use Rattle.cells.specs.Cells.{NoSingle, SingleAt, OpenAt, Placed, SameBut, Under};
-ghost use Rattle.turns.specs.Turns.{keys_of, line_of, Ready, chunkAt, Short, Found, Turned};
+ghost use Rattle.turns.specs.Turns.{keys_of, line_of, Ready, chunk_at, Short, Found, Turned};
 
 use cells::Cells;
 use lines::Mended;
@@ -72,7 +72,7 @@ fn single(strings: bool, cells: Cells) -> usize
 fn mend_cell(nc: usize, y: &[u8], place: usize, n: Line, sum: usize, row: &[u8]) -> Mended
     requires { Ready nc y.now place n sum (length row.now) }
     ensures { (us : List ℕ) → Short nc n sum (drop place y.now) row.now us
-        → (result.ok ≡ true) × (result.value ≡ chunkAt n us) }
+        → (result.ok ≡ true) × (result.value ≡ chunk_at n us) }
 {
     let none = Mended {
         ok: false,

@@ -21,44 +21,44 @@ first-length x o at h k p e =
     ap length e ∙ length-append (take at x) (drop at o) ∙ omega (arith, length-take-le at x h, length-drop at o)
 
 -- after the bit
-with-bit : (x o : List ℕ) (at b : ℕ) → at ≤ length x → at < length o → (p : List ℕ) → p ≡ take at x ++ drop at o
+with_bit : (x o : List ℕ) (at b : ℕ) → at ≤ length x → at < length o → (p : List ℕ) → p ≡ take at x ++ drop at o
     → set p at b ≡ take at x ++ (b ∷ drop (suc at) o)
-with-bit x o at b h k p e =
+with_bit x o at b h k p e =
     rw (e, drop-cons o at 0 k) (set_at (take at x) (get_or o at 0) (drop (suc at) o) b at (length-take-le at x h))
 
 -- up to the bit, and far enough behind it
-pub bit-front : (x o : List ℕ) (at b : ℕ) → at ≤ length x → at < length o → (p : List ℕ) → p ≡ take at x ++ drop at o
+pub bit_front : (x o : List ℕ) (at b : ℕ) → at ≤ length x → at < length o → (p : List ℕ) → p ≡ take at x ++ drop at o
     → take (at + 1) (set p at b) ≡ take at x ++ (b ∷ [])
-bit-front x o at b h k p e =
+bit_front x o at b h k p e =
     let n : length (take at x ++ (b ∷ [])) ≡ at + 1 =
     length-append (take at x) (b ∷ []) ∙ omega (arith, length-take-le at x h) in
-    rw (with-bit x o at b h k p e, ← append_snoc (take at x) b (drop (suc at) o))
+    rw (with_bit x o at b h k p e, ← append_snoc (take at x) b (drop (suc at) o))
     (take_at (take at x ++ (b ∷ [])) (drop (suc at) o) (at + 1) n)
 
-pub bit-back : (x o : List ℕ) (at b n : ℕ) → at ≤ length x → at < length o → (p : List ℕ) → p ≡ take at x ++ drop at o
+pub bit_back : (x o : List ℕ) (at b n : ℕ) → at ≤ length x → at < length o → (p : List ℕ) → p ≡ take at x ++ drop at o
     → at < n → drop n (set p at b) ≡ drop n o
-bit-back x o at b n h k p e l =
+bit_back x o at b n h k p e l =
     let m : ℕ = n - at - 1 in
     let f : n ≡ length (take at x) + suc m = omega (arith, length-take-le at x h) in
     let g : suc at + m ≡ n = omega arith in
-    rw (with-bit x o at b h k p e)
+    rw (with_bit x o at b h k p e)
     (ap (λ (j : ℕ). drop j (take at x ++ (b ∷ drop (suc at) o))) f
     ∙ drop-append-add (take at x) (b ∷ drop (suc at) o) (suc m) ∙ drop-drop m (suc at) o ∙ ap (λ (j : ℕ). drop j o) g)
 
 module _ (x o : List ℕ) (at b : ℕ) (h : at ≤ length x) (k : length x + 1 ≤ length o) where
   -- after the part behind the bit
-  pub second-part : (p q : List ℕ) → p ≡ take at x ++ drop at o
+  pub second_part : (p q : List ℕ) → p ≡ take at x ++ drop at o
       → q ≡ take (at + 1) (set p at b) ++ take (length x - at) (drop at x)
       ++ drop (at + 1 + length (take (length x - at) (drop at x))) (set p at b)
       → q ≡ take at x ++ (b ∷ drop at x) ++ drop (length x + 1) o
-  second-part p q e f =
+  second_part p q e f =
       let front : List ℕ = take at x ++ (b ∷ []) in
       let n : length front ≡ at + 1 = length-append (take at x) (b ∷ []) ∙ omega (arith, length-take-le at x h) in
       let t : take (length x - at) (drop at x) ≡ drop at x =
       take_all (length x - at) (drop at x) (omega (arith, length-drop at x)) in
       let l : at + 1 + length (drop at x) ≡ length x + 1 = omega (arith, length-drop at x) in
       let s : set p at b ≡ front ++ drop (suc at) o =
-      with-bit x o at b h (omega arith) p e ∙ sym (append_snoc (take at x) b (drop (suc at) o)) in
+      with_bit x o at b h (omega arith) p e ∙ sym (append_snoc (take at x) b (drop (suc at) o)) in
       let m : length x + 1 ≡ length front + (length x - at) = omega arith in
       let r : suc at + (length x - at) ≡ length x + 1 = omega arith in
       let v : drop (length x + 1) (front ++ drop (suc at) o) ≡ drop (length x + 1) o =

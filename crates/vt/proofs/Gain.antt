@@ -10,7 +10,7 @@ use Rattle.bits.specs.Bits.{AllBits}
 use Rattle.rows.proofs.Deletion.{One, here, there}
 use Rattle.vt.specs.Ones.{ones}
 use Rattle.vt.specs.Sum.{total}
-use Rattle.vt.proofs.Totals.{total-up, ones-length}
+use Rattle.vt.proofs.Totals.{total_up, ones-length}
 
 -- what the deleted bit adds to the total, where the first bit stands at position i
 pub gain : (i : ℕ) {x y : List ℕ} → One x y → ℕ
@@ -22,16 +22,16 @@ bit : {x y : List ℕ} → One x y → ℕ
 bit (here {b}) = b
 bit (there d) = bit d
 
-pub total-gain : (i : ℕ) {x y : List ℕ} (d : One x y) → total i x ≡ total i y + gain i d
+pub total_gain : (i : ℕ) {x y : List ℕ} (d : One x y) → total i x ≡ total i y + gain i d
 unfolding total gain
-total-gain i (here {b} {x}) = let h = total-up i x in omega arith
-total-gain i (there {b} d) = let h = total-gain (suc i) d in omega arith
+total_gain i (here {b} {x}) = let h = total_up i x in omega arith
+total_gain i (there {b} d) = let h = total_gain (suc i) d in omega arith
 
 -- a deleted 0 adds at most the number of ones
-zero-low : (i : ℕ) {x y : List ℕ} (d : One x y) → bit d ≡ 0 → gain i d ≤ ones y
+zero_low : (i : ℕ) {x y : List ℕ} (d : One x y) → bit d ≡ 0 → gain i d ≤ ones y
 unfolding gain bit ones
-zero-low i (here {b} {x}) e = let h : i * b ≡ 0 = rw (e, mul-zero) refl in omega arith
-zero-low i (there d) e = let h = zero-low (suc i) d e in omega arith
+zero_low i (here {b} {x}) e = let h : i * b ≡ 0 = rw (e, mul-zero) refl in omega arith
+zero_low i (there d) e = let h = zero_low (suc i) d e in omega arith
 
 -- a deleted 1 adds more than the number of ones
 one-high : (i : ℕ) {x y : List ℕ} (d : One x y) → AllBits y → bit d ≡ 1 → i + ones y ≤ gain i d
@@ -44,10 +44,10 @@ unfolding gain bit
 one-low i (here {b} {x}) a e = let h : i * b ≡ i = rw (e, mul-one) refl in let k = ones-length x a in omega arith
 one-low i (there d) a e = let h = one-low (suc i) d a.1 e in omega arith
 
-bit-small : {x y : List ℕ} (d : One x y) → AllBits x → bit d < 2
+bit_small : {x y : List ℕ} (d : One x y) → AllBits x → bit d < 2
 unfolding bit
-bit-small here a = a.0
-bit-small (there d) a = bit-small d a.1
+bit_small here a = a.0
+bit_small (there d) a = bit_small d a.1
 
 -- the two bits
 two : {P : Type 0} (k : ℕ) → k < 2 → (k ≡ 0 → P) → (k ≡ 1 → P) → P
@@ -56,9 +56,9 @@ two (suc zero) h f g = g refl
 two (suc (suc k)) h f g = absurd (omega arith)
 
 -- a deleted bit adds at most the length of its string
-pub gain-top : {x y : List ℕ} (d : One x y) → AllBits x → AllBits y → gain 1 d < length y + 2
-gain-top {y} d ax ay =
-    two (bit d) (bit-small d ax) (λ r. let l = zero-low 1 d r in let k = ones-length y ay in omega arith)
+pub gain_top : {x y : List ℕ} (d : One x y) → AllBits x → AllBits y → gain 1 d < length y + 2
+gain_top {y} d ax ay =
+    two (bit d) (bit_small d ax) (λ r. let l = zero_low 1 d r in let k = ones-length y ay in omega arith)
     (λ r. let l = one-low 1 d ay r in omega arith)
 
 -- two bits at one place that add the same
@@ -77,10 +77,10 @@ cross : (i b c : ℕ) {z y : List ℕ} (e : One z y) → 1 ≤ i → b < 2 → c
 cross i zero zero e h p q a k w = (refl, omega (arith, mul-zero i, mul-zero (suc i)))
 cross i (suc zero) (suc zero) e h p q a k w = (refl, omega (arith, mul-one i, mul-one (suc i)))
 cross i zero (suc zero) e h p q a k w =
-    absurd (two (bit e) k (λ r. let l = zero-low (suc i) e r in omega (arith, mul-zero i))
+    absurd (two (bit e) k (λ r. let l = zero_low (suc i) e r in omega (arith, mul-zero i))
     (λ r. let l = one-high (suc i) e a r in omega (arith, mul-zero i)))
 cross i (suc zero) zero e h p q a k w =
-    absurd (two (bit e) k (λ r. let l = zero-low (suc i) e r in omega (arith, mul-one i))
+    absurd (two (bit e) k (λ r. let l = zero_low (suc i) e r in omega (arith, mul-one i))
     (λ r. let l = one-high (suc i) e a r in omega (arith, mul-one i)))
 cross i zero (suc (suc c)) e h p q a k w = absurd (omega arith)
 cross i (suc zero) (suc (suc c)) e h p q a k w = absurd (omega arith)
@@ -91,16 +91,16 @@ same_here : (i b : ℕ) {z y : List ℕ} (e : One z y) → 1 ≤ i → b < 2 →
 unfolding gain ones
 same_here i b (here {b = c} {x}) h p az ay w = ap (λ (v : ℕ). v ∷ x) (same_bit i b c (ones x) h p az.0 w)
 same_here i b (there {b = c} {x = z} {y} e) h p az ay w =
-    let k = cross i b c e h p az.0 ay.1 (bit-small e az.1) w in
+    let k = cross i b c e h p az.0 ay.1 (bit_small e az.1) w in
     let r = same_here (suc i) c e (omega arith) az.0 az.1 ay.1 k.1 in
     let s : b ≡ c = k.0 in
     cc
 
 -- strings whose deleted bits add the same are equal
-pub same-gain : (i : ℕ) {x z y : List ℕ} (d : One x y) (e : One z y) → 1 ≤ i → AllBits x → AllBits z → AllBits y
+pub same_gain : (i : ℕ) {x z y : List ℕ} (d : One x y) (e : One z y) → 1 ≤ i → AllBits x → AllBits z → AllBits y
     → gain i d ≡ gain i e → x ≡ z
 unfolding gain
-same-gain i (here {b}) e h ax az ay w = same_here i b e h ax.0 az ay w
-same-gain i (there {b = c} d) (here {b}) h ax az ay w = sym (same_here i b (there {b = c} d) h az.0 ax ay (sym w))
-same-gain i (there {b = c} d) (there e) h ax az ay w =
-    ap (λ (l : List ℕ). c ∷ l) (same-gain (suc i) d e (omega arith) ax.1 az.1 ay.1 w)
+same_gain i (here {b}) e h ax az ay w = same_here i b e h ax.0 az ay w
+same_gain i (there {b = c} d) (here {b}) h ax az ay w = sym (same_here i b (there {b = c} d) h az.0 ax ay (sym w))
+same_gain i (there {b = c} d) (there e) h ax az ay w =
+    ap (λ (l : List ℕ). c ∷ l) (same_gain (suc i) d e (omega arith) ax.1 az.1 ay.1 w)

@@ -13,16 +13,16 @@ use lib.Dec.{eqb}
 use lib.ListN.{length, get_or, take, drop, drop_of_length-le}
 use lib.Seq.{drop-cons}
 use Rattle.bits.specs.Bits.{AllBits}
-use Rattle.bits.proofs.Laws.{lt-or-ge}
+use Rattle.bits.proofs.Laws.{lt_or_ge}
 use Rattle.vt.specs.Ones.{ones}
 use Rattle.vt.specs.Places.{Reach}
 use Rattle.vt.specs.Sum.{total}
 
 -- a bit times a number is at most the number
-pub times-bit : (k b : ℕ) → b < 2 → k * b ≤ k
-times-bit k zero h = omega (arith, mul-zero k)
-times-bit k (suc zero) h = omega (arith, mul-one k)
-times-bit k (suc (suc b)) h = absurd (omega arith)
+pub times_bit : (k b : ℕ) → b < 2 → k * b ≤ k
+times_bit k zero h = omega (arith, mul-zero k)
+times_bit k (suc zero) h = omega (arith, mul-one k)
+times_bit k (suc (suc b)) h = absurd (omega arith)
 
 -- no more ones than bits
 pub ones-length : (y : List ℕ) → AllBits y → ones y ≤ length y
@@ -31,10 +31,10 @@ ones-length [] a = omega arith
 ones-length (b ∷ y) a = let h = ones-length y a.1 in omega (arith, a.0)
 
 -- moved on by one, each one counts one more
-pub total-up : (i : ℕ) (x : List ℕ) → total (suc i) x ≡ total i x + ones x
+pub total_up : (i : ℕ) (x : List ℕ) → total (suc i) x ≡ total i x + ones x
 unfolding total ones
-total-up i [] = refl
-total-up i (b ∷ x) = let h = total-up (suc i) x in omega (arith, suc-mul i b)
+total_up i [] = refl
+total_up i (b ∷ x) = let h = total_up (suc i) x in omega (arith, suc-mul i b)
 
 -- the total from place j on, taken apart at its first bit
 pub total-next : (x : List ℕ) (j : ℕ) → j < length x
@@ -60,7 +60,7 @@ ones-end x j h = rw (drop_of_length-le x {i = j} h) refl
 pub total-put : (i k b : ℕ) (y : List ℕ) → k ≤ length y
     → total i (take k y ++ (b ∷ drop k y)) ≡ total i y + ((i + k) * b + ones (drop k y))
 unfolding total
-total-put i zero b y h = let u = total-up i y in let e : (i + 0) * b ≡ i * b = rw (add-zero i) refl in omega arith
+total-put i zero b y h = let u = total_up i y in let e : (i + 0) * b ≡ i * b = rw (add-zero i) refl in omega arith
 total-put i (suc k) b [] h = absurd (omega arith)
 total-put i (suc k) b (c ∷ y) h =
     let u = total-put (suc i) k b y (omega arith) in
@@ -68,13 +68,13 @@ total-put i (suc k) b (c ∷ y) h =
     omega arith
 
 -- a bit whose own position, where it is a one, and the ones behind it are t in all adds t
-pub put-adds : (k b t c : ℕ) (y : List ℕ) → k ≤ length y → c ≡ 1 + k → c * b + ones (drop k y) ≡ t
+pub put_adds : (k b t c : ℕ) (y : List ℕ) → k ≤ length y → c ≡ 1 + k → c * b + ones (drop k y) ≡ t
     → total 1 (take k y ++ (b ∷ drop k y)) ≡ total 1 y + t
-put-adds k b t c y h e f = total-put 1 k b y h ∙ ap (λ (n : ℕ). total 1 y + n) (rw (← e) f)
+put_adds k b t c y h e f = total-put 1 k b y h ∙ ap (λ (n : ℕ). total 1 y + n) (rw (← e) f)
 
 -- from the start on, every t up to the length with the new bit has a place
 pub reach-start : (t r e : ℕ) → t ≤ e → Reach 1 t r e
-reach-start t r e h = ⊎_elim (λ l. inr (omega arith, h)) (λ l. inl l) (lt-or-ge r t)
+reach-start t r e h = ⊎_elim (λ l. inr (omega arith, h)) (λ l. inl l) (lt_or_ge r t)
 
 -- where neither bit goes before c, one goes after it
 pub reach-next : (i k t c r q e : ℕ) → c < 2 → k ≡ i + 1 → r ≡ c + q → (t ≡ r → ⊥) → (t ≡ i + r → ⊥) → Reach i t r e
@@ -94,16 +94,16 @@ pub record Place (i t : ℕ) (y : List ℕ) : Type 0 where
   pub adds : total i (take at y ++ (bit ∷ drop at y)) ≡ total i y + t
 
 -- a 0 put in here
-zero-here : (i t : ℕ) (y : List ℕ) → t ≡ ones y → Place i t y
+zero_here : (i t : ℕ) (y : List ℕ) → t ≡ ones y → Place i t y
 unfolding total
-zero-here i t y e =
-    record { at = 0; bit = 0; inside = omega arith; small = omega arith; adds = omega (arith, mul-zero i, total-up i y) }
+zero_here i t y e =
+    record { at = 0; bit = 0; inside = omega arith; small = omega arith; adds = omega (arith, mul-zero i, total_up i y) }
 
 -- a 1 put in here
 one-here : (i t : ℕ) (y : List ℕ) → t ≡ i + ones y → Place i t y
 unfolding total
 one-here i t y e =
-    record { at = 0; bit = 1; inside = omega arith; small = omega arith; adds = omega (arith, mul-one i, total-up i y) }
+    record { at = 0; bit = 1; inside = omega arith; small = omega arith; adds = omega (arith, mul-one i, total_up i y) }
 
 -- a place further on
 later : (i t c : ℕ) (y : List ℕ) → Place (suc i) t y → Place i t (c ∷ y)
@@ -120,14 +120,14 @@ later i t c y p =
 -- such a place and bit exist
 pub place : (i t e : ℕ) (y : List ℕ) → AllBits y → e ≡ i + length y → Reach i t (ones y) e → Place i t y
 unfolding ones
-place i t e [] a h (inl p) = zero-here i t [] (omega arith)
+place i t e [] a h (inl p) = zero_here i t [] (omega arith)
 place i t e [] a h (inr p) = one-here i t [] (omega (arith, p.0, p.1))
 place i t e (c ∷ y) a h w =
     go (eqb t (c + ones y)) refl (eqb t (i + (c + ones y))) refl (place (suc i) t e y a.1 (omega arith))
   where
     go : (s : Bool) → eqb t (c + ones y) ≡ s → (u : Bool) → eqb t (i + (c + ones y)) ≡ u
         → (Reach (suc i) t (ones y) e → Place (suc i) t y) → Place i t (c ∷ y)
-    go true p u q ih = zero-here i t (c ∷ y) (eqb-true t (c + ones y) p)
+    go true p u q ih = zero_here i t (c ∷ y) (eqb-true t (c + ones y) p)
     go false p true q ih = one-here i t (c ∷ y) (eqb-true t (i + (c + ones y)) q)
     go false p false q ih =
         later i t c y (ih

@@ -14,12 +14,12 @@ use Rattle.bits.specs.Bits.{digits, unpack, blank}
 use Rattle.bits.proofs.Laws.{length_digits, length-unpack, both_left, both_right}
 use Rattle.vt.specs.Ones.{ones}
 use Rattle.vt.specs.Sum.{total}
-use Rattle.vt.specs.Weights.{weight, weightsFrom, weights}
-use Rattle.vt.proofs.Totals.{total-up}
+use Rattle.vt.specs.Weights.{weight, weights_from, weights}
+use Rattle.vt.proofs.Totals.{total_up}
 
 -- ---- the table
-weight-from : (b k i : ℕ) → i < k → get_or (weightsFrom b k) i 0 ≡ weight (b + i)
-unfolding weightsFrom
+weight-from : (b k i : ℕ) → i < k → get_or (weights_from b k) i 0 ≡ weight (b + i)
+unfolding weights_from
 weight-from b zero i h = absurd (omega arith)
 weight-from b (suc k) zero h = rw (add-zero b) refl
 weight-from b (suc k) (suc i) h = weight-from (suc b) k i (omega arith) ∙ ap weight (omega arith)
@@ -62,9 +62,9 @@ total-append i (b ∷ x) y = let e : i + suc (length x) ≡ suc i + length x = o
     rw e (omega (arith, total-append (suc i) x y))
 
 -- the ones from a place on, taken apart behind some bits
-pub ones-part : (x : List ℕ) (from size : ℕ)
+pub ones_part : (x : List ℕ) (from size : ℕ)
     → ones (drop from x) ≡ ones (take size (drop from x)) + ones (drop (from + size) x)
-ones-part x from size =
+ones_part x from size =
     let y : List ℕ = drop from x in
     sym (ap ones (take-append-drop size y)) ∙ ones-append (take size y) (drop size y)
     ∙ ap (λ (z : List ℕ). ones (take size y) + ones z) (drop-drop size from x)
@@ -87,9 +87,9 @@ blank-total i (b ∷ x) e =
     ) refl
 
 -- moved on by k, each one counts k more
-pub total-far : (k i : ℕ) (x : List ℕ) → total (i + k) x ≡ total i x + k * ones x
-total-far zero i x = rw (add-zero i) (omega arith)
-total-far (suc k) i x = rw (add-suc i k) (total-up (i + k) x ∙ omega (arith, total-far k i x))
+pub total_far : (k i : ℕ) (x : List ℕ) → total (i + k) x ≡ total i x + k * ones x
+total_far zero i x = rw (add-zero i) (omega arith)
+total_far (suc k) i x = rw (add-suc i k) (total_up (i + k) x ∙ omega (arith, total_far k i x))
 
 -- ---- byte by byte
 unpack-drop : (s : List ℕ) (i : ℕ) → i < length s
@@ -122,7 +122,7 @@ total-byte s i h =
     ≡ total (1 + (i + 1) * 8) (drop ((i + 1) * 8) (unpack s)) =
     ap (λ (n : ℕ). total n (drop ((i + 1) * 8) (unpack s))) e in
     rw (unpack-drop s i h)
-    (total-append (1 + i * 8) d (drop ((i + 1) * 8) (unpack s)) ∙ omega (arith, total-far (i * 8) 1 d, f))
+    (total-append (1 + i * 8) d (drop ((i + 1) * 8) (unpack s)) ∙ omega (arith, total_far (i * 8) 1 d, f))
 
 -- ---- a part of packed bits, unpacked
 unpack-behind : (i : ℕ) (s : List ℕ) → unpack (drop i s) ≡ drop (i * 8) (unpack s)
@@ -139,19 +139,19 @@ module _ (s : List ℕ) (byte size : ℕ) (h : byte * 8 + size ≤ length s * 8)
       length-take-le size (drop (byte * 8) (unpack s)) (omega (arith, length-drop (byte * 8) (unpack s), length-unpack s))
 
   -- the front of an array to which the part was unpacked
-  pub part-lent : (q o : List ℕ) → q ≡ take size (unpack (take (length s - byte) (drop byte s))) ++ drop size o
+  pub part_lent : (q o : List ℕ) → q ≡ take size (unpack (take (length s - byte) (drop byte s))) ++ drop size o
       → take (size - 0) q ≡ take size (drop (byte * 8) (unpack s))
-  part-lent q o e =
+  part_lent q o e =
       let z : size - 0 ≡ size = omega arith in
       let a : take (length s - byte) (drop byte s) ≡ drop byte s =
       take_all (length s - byte) (drop byte s) (omega (arith, length-drop byte s)) in
       rw (z, e, a, unpack-behind byte s) (take_at (take size (drop (byte * 8) (unpack s))) (drop size o) size part_length)
 
   -- the ones behind a place in the part are those in it and those behind it
-  pub part-ones : (at : ℕ) → at ≤ size
+  pub part_ones : (at : ℕ) → at ≤ size
       → ones (drop (byte * 8 + at) (unpack s))
       ≡ ones (drop at (take size (drop (byte * 8) (unpack s)))) + ones (drop (byte * 8 + size) (unpack s))
-  part-ones at k =
+  part_ones at k =
       let u : List ℕ = unpack s in
       let y : List ℕ = drop (byte * 8) u in
       let d : drop (byte * 8 + at) u ≡ drop at (take size y) ++ drop (byte * 8 + size) u =

@@ -10,12 +10,12 @@ unfolding digits ones total
 weight b = ones (digits 8 b) * 64 + total 1 (digits 8 b)
 
 -- the weights of k bytes from b on
-unfoldable pub weightsFrom : (b k : ℕ) → List ℕ
+unfoldable pub weights_from : (b k : ℕ) → List ℕ
 unfolding weight
-weightsFrom b zero = []
-weightsFrom b (suc k) = weight b ∷ weightsFrom (suc b) k
+weights_from b zero = []
+weights_from b (suc k) = weight b ∷ weights_from (suc b) k
 
 -- the weights of all bytes
 unfoldable pub weights : List ℕ
-unfolding weightsFrom
-weights = weightsFrom 0 256
+unfolding weights_from
+weights = weights_from 0 256

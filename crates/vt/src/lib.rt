@@ -2,12 +2,12 @@
 // specs/Ones.antt, specs/Weights.antt, specs/Places.antt, specs/Mend.antt and specs/Answer.antt; that exactly one string is
 // picked is proved in proofs/Mending.antt.
 ghost use Rattle.std.specs.Prelude.{◌≡◌, ◌∷◌, ◌++◌, true, ◌+◌, ◌-◌, ◌*◌, ◌/◌, ◌%◌, ◌^◌, ◌<◌, ◌≤◌, length, take, drop};
-ghost use Rattle.bits.specs.Bits.{AllBits, longest, digits, bytes, bytesFor, pack, unpack, fits};
+ghost use Rattle.bits.specs.Bits.{AllBits, longest, digits, bytes, bytes_for, pack, unpack, fits};
 ghost use Rattle.vt.specs.Sum.{total};
 ghost use Rattle.vt.specs.Ones.{ones};
 ghost use Rattle.vt.specs.Weights.{weights as weightsOf};
 ghost use Rattle.vt.specs.Places.{Reach, PartOf};
-ghost use Rattle.vt.specs.Mend.{mended, mendRefusal, mendTarget};
+ghost use Rattle.vt.specs.Mend.{mended, mend_refusal, mend_target};
 ghost use Rattle.vt.specs.Answer.{answer_of};
 
 use refusal::Refusal;
@@ -175,7 +175,7 @@ pub enum Mended {
 
 // The first check that applies to a length, a sum, packed bits and a target of so many bytes; Done where none does.
 fn check(w: usize, s: usize, bits: &[u8], room: usize) -> Mended
-    ensures { answer_of result ≡ record { refusal = mendRefusal w s bits.now room; value = 0 } }
+    ensures { answer_of result ≡ record { refusal = mend_refusal w s bits.now room; value = 0 } }
 {
     if w < 1 {
         return Mended::Refused(Refusal::Layout);
@@ -300,9 +300,9 @@ fn put_packed(s: &[u8], at: usize, bit: u8, count: usize, out: &mut [u8])
 // The mended string of packed bits, packed, at the start of a slice.
 fn mend_packed(w: usize, s: usize, bits: &[u8], out: &mut [u8])
     requires { ((1 ≤ w) × (w ≤ longest)) × ((s ≤ w) × ((fits (w - 1) bits.now ≡ true)
-        × (bytesFor w ≤ length out.old))) }
+        × (bytes_for w ≤ length out.old))) }
     ensures { out.new ≡ pack (mended w s (take (w - 1) (unpack bits.now)))
-        ++ drop (bytesFor w) out.old }
+        ++ drop (bytes_for w) out.old }
 {
     let table = weights();
     let weight = weigh_bytes(&table, bits);
@@ -314,8 +314,8 @@ fn mend_packed(w: usize, s: usize, bits: &[u8], out: &mut [u8])
 // The string of length w with the sum s from which the packed bits come by one deletion, packed, at the start of a slice.
 pub fn mend(w: usize, s: usize, bits: &[u8], out: &mut [u8]) -> Mended
     ensures { (answer_of result
-        ≡ record { refusal = mendRefusal w s bits.now (length out.old); value = 0 })
-        × (out.new ≡ mendTarget w s bits.now out.old) }
+        ≡ record { refusal = mend_refusal w s bits.now (length out.old); value = 0 })
+        × (out.new ≡ mend_target w s bits.now out.old) }
 {
     let room = out.len();
     let answer = check(w, s, bits, room);

@@ -13,7 +13,7 @@ use lib.Dec.{eqb}
 use lib.ListN.{length, get_or, take, drop, length-take, length-drop}
 use lib.Seq.{length-take-le, get_or-take}
 use Rattle.bits.specs.Bits.{AllBits, number}
-use Rattle.bits.proofs.Laws.{bits-take, bits-drop, number-none, number-take, number-ext}
+use Rattle.bits.proofs.Laws.{bits-take, bits-drop, number-none, number-take, number_ext}
 use Rattle.rows.proofs.Deletion.{strikes}
 use Rattle.vt.specs.Ones.{ones}
 use Rattle.vt.proofs.Totals.{ones-length}
@@ -28,13 +28,13 @@ others c [] = 0
 others c (b ∷ v) = cond (eqb b c) 0 1 + others c v
 
 -- against a run of c each bit that is another is lost, and only these
-run-lost : (c : ℕ) (v ys : List ℕ) (w : ℕ) → ((i : ℕ) → i ≤ w → get_or ys i 0 ≡ c) → w < length ys
+run_lost : (c : ℕ) (v ys : List ℕ) (w : ℕ) → ((i : ℕ) → i ≤ w → get_or ys i 0 ≡ c) → w < length ys
     → losses v ys + w ≡ length v → others c v ≡ losses v ys
 unfolding others losses
-run-lost c [] ys w run h e = refl
-run-lost c (b ∷ v) [] w run h e = absurd (omega arith)
-run-lost c (b ∷ v) (d ∷ ys) w run h e =
-    go (ℕ_discrete b c) (λ k r l f. run-lost c v ys k r l f) (λ f. run-lost c v (d ∷ ys) w run h f)
+run_lost c [] ys w run h e = refl
+run_lost c (b ∷ v) [] w run h e = absurd (omega arith)
+run_lost c (b ∷ v) (d ∷ ys) w run h e =
+    go (ℕ_discrete b c) (λ k r l f. run_lost c v ys k r l f) (λ f. run_lost c v (d ∷ ys) w run h f)
   where
     first : d ≡ c
     first = run 0 (omega arith)
@@ -56,10 +56,10 @@ run-lost c (b ∷ v) (d ∷ ys) w run h e =
         rw (ne_eqb b c q, t) (omega (arith, lost (omega arith)))
 
 -- those other than zero are the ones
-others-zero : (v : List ℕ) → AllBits v → others 0 v ≡ ones v
+others_zero : (v : List ℕ) → AllBits v → others 0 v ≡ ones v
 unfolding others ones
-others-zero [] a = refl
-others-zero (b ∷ v) a = go (ℕ_discrete b 0) (others-zero v a.1)
+others_zero [] a = refl
+others_zero (b ∷ v) a = go (ℕ_discrete b 0) (others_zero v a.1)
   where
     go : Dec (b ≡ 0) → others 0 v ≡ ones v → cond (eqb b 0) 0 1 + others 0 v ≡ b + ones v
     go (yes q) r = rw (eq-eqb b 0 q) (omega arith)
@@ -90,7 +90,7 @@ all_ones (b ∷ x) a e (suc i) h = all_ones x a.1 (omega (arith, a.0, ones-lengt
 
 -- the numbers that k bits spell without a one, and with ones only
 pub zeros-number : (k : ℕ) (x : List ℕ) → ones (take k x) ≡ 0 → number k x ≡ 0
-zeros-number k x e = sym (number-take k x) ∙ number-ext k (take k x) [] (no_ones (take k x) e) ∙ number-none k
+zeros-number k x e = sym (number-take k x) ∙ number_ext k (take k x) [] (no_ones (take k x) e) ∙ number-none k
 
 pub ones-number : (k : ℕ) (x : List ℕ) → AllBits x → ones (take k x) ≡ k → number k x + 1 ≡ 2 ^ k
 unfolding ones number
@@ -156,7 +156,7 @@ module _ (y : List ℕ) (place w lost : ℕ) (bits : AllBits y) (room : place + 
     zeros-lost z =
         let run : (i : ℕ) → i ≤ w → get_or rest i 0 ≡ 0 = λ i h. sym (same i h) ∙ no_ones (take (w + 1) rest) z i in
         let all : (v : List ℕ) → AllBits v → length v ≡ w + lost → losses v rest ≡ lost → ones v ≡ lost =
-        λ v b n e. sym (others-zero v b) ∙ run-lost 0 v rest w run next-long (omega arith) ∙ e
+        λ v b n e. sym (others_zero v b) ∙ run_lost 0 v rest w run next-long (omega arith) ∙ e
         in
         record {
           least = λ v b n e. omega (arith, all v b n e, next_bit);
@@ -173,7 +173,7 @@ module _ (y : List ℕ) (place w lost : ℕ) (bits : AllBits y) (room : place + 
         λ i h. sym (same i h) ∙ all_ones (take (w + 1) rest) b1 (z ∙ sym length-next) i (omega (arith, length-next))
         in
         let all : (v : List ℕ) → AllBits v → length v ≡ w + lost → losses v rest ≡ lost → ones v ≡ w =
-        λ v b n e. omega (arith, others-one v b, run-lost 1 v rest w run next-long (omega arith))
+        λ v b n e. omega (arith, others-one v b, run_lost 1 v rest w run next-long (omega arith))
         in
         let last = run w (omega arith) in
         record {

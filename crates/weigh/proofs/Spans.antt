@@ -11,7 +11,7 @@ use Rattle.bits.proofs.Laws.{bits-digits, length_digits}
 use Rattle.rows.proofs.Deletion.{strikes}
 use Rattle.vt.specs.Ones.{ones}
 use Rattle.vt.specs.Sum.{total}
-use Rattle.windows.proofs.Windows.{total-on}
+use Rattle.windows.proofs.Windows.{total_on}
 use Rattle.consistent.specs.Greedy.{losses}
 use Rattle.consistent.proofs.Greedy.{Piece, piece}
 use Rattle.weigh.specs.Weigh.{Can, brought, SeenIn, MoreOnes, Wider, Within}
@@ -34,11 +34,11 @@ module _ (nc before lost v : ℕ) (w : List ℕ) (loses : losses (digits nc v) w
   chunk-weighs : Weighs (digits nc v) lost (take (nc - lost) w)
   chunk-weighs = weighs (strikes (digits nc v) _ _ takes.comes) (bits-digits nc v)
 
-  pub one-wider : (seen : Seen) (g : ℕ) (span wider : Span) → lost ≤ nc → SeenIn (take (nc - lost) w) (nc - lost) seen
+  pub one_wider : (seen : Seen) (g : ℕ) (span wider : Span) → lost ≤ nc → SeenIn (take (nc - lost) w) (nc - lost) seen
       → ones (digits nc v) ≡ seen.ones + g → Wider nc before lost seen g span wider
       → (wider.low ≤ span.low + 2 * total (before + 1) (digits nc v))
       × (span.high + 2 * total (before + 1) (digits nc v) ≤ wider.high)
-  one-wider seen g span wider few i e u =
+  one_wider seen g span wider few i e u =
       let d = digits nc v in
       let x = take (nc - lost) w in
       let q = chunk-weighs in
@@ -48,16 +48,16 @@ module _ (nc before lost v : ℕ) (w : List ℕ) (loses : losses (digits nc v) w
       let ends : q.some + 2 * (q.none + length x) + 1 ≡ 2 * nc + 1 - g = omega (arith, q.all, long, few) in
       let least = rw (some, ← i.count, ← i.positions) at q.least in
       let most = rw (ends, some, none, ← i.count, ← i.positions) at q.most in
-      let on : total (before + 1) d ≡ total 1 d + before * (seen.ones + g) = rw (← e) (total-on before d) in
+      let on : total (before + 1) d ≡ total 1 d + before * (seen.ones + g) = rw (← e) (total_on before d) in
       (omega (arith, u.low), omega (arith, u.high))
 
 -- a chunk that loses so many bits from a place on has at least the first number of ones more than the bits that it
 -- takes, and at most the last
-pub ones-between : (nc lost v place : ℕ) (y : List ℕ) {seen : Seen} {first last : ℕ} → lost ≤ nc
+pub ones_between : (nc lost v place : ℕ) (y : List ℕ) {seen : Seen} {first last : ℕ} → lost ≤ nc
     → losses (digits nc v) (drop place y) ≡ lost → SeenIn (take (nc - lost) (drop place y)) (nc - lost) seen
     → MoreOnes y place (nc - lost) lost first last
     → (seen.ones + first ≤ ones (digits nc v)) × (ones (digits nc v) ≤ seen.ones + last)
-ones-between nc lost v place y few loses i more =
+ones_between nc lost v place y few loses i more =
     let d = digits nc v in
     let b = bits-digits nc v in
     let n : length d ≡ nc - lost + lost = length_digits nc v ∙ omega arith in
@@ -66,14 +66,14 @@ ones-between nc lost v place y few loses i more =
 module _ {nc : ℕ} {y : List ℕ} {chunks : Chunks} {vs : ℕ → ℕ} (can : Can nc y chunks vs) (s : ℕ)
     (h : s < chunks.n) where
   -- so it is with chunk s
-  pub wider-holds : (seen : Seen) (g : ℕ) (span wider : Span)
+  pub wider_holds : (seen : Seen) (g : ℕ) (span wider : Span)
       → SeenIn (received nc y chunks s) (nc - get_or chunks.lost s 0) seen
       → ones (digits nc (vs s)) ≡ seen.ones + g
       → Wider nc (get_or chunks.block s 0 * nc) (get_or chunks.lost s 0) seen g span wider
       → Within nc chunks vs s span → Within nc chunks vs (s + 1) wider
   unfolding brought
-  wider-holds seen g span wider i e w inside =
+  wider_holds seen g span wider i e w inside =
       let one =
-      one-wider nc (get_or chunks.block s 0 * nc) (get_or chunks.lost s 0) (vs s) (drop (get_or chunks.place s 0) y)
+      one_wider nc (get_or chunks.block s 0 * nc) (get_or chunks.lost s 0) (vs s) (drop (get_or chunks.place s 0) y)
       (can.loses s h) seen g span wider (can.few s h) i e w in
       rw (add-one s) (record { low = omega (arith, one, inside.low); high = omega (arith, one, inside.high) })

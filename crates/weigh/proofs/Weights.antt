@@ -6,10 +6,10 @@ use mathlib.Core.List.{List, [], ◌∷◌}
 use native.Mathlib.Omega.{arith}
 use lib.ListN.{length}
 use Rattle.bits.specs.Bits.{AllBits}
-use Rattle.rows.proofs.Deletion.{Strikes, done, stays, struck, strikes-length}
+use Rattle.rows.proofs.Deletion.{Strikes, done, stays, struck, strikes_length}
 use Rattle.vt.specs.Ones.{ones}
 use Rattle.vt.specs.Sum.{total}
-use Rattle.vt.proofs.Totals.{times-bit, total-up, ones-length}
+use Rattle.vt.proofs.Totals.{times_bit, total_up, ones-length}
 
 -- of the a bits that v has more than w so many are ones and zeros, and twice the total of the positions of v's ones
 -- lies between that with these ones in front and the zeros behind, and that with the zeros in front and the ones behind
@@ -22,31 +22,31 @@ pub record Weighs (v : List ℕ) (a : ℕ) (w : List ℕ) : Type 0 where
   pub most : 2 * total 1 v ≤ 2 * total 1 w + 2 * (none * ones w) + some * (some + 2 * (none + length w) + 1)
 
 -- a bit more in front
-total-front : (b : ℕ) (x : List ℕ) → total 1 (b ∷ x) ≡ b + (total 1 x + ones x)
+total_front : (b : ℕ) (x : List ℕ) → total 1 (b ∷ x) ≡ b + (total 1 x + ones x)
 unfolding total
-total-front b x = omega (arith, total-up 1 x)
+total_front b x = omega (arith, total_up 1 x)
 
 -- it stays
-weighs-stays : (b a : ℕ) (v w : List ℕ) → b < 2 → Weighs v a w → Weighs (b ∷ v) a (b ∷ w)
+weighs_stays : (b a : ℕ) (v w : List ℕ) → b < 2 → Weighs v a w → Weighs (b ∷ v) a (b ∷ w)
 unfolding ones
-weighs-stays b a v w h q =
-    let f = total-front b v in
-    let g = total-front b w in
+weighs_stays b a v w h q =
+    let f = total_front b v in
+    let g = total_front b w in
     record {
       some = q.some;
       none = q.none;
       all = q.all;
       count = omega (arith, q.count);
-      least = omega (arith, q.least, q.count, times-bit q.some b h);
+      least = omega (arith, q.least, q.count, times_bit q.some b h);
       most = omega (arith, q.most, q.count);
     }
 
 -- it is struck out
-weighs-struck : (b a : ℕ) (v w : List ℕ) → b < 2 → ones v ≤ length v → length v ≡ a + length w → Weighs v a w
+weighs_struck : (b a : ℕ) (v w : List ℕ) → b < 2 → ones v ≤ length v → length v ≡ a + length w → Weighs v a w
     → Weighs (b ∷ v) (suc a) w
 unfolding ones
-weighs-struck zero a v w h l n q =
-    let f = total-front 0 v in
+weighs_struck zero a v w h l n q =
+    let f = total_front 0 v in
     record {
       some = q.some;
       none = suc q.none;
@@ -55,8 +55,8 @@ weighs-struck zero a v w h l n q =
       least = omega (arith, q.least, q.count);
       most = omega (arith, q.most, q.count);
     }
-weighs-struck (suc zero) a v w h l n q =
-    let f = total-front 1 v in
+weighs_struck (suc zero) a v w h l n q =
+    let f = total_front 1 v in
     record {
       some = suc q.some;
       none = q.none;
@@ -65,20 +65,20 @@ weighs-struck (suc zero) a v w h l n q =
       least = omega (arith, q.least, q.count);
       most = omega (arith, q.most, q.count, q.all);
     }
-weighs-struck (suc (suc b)) a v w h l n q = absurd (omega arith)
+weighs_struck (suc (suc b)) a v w h l n q = absurd (omega arith)
 
 -- whatever is struck out
 pub weighs : {v : List ℕ} {a : ℕ} {w : List ℕ} → Strikes v a w → AllBits v → Weighs v a w
 unfolding ones total
 weighs done b =
     record { some = 0; none = 0; all = refl; count = refl; least = omega arith; most = omega arith }
-weighs (stays {b} {k} {x} {y} s) h = weighs-stays b k x y h.0 (weighs s h.1)
+weighs (stays {b} {k} {x} {y} s) h = weighs_stays b k x y h.0 (weighs s h.1)
 weighs (struck {b} {k} {x} {y} s) h =
-    weighs-struck b k x y h.0 (ones-length x h.1) (strikes-length s) (weighs s h.1)
+    weighs_struck b k x y h.0 (ones-length x h.1) (strikes_length s) (weighs s h.1)
 
 -- no total is higher than each position, at most the length, taken once
 pub total-small : (x : List ℕ) → AllBits x → total 1 x ≤ length x * length x
 unfolding total
 total-small [] a = omega arith
 total-small (b ∷ x) a =
-    omega (arith, total-front b x, total-small x a.1, ones-length x a.1, a.0)
+    omega (arith, total_front b x, total-small x a.1, ones-length x a.1, a.0)

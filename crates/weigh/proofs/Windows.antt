@@ -12,13 +12,13 @@ use Rattle.vt.specs.Ones.{ones}
 use Rattle.vt.specs.Sum.{total}
 use Rattle.vt.proofs.Totals.{ones-length}
 use Rattle.windows.specs.Windows.{Tables}
-use Rattle.windows.proofs.Windows.{tables-later, total-on}
+use Rattle.windows.proofs.Windows.{tables-later, total_on}
 use Rattle.weigh.proofs.Weights.{total-small}
 
 -- what stands in the tables at both ends of the w bits from place p on
 pub record Looked (y : List ℕ) (p w t0 tw c0 cw : ℕ) : Type 0 where
-  pub counts-rise : c0 ≤ cw
-  pub totals-rise : t0 ≤ tw
+  pub counts_rise : c0 ≤ cw
+  pub totals_rise : t0 ≤ tw
   pub count : cw - c0 ≡ ones (take w (drop p y))
   pub product : p * (cw - c0) ≤ p * w
   pub below : p * (cw - c0) ≤ tw - t0
@@ -40,13 +40,13 @@ looked y p w totals counts b h t =
     let many = l.count_at w room in
     let k : get_or counts (p + w) 0 - get_or counts p 0 ≡ ones x = omega (arith, get_or-drop p counts w 0) in
     let d : get_or totals (p + w) 0 - get_or totals p 0 ≡ total 1 x + p * ones x =
-    omega (arith, get_or-drop p totals w 0, ap (λ (i : ℕ). total i x) s, total-on p x) in
+    omega (arith, get_or-drop p totals w 0, ap (λ (i : ℕ). total i x) s, total_on p x) in
     let long : length x ≡ w = length-take-le w (drop p y) room in
     let bits = bits-take w (drop p y) (bits-drop p y b) in
     let few : ones x ≤ w = omega (arith, ones-length x bits) in
     record {
-      counts-rise = omega (arith, get_or-drop p counts w 0);
-      totals-rise = omega (arith, get_or-drop p totals w 0);
+      counts_rise = omega (arith, get_or-drop p counts w 0);
+      totals_rise = omega (arith, get_or-drop p totals w 0);
       count = k;
       product = rw k (mul-le-mul_left p few);
       below = rw (k, d) (omega arith);

@@ -2,7 +2,7 @@
 -- line, its `block`, brings the total of the positions of its ones there, which are i * nc higher than those in the
 -- chunk.
 use Rattle.std.specs.Prelude.{ℕ, zero, suc, ◌+◌, ◌-◌, ◌*◌, ◌^◌, ◌<◌, ◌≤◌, ◌≡◌, List, length, get_or, take, drop}
-use Rattle.bits.specs.Bits.{AllBits, longest, longestLine, digits}
+use Rattle.bits.specs.Bits.{AllBits, longest, longest_line, digits}
 use Rattle.vt.specs.Ones.{ones}
 use Rattle.vt.specs.Sum.{total}
 use Rattle.windows.specs.Windows.{Tables}
@@ -27,13 +27,13 @@ brought nc block vs zero = 0
 brought nc block vs (suc s) = brought nc block vs s + total (get_or block s 0 * nc + 1) (digits nc (vs s))
 
 -- more than twice what a chunk can bring: it has at most 8 ones, at positions up to 2,048
-abbrev pub chunkTop : ℕ
-chunkTop = 40000
+abbrev pub chunk_top : ℕ
+chunk_top = 40000
 
 -- chunks that can be weighed: the tables are those of the received row, and the rest is as small as a layout has it
 pub record Weighable (nc modulus : ℕ) (y totals counts : List ℕ) (chunks : Chunks) (need : ℕ) : Type 0 where
   pub short : nc ≤ 8
-  pub modulus-high : modulus ≤ longestLine + 1
+  pub modulus-high : modulus ≤ longest_line + 1
   pub bits : AllBits y
   pub received : length y ≤ longest
   pub tables : Tables y 0 totals counts
@@ -73,5 +73,5 @@ pub record Wider (nc before lost : ℕ) (seen : Seen) (g : ℕ) (span wider : Sp
   pub low : wider.low ≡ span.low + 2 * (before * (seen.ones + g) + seen.total) + g * (2 * seen.ones + g + 1)
   pub high : wider.high ≡ span.high + 2 * (before * (seen.ones + g) + seen.total) + 2 * ((lost - g) * seen.ones)
       + g * (2 * nc + 1 - g)
-  pub low_small : wider.low ≤ span.low + chunkTop
-  pub high_small : wider.high ≤ span.high + chunkTop
+  pub low_small : wider.low ≤ span.low + chunk_top
+  pub high_small : wider.high ≤ span.high + chunk_top

@@ -1,8 +1,8 @@
 // What chunks that lost bits can bring to the sum of their line, a chunk-string or a block. Contracts cite specs/Weigh.antt.
 ghost use Rattle.std.specs.Prelude.{◌≡◌, true, ℕ, ◌+◌, ◌*◌, ◌-◌, ◌%◌, ◌<◌, ◌≤◌, length, take, drop};
-ghost use Rattle.bits.specs.Bits.{AllBits, longest, longestLine};
+ghost use Rattle.bits.specs.Bits.{AllBits, longest, longest_line};
 ghost use Rattle.windows.specs.Windows.{Tables};
-ghost use Rattle.weigh.specs.Weigh.{Can, brought, chunkTop, SeenIn, MoreOnes, There, Wider, Within, Weighable};
+ghost use Rattle.weigh.specs.Weigh.{Can, brought, chunk_top, SeenIn, MoreOnes, There, Wider, Within, Weighable};
 
 // The most chunks of a line that are weighed.
 pub const MOST: usize = 6;
@@ -106,8 +106,8 @@ pub fn more_ones(
 // A span with one chunk more, which has so many positions before it and g ones more than were received: least, the lost
 // ones stand in front of the received bits and the lost zeros behind; greatest, the other way round.
 pub fn widen(nc: usize, before: usize, lost: usize, seen: Seen, g: usize, span: Span) -> Span
-    requires { ((nc ≤ 8) × (before ≤ longestLine)) × (((seen.ones + lost ≤ nc) × ((seen.total ≤ 64) × (g ≤ lost)))
-        × ((span.low ≤ 5 * chunkTop) × (span.high ≤ 5 * chunkTop))) }
+    requires { ((nc ≤ 8) × (before ≤ longest_line)) × (((seen.ones + lost ≤ nc) × ((seen.total ≤ 64) × (g ≤ lost)))
+        × ((span.low ≤ 5 * chunk_top) × (span.high ≤ 5 * chunk_top))) }
     ensures { Wider nc before lost seen g span result }
 {
     let whole = 2 * (before * (seen.ones + g) + seen.total);
@@ -119,7 +119,7 @@ pub fn widen(nc: usize, before: usize, lost: usize, seen: Seen, g: usize, span: 
 
 // Whether some number whose double lies in a span is, modulo the modulus, the one needed.
 pub fn reaches(modulus: usize, need: usize, span: Span) -> bool
-    requires { (need < modulus) × ((modulus ≤ longestLine + 1) × (span.low ≤ 6 * chunkTop)) }
+    requires { (need < modulus) × ((modulus ≤ longest_line + 1) × (span.low ≤ 6 * chunk_top)) }
     ensures { (n : ℕ) → span.low ≤ 2 * n → 2 * n ≤ span.high → n % modulus ≡ need → result ≡ true }
 {
     let least = span.low / 2;
@@ -146,7 +146,7 @@ fn brings(
     span: Span,
 ) -> bool
     requires { Weighable nc modulus y.now totals.now counts.now chunks need
-        × ((s < chunks.n) × ((span.low ≤ s * chunkTop) × (span.high ≤ s * chunkTop))) }
+        × ((s < chunks.n) × ((span.low ≤ s * chunk_top) × (span.high ≤ s * chunk_top))) }
     ensures { (vs : ℕ → ℕ) → Can nc y.now chunks vs → Within nc chunks vs s span
         → brought nc chunks.block vs chunks.n % modulus ≡ need → result ≡ true }
 {
@@ -187,7 +187,7 @@ pub fn can_bring(
     chunks: Chunks,
     need: usize,
 ) -> bool
-    requires { ((nc ≤ 8) × ((1 ≤ modulus) × (modulus ≤ longestLine + 1))) × (AllBits y.now × ((length y.now ≤ longest)
+    requires { ((nc ≤ 8) × ((1 ≤ modulus) × (modulus ≤ longest_line + 1))) × (AllBits y.now × ((length y.now ≤ longest)
         × (Tables y.now 0 totals.now counts.now × ((chunks.n ≤ 6) × (need < modulus))))) }
     ensures { (vs : ℕ → ℕ) → Can nc y.now chunks vs
         → brought nc chunks.block vs chunks.n % modulus ≡ need → result ≡ true }

@@ -14,10 +14,10 @@ use Rattle.consistent.specs.Greedy.{losses}
 use Rattle.consistent.proofs.Greedy.{whole}
 use Rattle.weigh.specs.Weigh.{brought}
 use Rattle.states.specs.States.{firsts}
-use Rattle.column.specs.Column.{Fit, Light, Crosses, readFrom, value_at}
+use Rattle.column.specs.Column.{Fit, Light, Crosses, read_from, value_at}
 use Rattle.column.specs.declared.Heavy.{Heavy}
 use Rattle.column.proofs.Rows.{crosses-readable, crosses-brings}
-use Rattle.whole.specs.Whole.{modulus, legibleIn, brings, bringsIn}
+use Rattle.whole.specs.Whole.{modulus, legible_in, brings, brings_in}
 
 -- ---- a row that crosses a column
 module _ {l : Layout} {y numbers : List ℕ} {heavy : Heavy} {row : List ℕ} {j : ℕ} {left next : ℕ → ℕ} {vs : List ℕ}
@@ -40,15 +40,15 @@ module _ {l : Layout} {y numbers : List ℕ} {heavy : Heavy} {row : List ℕ} {j
 
   module _ (s : ℕ) (h : s < heavy.n) (kept : next s ≡ left s) where
     -- a chunk that loses no bit can be read whole
-    pub kept-legible : legibleIn l (length y) heavy j left s
+    pub kept-legible : legible_in l (length y) heavy j left s
     kept-legible = rw kept at (crosses-readable c s h)
 
     -- and brings what is read
-    pub kept_read : weightOf s ≡ bringsIn l y heavy j left s
+    pub kept_read : weightOf s ≡ brings_in l y heavy j left s
     unfolding brings
     kept_read =
         let own = digits l.nc (value_at l heavy vs j s) in
-        let rest = drop (readFrom l heavy left j s - get_or heavy.end s 0) y in
+        let rest = drop (read_from l heavy left j s - get_or heavy.end s 0) y in
         let z : losses own rest ≡ 0 = c.loses s h ∙ omega (arith, kept) in
         ap (total (get_or heavy.block s 0 * l.nc + 1))
         (whole own rest z ∙ ap (λ (n : ℕ). take n rest) (length_digits l.nc (value_at l heavy vs j s)))

@@ -32,11 +32,11 @@ unfolding total
 brings l y block end j e = total (block * l.nc + 1) (take l.nc (drop (start_at l block j e - end) y))
 
 -- so it is with heavy block s, where block t has left t losses left
-abbrev pub legibleIn : Layout → (size : ℕ) → Heavy → (j : ℕ) (left : ℕ → ℕ) (s : ℕ) → Type 0
-legibleIn l size heavy j left s = Legible l size (get_or heavy.block s 0) (get_or heavy.end s 0) j (left s)
+abbrev pub legible_in : Layout → (size : ℕ) → Heavy → (j : ℕ) (left : ℕ → ℕ) (s : ℕ) → Type 0
+legible_in l size heavy j left s = Legible l size (get_or heavy.block s 0) (get_or heavy.end s 0) j (left s)
 
-abbrev pub bringsIn : Layout → (y : List ℕ) → Heavy → (j : ℕ) (left : ℕ → ℕ) (s : ℕ) → ℕ
-bringsIn l y heavy j left s = brings l y (get_or heavy.block s 0) (get_or heavy.end s 0) j (left s)
+abbrev pub brings_in : Layout → (y : List ℕ) → Heavy → (j : ℕ) (left : ℕ → ℕ) (s : ℕ) → ℕ
+brings_in l y heavy j left s = brings l y (get_or heavy.block s 0) (get_or heavy.end s 0) j (left s)
 
 -- of n blocks, block s has one loss left less, and the others have as many
 abbrev pub OneLess : (n : ℕ) (left next : ℕ → ℕ) (s : ℕ) → Type 0

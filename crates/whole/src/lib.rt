@@ -1,11 +1,11 @@
 // What the chunks of the heavy blocks in a column bring to the sum of their chunk-string where they are read whole, and whether the sum can
 // come out with all of them read so but one, which lost a bit. Contracts cite specs/Whole.antt.
 ghost use Rattle.std.specs.Prelude.{◌≡◌, true, ℕ, ◌+◌, ◌-◌, ◌*◌, ◌%◌, ◌^◌, ◌<◌, ◌≤◌, length, get_or, take, drop};
-ghost use Rattle.bits.specs.Bits.{AllBits, longest, longestLine, digits};
+ghost use Rattle.bits.specs.Bits.{AllBits, longest, longest_line, digits};
 ghost use Rattle.vt.specs.Sum.{total};
 ghost use Rattle.windows.specs.Windows.{Tables};
 ghost use Rattle.consistent.specs.Greedy.{losses};
-ghost use Rattle.states.specs.States.{lefts, each, entry_at, addedUp};
+ghost use Rattle.states.specs.States.{lefts, each, entry_at, added_up};
 ghost use Rattle.column.specs.Column.{Fit, Readable, start_at};
 ghost use Rattle.whole.specs.Whole.{modulus, Source, Legible, brings, unread, Readings};
 
@@ -18,7 +18,7 @@ pub const UNREAD: usize = 65535;
 // What the next w bits from place p on bring to the total of a string in which so many positions stand before them.
 fn weight(y: &[u8], totals: &[u32], counts: &[u16], p: usize, w: usize, before: usize) -> usize
     requires { (AllBits y.now × (length y.now ≤ longest)) × (Tables y.now 0 totals.now counts.now
-        × ((p + w ≤ length y.now) × (before ≤ longestLine))) }
+        × ((p + w ≤ length y.now) × (before ≤ longest_line))) }
     ensures { (result ≡ total (before + 1) (take w (drop p y.now))) × (result ≤ before * w + w * w) }
 {
     let seen = weigh::look(y, totals, counts, p, w);
@@ -108,7 +108,7 @@ pub fn fill(
 // What n blocks bring together where so many losses are left in each, as a table has it.
 pub fn all(n: usize, left: [u8; states::MOST_HEAVY], table: &[u16]) -> usize
     requires { (n ≤ 6) × (((s : ℕ) → s < n → get_or left s 0 < lefts) × (entry_at n 0 ≤ length table.now)) }
-    ensures { (result ≡ addedUp table.now (each left) n) × (result ≤ n * unread) }
+    ensures { (result ≡ added_up table.now (each left) n) × (result ≤ n * unread) }
 {
     let mut sum: usize = 0;
     let mut s: usize = 0;

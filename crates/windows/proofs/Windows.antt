@@ -10,27 +10,27 @@ use native.Mathlib.Omega.{arith}
 use lib.ListN.{length, get_or, take, drop, set, length-drop}
 use lib.Seq.{take-suc, take-add, get_or-set_same, get_or-set_other, get_or-drop, length-take-le}
 use Rattle.bits.specs.Bits.{AllBits, longest}
-use Rattle.bits.proofs.Laws.{bits-take, lt-or-ge}
+use Rattle.bits.proofs.Laws.{bits-take, lt_or_ge}
 use Rattle.vt.specs.Ones.{ones}
 use Rattle.vt.specs.Sum.{total, sum}
-use Rattle.vt.proofs.Totals.{times-bit, total-up, ones-length}
+use Rattle.vt.proofs.Totals.{times_bit, total_up, ones-length}
 use Rattle.vt.proofs.Weighing.{ones-append}
 use Rattle.message.proofs.Positions.{total-append}
 use Rattle.windows.specs.Windows.{Tables}
 
 -- a string further on by p places
-pub total-on : (p : ℕ) (x : List ℕ) → total (p + 1) x ≡ total 1 x + p * ones x
-total-on zero x = omega (arith, zero-mul (ones x))
-total-on (suc p) x =
+pub total_on : (p : ℕ) (x : List ℕ) → total (p + 1) x ≡ total 1 x + p * ones x
+total_on zero x = omega (arith, zero-mul (ones x))
+total_on (suc p) x =
     let e : suc p + 1 ≡ suc (p + 1) = omega arith in
-    ap (λ (i : ℕ). total i x) e ∙ total-up (p + 1) x ∙ omega (arith, total-on p x, suc-mul p (ones x))
+    ap (λ (i : ℕ). total i x) e ∙ total_up (p + 1) x ∙ omega (arith, total_on p x, suc-mul p (ones x))
 
 -- no total is higher than each position, at most m, taken once
 total-most : (k m : ℕ) (x : List ℕ) → AllBits x → k + length x ≤ m → total k x ≤ length x * m
 unfolding total
 total-most k m [] a h = omega arith
 total-most k m (b ∷ x) a h =
-    omega (arith, times-bit k b a.0, total-most (suc k) m x a.1 (omega arith), suc-mul (length x) m)
+    omega (arith, times_bit k b a.0, total-most (suc k) m x a.1 (omega arith), suc-mul (length x) m)
 
 -- one bit more
 total-more : (y : List ℕ) (i : ℕ) → i < length y → total 1 (take (i + 1) y) ≡ total 1 (take i y) + (i + 1) * get_or y i 0
@@ -56,7 +56,7 @@ set_next f t i v room q e j h =
     ⊎_elim
     (λ (k : j < i + 1). get_or-set_other t (i + 1) j v 0 (λ z. omega arith) ∙ q j (omega arith))
     (λ (k : i + 1 ≤ j). let z : j ≡ i + 1 = omega arith in rw z (get_or-set_same t (i + 1) v 0 room ∙ e))
-    (lt-or-ge j (i + 1))
+    (lt_or_ge j (i + 1))
 
 pub filled-start : (y totals counts : List ℕ) → 0 < length totals → 0 < length counts
     → Filled y (set totals 0 0) (set counts 0 0) 0
@@ -84,7 +84,7 @@ module _ {y totals counts : List ℕ} {i : ℕ} (q : Filled y totals counts i) w
   unfolding total ones
   filled-tables m n h =
       record {
-        totals-long = m;
+        totals_long = m;
         counts-long = n;
         total-at = λ j k. omega (arith, q.total-at j (omega arith), q.total-at 0 (omega arith));
         count_at = λ j k. omega (arith, q.count_at j (omega arith), q.count_at 0 (omega arith));
@@ -111,7 +111,7 @@ tables-later y p a totals counts h t =
     let e = get_or-drop a totals 0 0 ∙ ap (λ (k : ℕ). get_or totals k 0) first in
     let f = get_or-drop a counts 0 0 ∙ ap (λ (k : ℕ). get_or counts k 0) first in
     record {
-      totals-long = omega (arith, length-drop a totals, t.totals-long);
+      totals_long = omega (arith, length-drop a totals, t.totals_long);
       counts-long = omega (arith, length-drop a counts, t.counts-long);
       total-at = λ j l. get_or-drop a totals j 0 ∙ t.total-at (a + j) (omega arith) ∙ omega (arith, split j, start, e);
       count_at = λ j l. get_or-drop a counts j 0 ∙ t.count_at (a + j) (omega arith) ∙ omega (arith, halves j, counted, f);
@@ -129,8 +129,8 @@ tables-later y p a totals counts h t =
 
 -- what the tables give for the next w bits
 pub record Next (y : List ℕ) (p w t0 tw c0 cw : ℕ) : Type 0 where
-  pub totals-rise : t0 ≤ tw
-  pub counts-rise : c0 ≤ cw
+  pub totals_rise : t0 ≤ tw
+  pub counts_rise : c0 ≤ cw
   pub below : p * (cw - c0) ≤ tw - t0
   pub product : p * (cw - c0) ≤ p * w
   pub sums : (tw - t0 - p * (cw - c0)) % (w + 1) ≡ sum (take w y)
@@ -142,11 +142,11 @@ next y p w totals counts b h t =
     let many = t.count_at w h in
     let k : get_or counts w 0 - get_or counts 0 0 ≡ ones (take w y) = omega arith in
     let d : get_or totals w 0 - get_or totals 0 0 ≡ total 1 (take w y) + p * ones (take w y) =
-    omega (arith, total-on p (take w y)) in
+    omega (arith, total_on p (take w y)) in
     let long = length-take-le w y h in
     record {
-      totals-rise = omega arith;
-      counts-rise = omega arith;
+      totals_rise = omega arith;
+      counts_rise = omega arith;
       below = rw (k, d) (omega arith);
       product = rw k (mul-le-mul_left p (omega (arith, ones-length (take w y) (bits-take w y b))));
       sums = rw (k, d) (remainder (total 1 (take w y)) (p * ones (take w y)) ∙ is_sum);

@@ -10,12 +10,12 @@ use native.Mathlib.Nat.{mul_comm, mul-le-mul_left}
 use native.Mathlib.Omega.{arith}
 use borrow.Author.Rules.{rules}
 use lib.ListN.{length}
-use Rattle.bits.specs.Bits.{mostInLine}
-use Rattle.message.proofs.Legal.{legal-bounds, sizes, string-high}
+use Rattle.bits.specs.Bits.{most_in_line}
+use Rattle.message.proofs.Legal.{legal_bounds, sizes, string_high}
 use Rattle.states.specs.States.{each, firsts}
 use Rattle.states.proofs.Sums.{firsts_same}
 use Rattle.column.specs.Column.{Light}
-use Rattle.marks.specs.Marks.{Path, apartBefore}
+use Rattle.marks.specs.Marks.{Path, apart_before}
 use Rattle.marks.proofs.Paths.{before-none, before-next}
 use Rattle.alike.proofs.Alike.{counts-next}
 use Rattle.alike.proofs.all_near.Statement.{statement}
@@ -26,7 +26,7 @@ invariant-loop l y totals counts numbers heavy size known z room n l2 most₀ se
     (((j ≤ l2) × ((length set ≡ 64) × (length other ≡ 32))) × ((most ≤ 9180 + j * 6) × (most < room)))
     × ((row vs : List ℕ) (own : ℕ → ℕ → ℕ) → Light l heavy row known → Path l y numbers heavy row (each size) vs own
     → ((s : ℕ) → s < heavy.n → own j s ≤ each size s)
-    × (apartBefore l heavy z vs j + heavy.n * firsts (own j) heavy.n ≤ most))
+    × (apart_before l heavy z vs j + heavy.n * firsts (own j) heavy.n ≤ most))
 
 abbrev decreases-loop : tie.decreases-loop
 decreases-loop l y totals counts numbers heavy size known z room n l2 most₀ set₀ other₀ j₀ most set other j = l2 - j
@@ -46,8 +46,8 @@ abbrev turn : tie.After-can-differ invariant-loop decreases-loop → tie.In-loop
 turn c = c.before.before.before
 
 -- there are few columns
-few : (s : tie.Start invariant-loop decreases-loop) → s.args.l.l2 ≤ mostInLine
-few s = (sizes s.args.l (legal-bounds s.args.l s.requires.0.allowed)).l2-high
+few : (s : tie.Start invariant-loop decreases-loop) → s.args.l.l2 ≤ most_in_line
+few s = (sizes s.args.l (legal_bounds s.args.l s.requires.0.allowed)).l2_high
 
 -- all blocks for each loss are not many
 most-first : (c : tie.After-all-losses invariant-loop decreases-loop) → c.all-losses.result * (entry c).args.heavy.n ≤ 9180
@@ -88,7 +88,7 @@ can-differ-requires c κs =
     let p = t.before in
     let s = start p in
     let q = s.pre in
-    let high = string-high s.args.l q.0.allowed in (
+    let high = string_high s.args.l q.0.allowed in (
       record { fit = q.0; tables = q.1.0; light = q.1.1.0; column = t.loop-test.true },
       (
         q.1.1.1,
@@ -145,7 +145,7 @@ loop-again c =
       λ row vs own light path.
           let was = i.1 row vs own light path in
           let crosses = path.crosses j t.loop-test.taken in
-          let next = counts-next crosses a.z.now (apartBefore a.l a.heavy a.z.now vs j) p.loop.most
+          let next = counts-next crosses a.z.now (apart_before a.l a.heavy a.z.now vs j) p.loop.most
           c.if2.most was.1 (⊎_elim (λ w. omega (arith, w.0)) (λ w. omega (arith, w.1)) m)
           (λ kept apart.
           ⊎_elim

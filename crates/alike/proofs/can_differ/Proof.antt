@@ -10,7 +10,7 @@ use borrow.Author.Rules.{rules}
 use lib.ListN.{length}
 use Rattle.states.specs.States.{each}
 use Rattle.column.specs.Column.{Light, Crosses}
-use Rattle.far.specs.Far.{readApart}
+use Rattle.far.specs.Far.{read_apart}
 use Rattle.far.proofs.Unlost.{reads_same}
 use Rattle.alike.proofs.Alike.{apart_some}
 use Rattle.alike.proofs.can_differ.Statement.{statement}
@@ -21,7 +21,7 @@ invariant-loop l y totals counts numbers heavy size known z j set₀ other₀ n 
     ((s ≤ n) × ((length set ≡ length set₀) × (length other ≡ length other₀)))
     × ((row vs : List ℕ) (left next : ℕ → ℕ) → Light l heavy row known → ((t : ℕ) → t < heavy.n → left t ≤ each size t)
     → Crosses l y numbers heavy row j left next vs → ((t : ℕ) → t < heavy.n → next t ≡ left t)
-    → (t : ℕ) → t < s → 0 < readApart l y heavy z t j (left t) → ⊥)
+    → (t : ℕ) → t < s → 0 < read_apart l y heavy z t j (left t) → ⊥)
 
 abbrev decreases-loop : tie.decreases-loop
 decreases-loop l y totals counts numbers heavy size known z j set₀ other₀ n s₀ set other s = n - s
@@ -85,7 +85,7 @@ loop-again c =
         ),
       ),
       λ row vs left next light less crosses kept.
-          below_more (λ s. 0 < readApart a.l a.y.now a.heavy a.z.now s a.j (left s) → ⊥) p.s
+          below_more (λ s. 0 < read_apart a.l a.y.now a.heavy a.z.now s a.j (left s) → ⊥) p.s
           (p.inv.1 row vs left next light less crosses kept)
           (λ apart.
           false≢true (sym c.if1.false ∙ b.can-differ-in.ensures row vs left next light less crosses (kept, apart))),

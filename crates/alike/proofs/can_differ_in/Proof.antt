@@ -10,8 +10,8 @@ use Rattle.states.specs.States.{firsts}
 use Rattle.whole.specs.Whole.{modulus}
 use Rattle.whole.proofs.Whole.{kept-legible, kept_read}
 use Rattle.far.proofs.Unlost.{reads-there}
-use Rattle.costs.specs.Costs.{bringsBut}
-use Rattle.costs.proofs.Costs.{one-sum, read-but, asked-source, asked_low}
+use Rattle.costs.specs.Costs.{brings_but}
+use Rattle.costs.proofs.Costs.{one-sum, read_but, asked_source, asked_low}
 use Rattle.alike.proofs.can_differ_in.Statement.{statement}
 use Rattle.alike.proofs.can_differ_in.Tie as tie
 
@@ -41,7 +41,7 @@ returns c row vs left next light less crosses way = refl
 fill-sums-requires : tie.Need-fill-sums-requires
 fill-sums-requires c κs =
     let q = (entry c).requires in
-    ((q.0.fit.allowed, (q.0.fit.few, omega (arith, q.0.light, q.0.column))), (asked-source q.0, q.1.1.1))
+    ((q.0.fit.allowed, (q.0.fit.few, omega (arith, q.0.light, q.0.column))), (asked_source q.0, q.1.1.1))
 
 add-sum : tie.Need-overflow-add-sum
 add-sum c =
@@ -67,7 +67,7 @@ other-hits-requires c κs =
     let s = start k in
     let q = s.pre.0 in (
       (
-        asked-source q s.args.s s.pre.1.1.0,
+        asked_source q s.args.s s.pre.1.1.0,
         (omega (arith, s.pre.1.1.0, q.fit.few), omega (arith, k.before.before.before.if1.left)),
       ),
       (
@@ -95,12 +95,12 @@ returns-2 c row vs left next light less crosses way =
     let h = st.pre.1.1.0 in
     let others : (t : ℕ) → t < a.heavy.n → (t ≡ s → ⊥) → next t ≡ left t = λ t i d. way.0 t i in
     let part : ℕ =
-    get_or a.known.now a.j 0 + firsts (bringsBut a.l a.y.now a.heavy a.j left s) a.heavy.n in
+    get_or a.known.now a.j 0 + firsts (brings_but a.l a.y.now a.heavy a.j left s) a.heavy.n in
     c.other-hits.ensures (left s) (part % modulus a.l)
     (omega (arith, less s h, k.before.before.before.before.wide.ensures)) (reads-there crosses s h (way.0 s h)) way.1
     (record {
       low = mod-lt part (omega arith);
-      among = k.fill-sums.ensures left (read-but crosses a.t7 s less others);
+      among = k.fill-sums.ensures left (read_but crosses a.t7 s less others);
       legible = kept-legible crosses s h (way.0 s h);
       sums = rw (kept_read crosses s h (way.0 s h)) at
           (one-sum crosses q.fit q.column a.known.now light s h others);

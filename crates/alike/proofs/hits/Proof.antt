@@ -4,8 +4,8 @@ use mathlib.Core.Path.{◌≡◌, refl, sym, ap, ◌∙◌}
 use native.Mathlib.Nat.{mod-lt, mod-eq_of_lt, add_comm, mod-add-mod}
 use native.Mathlib.Omega.{arith}
 use borrow.Author.Rules.{rules}
-use Rattle.bits.specs.Bits.{longestLine}
-use Rattle.message.proofs.Legal.{string-high}
+use Rattle.bits.specs.Bits.{longest_line}
+use Rattle.message.proofs.Legal.{string_high}
 use Rattle.whole.specs.Whole.{modulus, brings}
 use Rattle.alike.specs.Alike.{Hits}
 use Rattle.alike.proofs.hits.Statement.{statement}
@@ -15,8 +15,8 @@ use Rattle.alike.proofs.hits.Tie as tie
 abbrev start : tie.After-struct-known → tie.Start
 start c = c.before.before.before.before.before
 
-high : (c : tie.After-struct-known) → let l = (start c).args.l in l.l1 * l.nc ≤ longestLine
-high c = string-high (start c).args.l (start c).requires.0.allowed
+high : (c : tie.After-struct-known) → let l = (start c).args.l in l.l1 * l.nc ≤ longest_line
+high c = string_high (start c).args.l (start c).requires.0.allowed
 
 mul-m : tie.Need-overflow-mul-m
 mul-m c = omega (arith, high c)

@@ -8,7 +8,7 @@ use native.Mathlib.Omega.{arith}
 use borrow.Author.Count.{below_more}
 use borrow.Author.Rules.{rules}
 use lib.ListN.{get_or}
-use Rattle.far.specs.Far.{Reads, readApart}
+use Rattle.far.specs.Far.{Reads, read_apart}
 use Rattle.alike.specs.Alike.{Hits}
 use Rattle.alike.proofs.other_hits.Statement.{statement}
 use Rattle.alike.proofs.other_hits.Tie as tie
@@ -16,7 +16,7 @@ use Rattle.alike.proofs.other_hits.Tie as tie
 abbrev invariant-loop : tie.invariant-loop
 invariant-loop l y totals counts z s size j sum set heavy block end e₀ e =
     (e ≤ size + 1)
-    × ((k : ℕ) → k < e → (part : ℕ) → Reads l y heavy s j k → 0 < readApart l y heavy z s j k
+    × ((k : ℕ) → k < e → (part : ℕ) → Reads l y heavy s j k → 0 < read_apart l y heavy z s j k
     → Hits l y block end j k sum set part → ⊥)
 
 abbrev decreases-loop : tie.decreases-loop

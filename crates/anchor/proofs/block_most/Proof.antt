@@ -6,17 +6,17 @@ use mathlib.Core.Path.{◌≡◌, refl, sym, ◌∙◌}
 use native.Mathlib.Omega.{arith}
 use lib.ListN.{drop, length-drop}
 use lib.Seq.{length-take-le}
-use Rattle.bits.specs.Bits.{mostChunks}
+use Rattle.bits.specs.Bits.{most_chunks}
 use Rattle.message.proofs.Fields.{field_room}
-use Rattle.message.proofs.Legal.{Sizes, legal-bounds, sizes}
+use Rattle.message.proofs.Legal.{Sizes, legal_bounds, sizes}
 use Rattle.lines.specs.Lines.{values, unlike}
 use Rattle.anchor.specs.Anchor.{over}
-use Rattle.anchor.proofs.Anchor.{light-bound, heavy-bound}
+use Rattle.anchor.proofs.Anchor.{light_bound, heavy_bound}
 use Rattle.anchor.proofs.block_most.Statement.{statement}
 use Rattle.anchor.proofs.block_most.Tie as tie
 
 size : (s : tie.Start) → Sizes s.args.l
-size s = sizes s.args.l (legal-bounds s.args.l s.requires.0.0.is-legal)
+size s = sizes s.args.l (legal_bounds s.args.l s.requires.0.0.is_legal)
 
 -- the block's chunks stand in the row
 room : (s : tie.Start) → s.args.b * s.args.l.l2 + s.args.l.l2 ≤ s.args.l.l1 * s.args.l.l2
@@ -47,7 +47,7 @@ count-unlike-requires c κs =
     let s = start c.before.before in
     let d = s.args.desk.now in
     let n = length-drop 1 d in
-    let w = length-take-le mostChunks (drop 1 d) (omega (arith, s.pre.0.1)) in
+    let w = length-take-le most_chunks (drop 1 d) (omega (arith, s.pre.0.1)) in
     (omega (arith, room s, s.pre.1.0), omega (arith, room s, (size s).chunks))
 
 returns : tie.Need-returns
@@ -57,13 +57,13 @@ returns c =
     let l = a.l in (
       λ vs x p q lo hi same.
           let e : over (unlike (values l x) vs) (a.b * l.l2) l.l2 ≡ c.count-unlike.result =
-          light-bound l a.y.now vs a.desk.now _ (values l x) a.row.now a.b (size s).chunks p refl
+          light_bound l a.y.now vs a.desk.now _ (values l x) a.row.now a.b (size s).chunks p refl
           s.pre.1.1.0
           (same c.before.before.if1.true)
           ∙ sym c.count-unlike.ensures.0
           in
           omega arith,
-      omega (arith, c.count-unlike.ensures.1, (size s).l2-high),
+      omega (arith, c.count-unlike.ensures.1, (size s).l2_high),
     )
 
 count-wide-requires : tie.Need-count-wide-requires
@@ -74,7 +74,7 @@ count-wide-requires c κs =
 add-result : tie.Need-overflow-add-result
 add-result c =
     let s = start c.before.before in
-    omega (arith, c.count-wide.ensures.1, (size s).l2-high, s.pre.1.1.1.1)
+    omega (arith, c.count-wide.ensures.1, (size s).l2_high, s.pre.1.1.1.1)
 
 returns-2 : tie.Need-returns-2
 returns-2 c =
@@ -83,10 +83,10 @@ returns-2 c =
     let l = a.l in (
       λ vs x p q lo hi same.
           let e =
-          heavy-bound s.pre.0.0 x q vs a.desk.now p a.b a.d a.a s.pre.1.1.0
+          heavy_bound s.pre.0.0 x q vs a.desk.now p a.b a.d a.a s.pre.1.1.0
           s.pre.1.1.1.0 in
           omega (arith, e lo hi, c.count-wide.ensures.0),
-      omega (arith, c.count-wide.ensures.1, (size s).l2-high, s.pre.1.1.1.1),
+      omega (arith, c.count-wide.ensures.1, (size s).l2_high, s.pre.1.1.1.1),
     )
 
 pub block-most-spec : {M : Type 1} → statement M

@@ -6,7 +6,7 @@ use mathlib.Core.Logic.{⊎_elim}
 use native.Mathlib.Omega.{arith}
 use borrow.Author.Tests.{lt-ltb, le-ltb}
 use lib.ListN.{get_or}
-use Rattle.anchor.specs.Anchor.{over, nearAt, wide}
+use Rattle.anchor.specs.Anchor.{over, near_at, wide}
 use Rattle.anchor.proofs.Over.{over_none, over-next}
 use Rattle.anchor.proofs.count_wide.Statement.{statement}
 use Rattle.anchor.proofs.count_wide.Tie as tie
@@ -55,7 +55,7 @@ loop-again c =
     let a = s.args in
     let p = c.before.before.before.before.loop in
     let n = over-next (wide a.desk.now a.d a.a) a.from p.t in
-    let u : ℕ = get_or a.desk.now (nearAt (a.from + p.t) a.d) 0 in
+    let u : ℕ = get_or a.desk.now (near_at (a.from + p.t) a.d) 0 in
     ⊎_elim
     (λ w.
     let m = rw (le-ltb a.a u (omega (arith, w.0.taken, c.before.wide.ensures))) at n in

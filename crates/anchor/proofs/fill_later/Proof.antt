@@ -5,8 +5,8 @@ use Prim.Native.Nat.{◌+◌, ◌-◌, ◌≤◌}
 use mathlib.Core.Path.{◌≡◌}
 use native.Mathlib.Omega.{arith}
 use lib.ListN.{length}
-use Rattle.bits.specs.Bits.{mostInLine}
-use Rattle.message.proofs.Legal.{Sizes, legal-bounds, sizes}
+use Rattle.bits.specs.Bits.{most_in_line}
+use Rattle.message.proofs.Legal.{Sizes, legal_bounds, sizes}
 use Rattle.anchor.specs.Anchor.{LaterFor}
 use Rattle.anchor.proofs.Desk.{later-none, later-next}
 use Rattle.anchor.proofs.fill_later.Statement.{statement}
@@ -19,7 +19,7 @@ abbrev decreases-loop : tie.decreases-loop
 decreases-loop l k desk₀ d₀ desk d = k + 1 - d
 
 size : (s : tie.Start invariant-loop decreases-loop) → Sizes s.args.l
-size s = sizes s.args.l (legal-bounds s.args.l s.requires.0)
+size s = sizes s.args.l (legal_bounds s.args.l s.requires.0)
 
 loop-holds : tie.Need-loop-init invariant-loop decreases-loop
 loop-holds c =
@@ -54,7 +54,7 @@ copy-to-requires : tie.Need-copy-to-requires invariant-loop decreases-loop
 copy-to-requires c κs =
     let s = start c.before.before in
     let p = c.before.before.before.before.before.loop in
-    let n : length c.before.before.later.result ≡ mostInLine + 1 = search rules in
+    let n : length c.before.before.later.result ≡ most_in_line + 1 = search rules in
     omega (arith, s.pre.1.0, s.pre.1.1, p.invariant.1.size)
 
 add-d : tie.Need-overflow-add-d invariant-loop decreases-loop
@@ -70,10 +70,10 @@ loop-again c =
     let p = t.before.before.before.loop in
     let s = start t in
     let a = s.args in
-    let n : length t.later.result ≡ mostInLine + 1 = search rules in (
+    let n : length t.later.result ≡ most_in_line + 1 = search rules in (
       omega arith,
       later-next a.l a.k p.d a.desk.now p.desk t.later.result k.copy-to.new.1.0
-          (size s).l1-high (omega (arith, s.pre.1.0)) s.pre.1.1 n t.later.ensures (size s).chunks
+          (size s).l1_high (omega (arith, s.pre.1.0)) s.pre.1.1 n t.later.ensures (size s).chunks
           k.copy-to.ensures p.invariant.1,
     )
 

@@ -5,7 +5,7 @@ use Prim.Native.Nat.{◌-◌, ◌*◌, ◌≤◌}
 use mathlib.Core.Path.{◌≡◌}
 use native.Mathlib.Omega.{arith}
 use lib.ListN.{length}
-use Rattle.message.proofs.Legal.{Bounds, Sizes, legal-bounds, sizes}
+use Rattle.message.proofs.Legal.{Bounds, Sizes, legal_bounds, sizes}
 use Rattle.anchor.specs.Anchor.{NearFor}
 use Rattle.anchor.proofs.Desk.{near_none, near_next}
 use Rattle.anchor.proofs.fill_near.Statement.{statement}
@@ -18,7 +18,7 @@ abbrev decreases-loop : tie.decreases-loop
 decreases-loop l y k desk₀ n c₀ desk c = l.l1 * l.l2 - c
 
 bounds : (s : tie.Start invariant-loop decreases-loop) → Bounds s.args.l
-bounds s = legal-bounds s.args.l s.requires.0
+bounds s = legal_bounds s.args.l s.requires.0
 
 size : (s : tie.Start invariant-loop decreases-loop) → Sizes s.args.l
 size s = sizes s.args.l (bounds s)
@@ -47,7 +47,7 @@ slice-read-shifts c =
 shifts-requires : tie.Need-shifts-requires invariant-loop decreases-loop
 shifts-requires c κs =
     let s = start c.before.before in
-    (s.pre.1.0, ((bounds s).nc-high, (omega (arith, (size s).chunks), s.pre.1.1.0)))
+    (s.pre.1.0, ((bounds s).nc_high, (omega (arith, (size s).chunks), s.pre.1.1.0)))
 
 slice-aggregate-copy-to : tie.Need-slice-aggregate-copy-to invariant-loop decreases-loop
 slice-aggregate-copy-to c = search rules

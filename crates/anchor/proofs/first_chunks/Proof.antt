@@ -7,28 +7,28 @@ use native.Mathlib.Nat.{sub-zero}
 use native.Mathlib.Omega.{arith}
 use lib.ListN.{take, drop}
 use lib.Seq.{length-take-le}
-use Rattle.bits.specs.Bits.{bytesFor, unpack}
+use Rattle.bits.specs.Bits.{bytes_for, unpack}
 use Rattle.bits.proofs.Laws.{bits-take, bits-unpack, length-unpack}
 use Rattle.rows.specs.Order.{Row}
-use Rattle.message.specs.Layout.{rowBits}
-use Rattle.message.proofs.Legal.{Sizes, legal-bounds, sizes}
+use Rattle.message.specs.Layout.{row_bits}
+use Rattle.message.proofs.Legal.{Sizes, legal_bounds, sizes}
 use Rattle.lines.specs.Lines.{values}
-use Rattle.found.proofs.Row.{front-part}
+use Rattle.found.proofs.Row.{front_part}
 use Rattle.anchor.proofs.first_chunks.Statement.{statement}
 use Rattle.anchor.proofs.first_chunks.Tie as tie
 
 size : (s : tie.Start) → Sizes s.args.l
-size s = sizes s.args.l (legal-bounds s.args.l s.requires.0)
+size s = sizes s.args.l (legal_bounds s.args.l s.requires.0)
 
 -- the first row of the list slice
 abbrev first : tie.Start → List ℕ
-first s = take (rowBits s.args.l) (unpack (take (bytesFor (rowBits s.args.l)) s.args.list.now))
+first s = take (row_bits s.args.l) (unpack (take (bytes_for (row_bits s.args.l)) s.args.list.now))
 
-first-row : (s : tie.Start) → Row (rowBits s.args.l) (first s)
+first-row : (s : tie.Start) → Row (row_bits s.args.l) (first s)
 first-row s =
-    let n = rowBits s.args.l in
-    let bytes : List ℕ = take (bytesFor n) s.args.list.now in
-    let w = length-take-le (bytesFor n) s.args.list.now s.requires.1.0 in
+    let n = row_bits s.args.l in
+    let bytes : List ℕ = take (bytes_for n) s.args.list.now in
+    let w = length-take-le (bytes_for n) s.args.list.now s.requires.1.0 in
     (length-take-le n (unpack bytes) (omega (arith, length-unpack bytes)), bits-take n (unpack bytes) (bits-unpack bytes))
 
 -- where the function starts, seen from the call of `unpack`
@@ -39,12 +39,12 @@ entry c = c.before.before.before.before.before
 abbrev start : tie.After-unpack → tie.Start
 start k = entry k.before.before
 
-bits_are : (k : tie.After-unpack) → take (rowBits (start k).args.l - 0) k.unpack.new.1.1.0 ≡ first (start k)
+bits_are : (k : tie.After-unpack) → take (row_bits (start k).args.l - 0) k.unpack.new.1.1.0 ≡ first (start k)
 bits_are k =
     let s = start k in
-    let n = rowBits s.args.l in
-    front-part (first s) (drop n _) k.unpack.new.1.1.0 n (first-row s).0
-    (rw (sub-zero (bytesFor n)) at k.unpack.ensures)
+    let n = row_bits s.args.l in
+    front_part (first s) (drop n _) k.unpack.new.1.1.0 n (first-row s).0
+    (rw (sub-zero (bytes_for n)) at k.unpack.ensures)
 
 mul-n : tie.Need-overflow-mul-n
 mul-n c = omega (arith, (size c.before.before.before).chunks)
@@ -72,7 +72,7 @@ slice-aggregate-unpack c = search rules
 unpack-requires : tie.Need-unpack-requires
 unpack-requires c κs =
     let s = entry c.before in
-    let w = length-take-le (bytesFor (rowBits s.args.l) - 0) s.args.list.now (omega (arith, s.pre.1.0)) in
+    let w = length-take-le (bytes_for (row_bits s.args.l) - 0) s.args.list.now (omega (arith, s.pre.1.0)) in
     (omega arith, (size s).row)
 
 sub-fill-chunks : tie.Need-overflow-sub-fill-chunks
@@ -88,7 +88,7 @@ fill-chunks-requires : tie.Need-fill-chunks-requires
 fill-chunks-requires c κs =
     let k = c.before.before.before.before in
     let s = start k in
-    let row = subst (Row (rowBits s.args.l)) (sym (bits_are k)) (first-row s) in
+    let row = subst (Row (row_bits s.args.l)) (sym (bits_are k)) (first-row s) in
     (s.pre.0, (row.1, (row.0, s.pre.1.1)))
 
 same_length : tie.Need-same-length

@@ -5,17 +5,17 @@ use Prim.Native.Nat.{◌+◌, ◌-◌, ◌*◌, ◌<◌, ◌≤◌}
 use mathlib.Core.Path.{◌≡◌, sym}
 use native.Mathlib.Omega.{arith}
 use lib.ListN.{length}
-use Rattle.bits.specs.Bits.{mostChunks, mostInLine}
+use Rattle.bits.specs.Bits.{most_chunks, most_in_line}
 use Rattle.message.proofs.Fields.{field_room}
-use Rattle.message.proofs.Legal.{Sizes, legal-bounds, sizes}
+use Rattle.message.proofs.Legal.{Sizes, legal_bounds, sizes}
 use Rattle.anchor.specs.Anchor.{over, wide}
-use Rattle.anchor.proofs.Desk.{Sums, blocks-split, blocks-next, sum-last, sums_none, sum-next, sums-set}
+use Rattle.anchor.proofs.Desk.{Sums, blocks_split, blocks-next, sum-last, sums_none, sum-next, sums-set}
 use Rattle.anchor.proofs.later.Statement.{statement}
 use Rattle.anchor.proofs.later.Tie as tie
 
 abbrev invariant-loop : tie.invariant-loop
 invariant-loop l desk d k out₀ count₀ i₀ out count i =
-    ((i ≤ l.l1) × (length out ≡ mostInLine + 1))
+    ((i ≤ l.l1) × (length out ≡ most_in_line + 1))
     × (((count ≤ (l.l1 - i) * l.l2) × (count ≡ over (wide desk d (k - d)) (i * l.l2) ((l.l1 - i) * l.l2)))
     × Sums (wide desk d (k - d)) l.l1 l.l2 i out)
 
@@ -23,21 +23,21 @@ abbrev decreases-loop : tie.decreases-loop
 decreases-loop l desk d k out₀ count₀ i₀ out count i = i
 
 size : (s : tie.Start invariant-loop decreases-loop) → Sizes s.args.l
-size s = sizes s.args.l (legal-bounds s.args.l s.requires.0)
+size s = sizes s.args.l (legal_bounds s.args.l s.requires.0)
 
 -- the count with one block more
 more : (c : tie.After-count-wide invariant-loop decreases-loop) →
     let a = c.before.before.before.before.before.args in
     let p = c.before.before.before.loop in
     (p.count + c.count-wide.result ≤ (a.l.l1 - (p.i - 1)) * a.l.l2)
-    × ((a.l.l1 - (p.i - 1)) * a.l.l2 ≤ mostChunks)
+    × ((a.l.l1 - (p.i - 1)) * a.l.l2 ≤ most_chunks)
 more c =
     let s = c.before.before.before.before.before in
     let l = s.args.l in
     let i = c.before.before.before.loop.i in
     let n = blocks-next l.l1 l.l2 i (omega arith) (omega arith) in (
       omega (arith, c.count-wide.ensures.1),
-      omega (arith, (size s).chunks, blocks-split l.l1 l.l2 (i - 1) (omega arith)),
+      omega (arith, (size s).chunks, blocks_split l.l1 l.l2 (i - 1) (omega arith)),
     )
 
 loop-holds : tie.Need-loop-init invariant-loop decreases-loop
@@ -46,7 +46,7 @@ loop-holds c =
     let a = s.args in
     let f = wide a.desk.now a.d (a.k - a.d) in
     let z = sum-last f a.l.l1 a.l.l2 in
-    ((omega arith, search rules), ((omega arith, sym z), sums_none f a.l.l1 a.l.l2 (size s).l1-high))
+    ((omega arith, search rules), ((omega arith, sym z), sums_none f a.l.l1 a.l.l2 (size s).l1_high))
 
 sub-i : tie.Need-overflow-sub-i invariant-loop decreases-loop
 sub-i c = search rules
@@ -74,7 +74,7 @@ cast-out : tie.Need-overflow-cast-out invariant-loop decreases-loop
 cast-out c = omega (arith, (more c).0, (more c).1)
 
 array-write-out : tie.Need-array-write-out invariant-loop decreases-loop
-array-write-out c = omega (arith, (size c.before.before.before.before.before).l1-high)
+array-write-out c = omega (arith, (size c.before.before.before.before.before).l1_high)
 
 loop-less : tie.Need-loop-smaller invariant-loop decreases-loop
 loop-less c = search rules
@@ -95,7 +95,7 @@ loop-again c =
     )
     in
     let i : p.i - 1 + 1 ≡ p.i = omega arith in
-    let low : p.i - 1 < length p.out = omega (arith, (size s).l1-high) in
+    let low : p.i - 1 < length p.out = omega (arith, (size s).l1_high) in
     let all =
     sums-set f l.l1 l.l2 (p.i - 1) (p.count + c.count-wide.result) p.out low e (rw i p.invariant.1.1) in
     ((omega arith, search rules), (((more c).0, e), all))

@@ -9,11 +9,11 @@ use borrow.Author.Tests.{leb-true, ltb-true, not-false}
 use lib.Dec.{ltb}
 use lib.ListN.{length, take}
 use Rattle.bits.proofs.Laws.{both_left}
-use Rattle.message.specs.Layout.{rowBits}
-use Rattle.message.proofs.Legal.{Bounds, Sizes, legal-bounds, sizes}
-use Rattle.consistent.specs.Greedy.{inAll}
+use Rattle.message.specs.Layout.{row_bits}
+use Rattle.message.proofs.Legal.{Bounds, Sizes, legal_bounds, sizes}
+use Rattle.consistent.specs.Greedy.{in_all}
 use Rattle.consistent.specs.Query.{query}
-use Rattle.anchor.specs.Anchor.{deskSize, laterAt, isSet}
+use Rattle.anchor.specs.Anchor.{desk_size, later_at, is_set}
 use Rattle.anchor.proofs.Anchor.{Counted, counted_none, counted_next, counted-known}
 use Rattle.anchor.proofs.Totals.{total-none, total-next, total-grows}
 use Rattle.anchor.proofs.near_anchor.Statement.{statement}
@@ -21,7 +21,7 @@ use Rattle.anchor.proofs.near_anchor.Tie as tie
 
 abbrev invariant-loop : tie.invariant-loop
 invariant-loop l numbers y desk counts row i least most₀ d₀ b₀ most d b =
-    ((b ≤ i) × (d ≡ inAll (take b counts))) × ((most < least) × Counted (query l numbers y) desk counts row i b most)
+    ((b ≤ i) × (d ≡ in_all (take b counts))) × ((most < least) × Counted (query l numbers y) desk counts row i b most)
 
 abbrev decreases-loop : tie.decreases-loop
 decreases-loop l numbers y desk counts row i least most₀ d₀ b₀ most d b = i - b
@@ -35,20 +35,20 @@ abbrev start : tie.At-loop invariant-loop decreases-loop → tie.Start invariant
 start t = begin t.before.before.before
 
 bounds : (s : tie.Start invariant-loop decreases-loop) → Bounds s.args.l
-bounds s = legal-bounds s.args.l s.requires.0.is-legal
+bounds s = legal_bounds s.args.l s.requires.0.is_legal
 
 size : (s : tie.Start invariant-loop decreases-loop) → Sizes s.args.l
 size s = sizes s.args.l (bounds s)
 
 -- the desk has an anchor, so it is long enough
-there : (t : tie.At-loop invariant-loop decreases-loop) → isSet (start t).args.desk.now ≡ true
+there : (t : tie.At-loop invariant-loop decreases-loop) → is_set (start t).args.desk.now ≡ true
 there t = sym t.before.before.before.is_set.ensures ∙ not-false _ t.before.before.if2.false
 
-long : (t : tie.At-loop invariant-loop decreases-loop) → deskSize ≤ length (start t).args.desk.now
+long : (t : tie.At-loop invariant-loop decreases-loop) → desk_size ≤ length (start t).args.desk.now
 long t = leb-true _ _ (both_left _ _ (there t))
 
 -- no more bits are lost than in all
-few : (t : tie.At-loop invariant-loop decreases-loop) → t.loop.d + length (start t).args.y.now ≤ rowBits (start t).args.l
+few : (t : tie.At-loop invariant-loop decreases-loop) → t.loop.d + length (start t).args.y.now ≤ row_bits (start t).args.l
 few t =
     let s = start t in
     omega (
@@ -66,7 +66,7 @@ byte c = omega (arith, c.wide.ensures, c.before.shared-slice-known6.given c.befo
 entry : (c : tie.After-wide2 invariant-loop decreases-loop) → c.wide2.result ≤ 255
 entry c =
     let t = c.before.before.before.before.before in
-    omega (arith, c.wide2.ensures, c.before.shared-slice-known7.given (laterAt (start t).args.i t.loop.d))
+    omega (arith, c.wide2.ensures, c.before.shared-slice-known7.given (later_at (start t).args.i t.loop.d))
 
 at_most : (a b c : ℕ) → c ≤ b + 1 → ltb a c ≡ true → a ≤ b
 at_most a b c h e = omega (arith, ltb-true a c e)
@@ -78,7 +78,7 @@ returns : tie.Need-returns invariant-loop decreases-loop
 returns c = λ e. absurd (false≢true e)
 
 add-least : tie.Need-overflow-add-least invariant-loop decreases-loop
-add-least c = omega (arith, (bounds (begin c.before.before)).r-high)
+add-least c = omega (arith, (bounds (begin c.before.before)).r_high)
 
 loop-holds : tie.Need-loop-init invariant-loop decreases-loop
 loop-holds c =
@@ -106,7 +106,7 @@ block-most-requires c κs =
 add_most : tie.Need-overflow-add-most invariant-loop decreases-loop
 add_most c =
     let s = start c.before.before.before.before in
-    omega (arith, c.block-most.ensures.1, (bounds s).r-high)
+    omega (arith, c.block-most.ensures.1, (bounds s).r_high)
 
 returns-2 : tie.Need-returns-2 invariant-loop decreases-loop
 returns-2 c = λ e. absurd (false≢true e)
@@ -120,7 +120,7 @@ add-d c =
 add-b : tie.Need-overflow-add-b invariant-loop decreases-loop
 add-b c =
     let s = start c.before.before.before.before.before in
-    omega (arith, (size s).l1-high, s.pre.1.1.0)
+    omega (arith, (size s).l1_high, s.pre.1.1.0)
 
 loop-less : tie.Need-loop-smaller invariant-loop decreases-loop
 loop-less c = search rules
@@ -133,14 +133,14 @@ loop-again c =
     let s = start t in
     let a = s.args in
     let n = s.pre.1.0.1 in
-    let next = total-next a.counts.now p.b (omega (arith, (size s).l1-high, s.pre.1.1.0)) in
+    let next = total-next a.counts.now p.b (omega (arith, (size s).l1_high, s.pre.1.1.0)) in
     let most = rw (p.invariant.0.1, k.before.wide.ensures) at k.block-most.ensures.0 in (
       (omega arith, omega (arith, p.invariant.0.1, k.before.wide.ensures, next)),
       (
         omega (arith, c.if3.false),
         counted_next s.pre.0 a.desk.now a.counts.now a.row.now a.i p.b p.most
             k.block-most.result (omega arith)
-            (omega (arith, (size s).l1-high, s.pre.1.1.0)) most p.invariant.1.1,
+            (omega (arith, (size s).l1_high, s.pre.1.1.0)) most p.invariant.1.1,
       ),
     )
 
@@ -169,12 +169,12 @@ add_wide c =
 add-wide-2 : tie.Need-overflow-add-wide-2 invariant-loop decreases-loop
 add-wide-2 c =
     let t = c.before.before.before in
-    omega (arith, few t, (start t).requires.0.few, (size (start t)).l1-high, (start t).requires.1.1.0)
+    omega (arith, few t, (start t).requires.0.few, (size (start t)).l1_high, (start t).requires.1.1.0)
 
 shared-slice-read-wide-2 : tie.Need-shared-slice-read-wide-2 invariant-loop decreases-loop
 shared-slice-read-wide-2 c =
     let t = c.before.before.before.before in
-    omega (arith, few t, (start t).requires.0.few, (size (start t)).l1-high, (start t).requires.1.1.0, long t)
+    omega (arith, few t, (start t).requires.0.few, (size (start t)).l1_high, (start t).requires.1.1.0, long t)
 
 wide-requires-2 : tie.Need-wide-requires-2 invariant-loop decreases-loop
 wide-requires-2 c κs = search rules
@@ -182,12 +182,12 @@ wide-requires-2 c κs = search rules
 add-result : tie.Need-overflow-add-result invariant-loop decreases-loop
 add-result c =
     let t = c.before.before.before.before.before in
-    omega (arith, (bounds (start t)).r-high, entry c)
+    omega (arith, (bounds (start t)).r_high, entry c)
 
 add-result-2 : tie.Need-overflow-add-result-2 invariant-loop decreases-loop
 add-result-2 c =
     let t = c.before.before.before.before.before in
-    omega (arith, (bounds (start t)).r-high, (size (start t)).row, entry c)
+    omega (arith, (bounds (start t)).r_high, (size (start t)).row, entry c)
 
 returns-3 : tie.Need-returns-3 invariant-loop decreases-loop
 returns-3 c =
@@ -196,8 +196,8 @@ returns-3 c =
     let s = start t in
     let a = s.args in
     let e : p.b ≡ a.i = omega (arith, c.before.before.before.before.loop-test.false) in
-    let d : p.d ≡ inAll (take a.i a.counts.now) =
-    p.invariant.0.1 ∙ ap (λ (n : ℕ). inAll (take n a.counts.now)) e in
+    let d : p.d ≡ in_all (take a.i a.counts.now) =
+    p.invariant.0.1 ∙ ap (λ (n : ℕ). in_all (take n a.counts.now)) e in
     λ small held x anchored sent own light.
     counted-known s.pre.0 a.desk.now a.counts.now a.row.now a.i p.most s.pre.1.1.0
     (rw e at p.invariant.1.1)

@@ -5,15 +5,15 @@ use Prim.Native.Nat.{◌-◌}
 use mathlib.Core.Path.{◌≡◌, ap, ◌∙◌}
 use native.Mathlib.Omega.{arith}
 use lib.ListN.{length}
-use Rattle.bits.specs.Bits.{mostChunks}
-use Rattle.message.proofs.Legal.{Sizes, legal-bounds, sizes}
+use Rattle.bits.specs.Bits.{most_chunks}
+use Rattle.message.proofs.Legal.{Sizes, legal_bounds, sizes}
 use Rattle.lines.proofs.Lines.{length-values}
 use Rattle.anchor.proofs.Desk.{put-length, prepared}
 use Rattle.anchor.proofs.prepare.Statement.{statement}
 use Rattle.anchor.proofs.prepare.Tie as tie
 
 size : (s : tie.Start) → Sizes s.args.l
-size s = sizes s.args.l (legal-bounds s.args.l s.requires.0)
+size s = sizes s.args.l (legal_bounds s.args.l s.requires.0)
 
 -- where the function starts, seen from where `first_chunks` has answered
 abbrev entry : tie.After-first-chunks → tie.Start
@@ -27,7 +27,7 @@ same_size : (k : tie.After-copy-to) → length k.copy-to.new.1.0 ≡ length (sta
 same_size k =
     let s = start k in
     let chunks = k.before.before.before.before.first_chunks.new.1.1.0 in
-    let n : length k.before.before.before.before.first_chunks.new.1.1.0 ≡ mostChunks = search rules in
+    let n : length k.before.before.before.before.first_chunks.new.1.1.0 ≡ most_chunks = search rules in
     ap length k.copy-to.ensures ∙ put-length s.args.desk.now chunks 1 (omega (arith, s.pre.1.1.1.1))
 
 slice-aggregate-first-chunks : tie.Need-slice-aggregate-first-chunks
@@ -44,7 +44,7 @@ slice-aggregate-copy-to c = search rules
 copy-to-requires : tie.Need-copy-to-requires
 copy-to-requires c κs =
     let s = entry c.before.before.before in
-    let n : length c.before.before.before.first_chunks.new.1.1.0 ≡ mostChunks = search rules in
+    let n : length c.before.before.before.first_chunks.new.1.1.0 ≡ most_chunks = search rules in
     omega (arith, s.pre.1.1.1.1)
 
 mul-k : tie.Need-overflow-mul-k
@@ -93,7 +93,7 @@ returns c =
     let f = k.before.before.before.before in
     let s = start k in
     let a = s.args in
-    let n : length f.first_chunks.last.1.1.0 ≡ mostChunks = search rules in
+    let n : length f.first_chunks.last.1.1.0 ≡ most_chunks = search rules in
     prepared a.l a.y.now _ _ f.first_chunks.last.1.1.0 a.desk.now k.copy-to.last.1.0
     q.fill-near.new.1.1.1.0 r.fill-later.new.1.1.0 (size s).chunks s.pre.1.1.0.0
     s.pre.1.1.0.1

@@ -5,8 +5,8 @@ use mathlib.Core.Path.{◌≡◌, ◌∙◌}
 use native.Mathlib.Omega.{arith}
 use borrow.Author.Tests.{eqb-false, ltb-false}
 use lib.ListN.{length, set, length-set}
-use Rattle.anchor.specs.Anchor.{deskSize}
-use Rattle.anchor.proofs.Anchor.{firstRow, first-held, first-room}
+use Rattle.anchor.specs.Anchor.{desk_size}
+use Rattle.anchor.proofs.Anchor.{first_row, first_held, first-room}
 use Rattle.anchor.proofs.set_anchor.Statement.{statement}
 use Rattle.anchor.proofs.set_anchor.Tie as tie
 
@@ -27,7 +27,7 @@ some k =
     let n : (start k).args.kept.count ≡ 0 → ⊥ = eqb-false _ _ k.if3.false in
     omega arith
 
-long : (k : tie.Else3) → deskSize ≤ length (start k).args.desk.now
+long : (k : tie.Else3) → desk_size ≤ length (start k).args.desk.now
 long k = ltb-false _ _ k.before.before.if2.false
 
 returns : tie.Need-returns
@@ -48,7 +48,7 @@ prepare-requires c κs =
     let s = start k in
     let g = s.pre.0 in
     let row = first-room _ s.args.kept (some k) s.pre.1.0 in
-    (g.is-legal, (g.bits, ((g.short, g.few), (row, omega (arith, long k, length-set s.args.desk.now 0 1)))))
+    (g.is_legal, (g.bits, ((g.short, g.few), (row, omega (arith, long k, length-set s.args.desk.now 0 1)))))
 
 same_length : tie.Need-same-length
 same_length c =
@@ -62,10 +62,10 @@ returns-3 c =
     let q = c.before.before in
     let k = q.before.before.before.before in
     let s = start k in
-    let f = first-held _ s.args.kept (some k) s.pre.1.0 in
+    let f = first_held _ s.args.kept (some k) s.pre.1.0 in
     λ e. record {
       some-checks = checked k;
-      row = firstRow s.args.l s.args.list.now;
+      row = first_row s.args.l s.args.list.now;
       sent = f.0;
       known = f.1;
       prepared = q.prepare.ensures;

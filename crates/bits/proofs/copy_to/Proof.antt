@@ -6,7 +6,7 @@ use mathlib.Core.Path.{◌≡◌, ◌∙◌}
 use native.Mathlib.Omega.{arith}
 use lib.ListN.{length, length-set}
 use lib.Seq.{paste, paste-zero}
-use Rattle.bits.proofs.Copy.{paste-next, paste-whole}
+use Rattle.bits.proofs.Copy.{paste_next, paste_whole}
 use Rattle.bits.proofs.copy_to.Statement.{statement}
 use Rattle.bits.proofs.copy_to.Tie as tie
 
@@ -41,7 +41,7 @@ loop-again c =
     let h : p.i < length a.part.now = omega arith in
     let k : a.at + p.i < length a.out.now = omega arith in (
       omega arith,
-      (simp length-set p.invariant.1.0, rw p.invariant.1.1 (paste-next a.out.now a.at a.part.now p.i k h)),
+      (simp length-set p.invariant.1.0, rw p.invariant.1.1 (paste_next a.out.now a.at a.part.now p.i k h)),
     )
 
 same_length : tie.Need-same-length invariant-loop decreases-loop
@@ -51,7 +51,7 @@ returns : tie.Need-returns invariant-loop decreases-loop
 returns c =
     let a = c.before.before.args in
     let e : c.before.loop.i ≡ length a.part.now = omega arith in
-    c.before.loop.invariant.1.1 ∙ paste-whole a.out.now a.at a.part.now c.before.loop.i e
+    c.before.loop.invariant.1.1 ∙ paste_whole a.out.now a.at a.part.now c.before.loop.i e
 
 pub copy-to-spec : {M : Type 1} → statement M
 copy-to-spec =

@@ -3,8 +3,8 @@ use borrow.Author.Rules.{rules}
 use Prim.Native.Nat.{ℕ}
 use mathlib.Core.List.{List}
 use native.Mathlib.Omega.{arith}
-use Rattle.bits.proofs.Packing.{bytes-of-each}
-use Rattle.bits.proofs.Spans.{number-four}
+use Rattle.bits.proofs.Packing.{bytes_of_each}
+use Rattle.bits.proofs.Spans.{number_four}
 use Rattle.bits.proofs.first_bytes.Statement.{statement}
 use Rattle.bits.proofs.first_bytes.Tie as tie
 
@@ -42,8 +42,8 @@ returns : tie.Need-returns
 returns c =
     let k = c.before.before.before.before in
     let s : List ℕ = k.before.args.s.now in
-    let low = bytes-of-each s (λ i. omega (arith, k.shared-slice-known.given i)) in
-    (omega (arith, number-four s low 0), omega arith)
+    let low = bytes_of_each s (λ i. omega (arith, k.shared-slice-known.given i)) in
+    (omega (arith, number_four s low 0), omega arith)
 
 pub first-bytes-spec : {M : Type 1} → statement M
 first-bytes-spec =

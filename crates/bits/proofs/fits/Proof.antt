@@ -7,7 +7,7 @@ use native.Mathlib.Omega.{arith}
 use borrow.Author.Tests.{ne_eqb}
 use lib.Dec.{eqb}
 use lib.ListN.{length, drop, length-drop}
-use Rattle.bits.specs.Bits.{unpack, fits, bytesFor}
+use Rattle.bits.specs.Bits.{unpack, fits, bytes_for}
 use Rattle.bits.proofs.Laws.{bits-drop, bits-unpack, length-unpack}
 use Rattle.bits.proofs.Packing.{blank-number, fits_by}
 use Rattle.bits.proofs.fits.Statement.{statement}
@@ -35,7 +35,7 @@ returns-2 c =
     let a = e.before.before.args in
     let s : List ℕ = a.s.now in
     let spare : List ℕ = drop a.w (unpack s) in
-    let k : ℕ = bytesFor a.w * 8 - a.w in
+    let k : ℕ = bytes_for a.w * 8 - a.w in
     let size : length spare ≡ k = omega (arith, length-drop a.w (unpack s), length-unpack s, e.if1.false) in
     let all = blank-number k spare (bits-drop a.w (unpack s) (bits-unpack s)) size in
     fits_by a.w s _ e.if1.false (all ∙ sym (ap (λ (v : ℕ). eqb v 0) c.before.take.ensures.0))

@@ -6,8 +6,8 @@ use mathlib.Core.List.{List}
 use native.Mathlib.Omega.{arith}
 use lib.ListN.{get_or, drop}
 use Rattle.bits.specs.Bits.{number, unpack}
-use Rattle.bits.proofs.Packing.{bytes-of-each}
-use Rattle.bits.proofs.Spans.{number-four}
+use Rattle.bits.proofs.Packing.{bytes_of_each}
+use Rattle.bits.proofs.Spans.{number_four}
 use Rattle.bits.proofs.four_bytes.Statement.{statement}
 use Rattle.bits.proofs.four_bytes.Tie as tie
 
@@ -19,7 +19,7 @@ low c j = omega (arith, c.shared-slice-known.given j)
 four : (c : tie.After-shared-slice-known) → let s : List ℕ = c.before.args.s.now in let i : ℕ = c.before.args.i in
     get_or s i 0 * 16777216 + get_or s (i + 1) 0 * 65536 + get_or s (i + 2) 0 * 256 + get_or s (i + 3) 0
     ≡ number 32 (drop (i * 8) (unpack s))
-four c = number-four c.before.args.s.now (bytes-of-each c.before.args.s.now (low c)) c.before.args.i
+four c = number_four c.before.args.s.now (bytes_of_each c.before.args.s.now (low c)) c.before.args.i
 
 -- what is known at the start, seen from the second, the third and the fourth byte
 abbrev second : tie.After-wide2 → tie.After-shared-slice-known

@@ -9,7 +9,7 @@ use native.Mathlib.Nat.{add-zero, zero-mul, zero-add}
 use native.Mathlib.Omega.{arith}
 use lib.ListN.{get_or, drop, get_or-eq_default}
 use Rattle.bits.specs.Bits.{number}
-use Rattle.bits.proofs.Laws.{bit_at, number-next, number-end, pow-next, pow_low}
+use Rattle.bits.proofs.Laws.{bit_at, number-next, number-end, pow_next, pow_low}
 use Rattle.bits.proofs.last_byte.Statement.{statement}
 use Rattle.bits.proofs.last_byte.Tie as tie
 
@@ -60,7 +60,7 @@ loop-again c =
     λ v e. (
       omega arith,
       (
-        omega (arith, pow-next p.j, bit_at x s.requires.0 (a.at + p.j)),
+        omega (arith, pow_next p.j, bit_at x s.requires.0 (a.at + p.j)),
         ap rest e
             ∙ number-next p.v 8 a.at p.j x (omega arith) ∙ p.invariant.1.1,
       ),

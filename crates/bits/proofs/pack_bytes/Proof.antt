@@ -7,7 +7,7 @@ use native.Mathlib.Omega.{arith}
 use lib.ListN.{length, get_or, take, drop, length-set}
 use lib.Seq.{take_all}
 use Rattle.bits.specs.Bits.{bytes}
-use Rattle.bits.proofs.Copy.{front-next}
+use Rattle.bits.proofs.Copy.{front_next}
 use Rattle.bits.proofs.Packing.{bytes-at, length-bytes}
 use Rattle.bits.proofs.pack_bytes.Statement.{statement}
 use Rattle.bits.proofs.pack_bytes.Tie as tie
@@ -47,7 +47,7 @@ loop-again c =
       (
         simp length-set p.invariant.1.0,
         rw (p.invariant.1.1, b)
-            (front-next a.out.now (bytes a.n x) p.i (omega arith) (omega (arith, length-bytes a.n x))),
+            (front_next a.out.now (bytes a.n x) p.i (omega arith) (omega (arith, length-bytes a.n x))),
       ),
     )
 

@@ -3,7 +3,7 @@ use borrow.Author.Rules.{rules}
 use Prim.Native.Nat.{◌*◌, ◌/◌}
 use mathlib.Core.Path.{◌∙◌}
 use native.Mathlib.Omega.{arith}
-use Rattle.bits.proofs.Packing.{all-unpacked}
+use Rattle.bits.proofs.Packing.{all_unpacked}
 use Rattle.bits.proofs.unpack.Statement.{statement}
 use Rattle.bits.proofs.unpack.Tie as tie
 
@@ -25,7 +25,7 @@ returns c =
     let s = first.before.before.before.before in
     let a = s.args in
     c.before.before.unpack-part.ensures
-    ∙ all-unpacked a.s.now a.out.now first.unpack-bytes.new.1.1.0 (a.w / 8 * 8) a.w (omega arith)
+    ∙ all_unpacked a.s.now a.out.now first.unpack-bytes.new.1.1.0 (a.w / 8 * 8) a.w (omega arith)
     (omega (arith, s.requires.0)) first.unpack-bytes.ensures
 
 pub unpack-spec : {M : Type 1} → statement M

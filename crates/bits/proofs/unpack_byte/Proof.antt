@@ -7,7 +7,7 @@ use native.Mathlib.Nat.{div-one}
 use native.Mathlib.Omega.{arith}
 use lib.ListN.{take, drop, length-set}
 use Rattle.bits.specs.Bits.{digits}
-use Rattle.bits.proofs.Copy.{stored-eight}
+use Rattle.bits.proofs.Copy.{stored_eight}
 use Rattle.bits.proofs.unpack_byte.Statement.{statement}
 use Rattle.bits.proofs.unpack_byte.Tie as tie
 
@@ -64,7 +64,7 @@ unfolding digits
 returns c =
     let a = c.args in
     let b : ℕ = a.b in
-    stored-eight a.out.now a.at (b / 128 % 2) (b / 64 % 2) (b / 32 % 2) (b / 16 % 2) (b / 8 % 2) (b / 4 % 2)
+    stored_eight a.out.now a.at (b / 128 % 2) (b / 64 % 2) (b / 32 % 2) (b / 16 % 2) (b / 8 % 2) (b / 4 % 2)
     (b / 2 % 2) (b % 2) c.requires
     ∙ ap (λ (v : ℕ). take a.at a.out.now
     ++ (b / 128 % 2 ∷ b / 64 % 2 ∷ b / 32 % 2 ∷ b / 16 % 2 ∷ b / 8 % 2 ∷ b / 4 % 2 ∷ b / 2 % 2 ∷ v % 2 ∷ [])

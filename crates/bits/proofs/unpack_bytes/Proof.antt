@@ -7,7 +7,7 @@ use mathlib.Core.List.{◌++◌}
 use native.Mathlib.Omega.{arith}
 use lib.ListN.{length, take, drop}
 use Rattle.bits.specs.Bits.{unpack}
-use Rattle.bits.proofs.Packing.{byte-unpacked}
+use Rattle.bits.proofs.Packing.{byte_unpacked}
 use Rattle.bits.proofs.unpack_bytes.Statement.{statement}
 use Rattle.bits.proofs.unpack_bytes.Tie as tie
 
@@ -47,7 +47,7 @@ loop-again c =
       (
         search rules,
         t.unpack-byte.ensures
-            ∙ byte-unpacked a.s.now a.out.now p.out p.i (omega (arith, s.requires.0)) p.invariant.1.1,
+            ∙ byte_unpacked a.s.now a.out.now p.out p.i (omega (arith, s.requires.0)) p.invariant.1.1,
       ),
     )
 

@@ -7,7 +7,7 @@ use native.Mathlib.Omega.{arith}
 use lib.ListN.{length, get_or, drop, length-set, length-drop}
 use lib.Seq.{paste, paste-zero, get_or-drop}
 use Rattle.bits.specs.Bits.{unpack}
-use Rattle.bits.proofs.Copy.{paste-next}
+use Rattle.bits.proofs.Copy.{paste_next}
 use Rattle.bits.proofs.Laws.{length-unpack}
 use Rattle.bits.proofs.unpack_part.Statement.{statement}
 use Rattle.bits.proofs.unpack_part.Tie as tie
@@ -56,7 +56,7 @@ loop-again c =
       (
         simp length-set p.invariant.1.0,
         rw (p.invariant.1.1, bit)
-            (paste-next a.out.now a.from (drop a.from u) p.i (omega arith)
+            (paste_next a.out.now a.from (drop a.from u) p.i (omega arith)
             (omega (arith, length-drop a.from u, length-unpack a.s.now))),
       ),
     )

@@ -9,16 +9,16 @@ use native.Mathlib.Omega.{arith}
 use borrow.Author.Tests.{not-true, not-false}
 use lib.ListN.{length, get_or, drop, length-drop}
 use lib.Seq.{length-take-le}
-use Rattle.bits.specs.Bits.{longestLine, mostChunks}
+use Rattle.bits.specs.Bits.{longest_line, most_chunks}
 use Rattle.vt.specs.Sum.{sum}
 use Rattle.message.proofs.Fields.{field_room}
-use Rattle.message.proofs.Legal.{legal-bounds, sizes}
+use Rattle.message.proofs.Legal.{legal_bounds, sizes}
 use Rattle.lines.proofs.Turns.{sum_low}
 use Rattle.lines.specs.Lines.{line}
 use Rattle.lines.proofs.Lines.{block_inside}
 use Rattle.weigh.specs.Weigh.{brought}
 use Rattle.blocks.specs.Blocks.{bare, Ended, CutOut, own_of}
-use Rattle.blocks.proofs.Ends.{copied_at, ended-brings}
+use Rattle.blocks.proofs.Ends.{copied_at, ended_brings}
 use Rattle.blocks.proofs.can_end.Statement.{statement}
 use Rattle.blocks.proofs.can_end.Tie as tie
 
@@ -47,16 +47,16 @@ is_cut : (c : tie.Else2) → let a = (begin (read c)).args in
 is_cut c = (cut c).cut_out.ensures (not-false (cut c).cut_out.result.ok c.if2.false)
 
 -- the block is no longer than a line
-block-high : (s : tie.Start) → s.args.l.l2 * s.args.l.nc ≤ longestLine
-block-high s = (sizes s.args.l (legal-bounds s.args.l s.requires.0.0)).block
+block-high : (s : tie.Start) → s.args.l.l2 * s.args.l.nc ≤ longest_line
+block-high s = (sizes s.args.l (legal_bounds s.args.l s.requires.0.0)).block
 
 -- the block stands in the row in hand and among as many chunks as a row has
 block_room : (s : tie.Start) → let a = s.args in
-    (a.i * a.l.l2 + a.l.l2 ≤ length a.row.now) × (a.i * a.l.l2 + a.l.l2 ≤ mostChunks)
+    (a.i * a.l.l2 + a.l.l2 ≤ length a.row.now) × (a.i * a.l.l2 + a.l.l2 ≤ most_chunks)
 block_room s =
     let l = s.args.l in
     let f = field_room l.l1 l.l2 s.args.i s.requires.1.1.1.0.0 in
-    (omega (arith, f, s.requires.1.1.1.0.1), omega (arith, f, (sizes l (legal-bounds l s.requires.0.0)).chunks))
+    (omega (arith, f, s.requires.1.1.1.0.1), omega (arith, f, (sizes l (legal_bounds l s.requires.0.0)).chunks))
 
 mul-first : tie.Need-overflow-mul-first
 mul-first c = omega (arith, (block_room c.before.before.before.before.before.before).1)
@@ -123,7 +123,7 @@ line-sum-requires c κs =
     let e = c.before.before in
     let w = read e in
     let s = begin w in
-    let size = sizes s.args.l (legal-bounds s.args.l s.pre.0.0) in
+    let size = sizes s.args.l (legal_bounds s.args.l s.pre.0.0) in
     let long = w.read-on.kept.1.1.1.1.1.0 in
     let all : s.args.l.l1 * s.args.l.l2 ≤ length (cut e).cut_out.new.1.1.1.1.0 =
     omega (arith, size.chunks, (cut e).cut_out.auto.1.1.1.1.0, long, (copied w).copy-to.kept.1.0)
@@ -137,7 +137,7 @@ mul-missing c =
       fits = omega (
         arith,
         s.pre.1.1.1.0.0,
-        (sizes s.args.l (legal-bounds s.args.l s.pre.0.0)).l1-high,
+        (sizes s.args.l (legal_bounds s.args.l s.pre.0.0)).l1_high,
       );
     }
 
@@ -157,7 +157,7 @@ can-bring-requires : tie.Need-can-bring-requires
 can-bring-requires c κs =
     let e = summed c.before.before in
     let s = begin (read e) in (
-      ((legal-bounds s.args.l s.pre.0.0).nc-high, (omega arith, omega (arith, block-high s))),
+      ((legal_bounds s.args.l s.pre.0.0).nc_high, (omega arith, omega (arith, block-high s))),
       (s.pre.0.1.0, (s.pre.0.1.1, (s.pre.1.0, ((is_cut e).0.few, c.missing.ensures.0)))),
     )
 
@@ -187,7 +187,7 @@ returns-3 c =
     let low =
     rw (← sum_is) at (sum_low a.l.nc (a.i * a.l.l2) 1 a.l.l2 (bare a.l a.cells a.i 12 out)) in
     let brings =
-    ended-brings x out (λ q h k. w.read-on.ensures.others q h ∙ stands w q k) (w.read-on.ensures.later vs x.later).1 k d.0 in
+    ended_brings x out (λ q h k. w.read-on.ensures.others q h ∙ stands w q k) (w.read-on.ensures.later vs x.later).1 k d.0 in
     let own = own_of a.l a.i k vs in
     let all = brought a.l.nc k.chunks.block own k.chunks.n in
     let need = m.missing.ensures.1 all low (rw (← sum_is) at brings) in

@@ -5,9 +5,9 @@ use mathlib.Core.Path.{◌≡◌, refl, sym, ap, ◌∙◌}
 use mathlib.Core.List.{List}
 use native.Mathlib.Omega.{arith}
 use lib.ListN.{length, get_or, set, length-set}
-use Rattle.bits.specs.Bits.{mostChunks}
-use Rattle.column.proofs.Rows.{chunk-stands}
-use Rattle.blocks.proofs.Cutting.{bare-in, in-open, cut-next}
+use Rattle.bits.specs.Bits.{most_chunks}
+use Rattle.column.proofs.Rows.{chunk_stands}
+use Rattle.blocks.proofs.Cutting.{bare_in, in_open, cut-next}
 use Rattle.blocks.proofs.cut_cell.Statement.{statement}
 use Rattle.blocks.proofs.cut_cell.Tie as tie
 
@@ -33,16 +33,16 @@ begin c = c.before.before.before.before.before.before
 -- the cell's chunk stands in the row
 stands : (c : tie.After-with-chunk) → let a = (begin c).args in
     (get_or a.t3.column a.z 0 < a.l.l2) × ((get_or a.t3.place a.z 0 ≤ length a.y.now)
-    × (a.i * a.l.l2 + get_or a.t3.column a.z 0 < mostChunks))
+    × (a.i * a.l.l2 + get_or a.t3.column a.z 0 < most_chunks))
 stands c =
     let s = begin c in
     let a = s.args in
-    let o = in-open a.l a.t3 a.i a.z s.pre.1.1.0 s.pre.1.1.1.0 in
+    let o = in_open a.l a.t3 a.i a.z s.pre.1.1.0 s.pre.1.1.1.0 in
     let p = s.pre.1.0 a.z o.0 in (
       p.1.0,
       (
         p.1.1,
-        (chunk-stands a.l s.pre.0.0 a.i (get_or a.t3.column a.z 0) s.pre.0.1 p.1.0).1.0,
+        (chunk_stands a.l s.pre.0.0 a.i (get_or a.t3.column a.z 0) s.pre.0.1 p.1.0).1.0,
       ),
     )
 
@@ -75,7 +75,7 @@ returns c =
             (stands w).0 (stands w).1.0 (w.with-chunk.ensures e) cut,
         λ vs was.
             ap (λ (k : ℕ). set a.row.now k 0) at ∙ ap (λ (u : List ℕ). set u (a.i * a.l.l2 + j) 0) was
-            ∙ sym (bare-in a.l a.t3 a.i a.z vs here),
+            ∙ sym (bare_in a.l a.t3 a.i a.z vs here),
       ),
     )
 

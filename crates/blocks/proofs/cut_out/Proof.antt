@@ -9,7 +9,7 @@ use native.Mathlib.Omega.{arith}
 use borrow.Author.Tests.{not-true, not-false}
 use lib.ListN.{length}
 use Rattle.blocks.specs.Blocks.{bare, CutOut}
-use Rattle.blocks.proofs.Cutting.{bare-out, cut-none, cut-skip}
+use Rattle.blocks.proofs.Cutting.{bare_out, cut-none, cut_skip}
 use Rattle.blocks.proofs.cut_out.Statement.{statement}
 use Rattle.blocks.proofs.cut_out.Tie as tie
 use Rattle.blocks.proofs.cut_out.Reads as reads
@@ -86,8 +86,8 @@ loop-again c =
       (
         ap length w.1 ∙ v.1.0,
         (
-          rw w.2 (cut-skip a.l a.cells a.i a.y.now p.loop.z p.loop.cut out v.1.1.0),
-          w.1 ∙ (v.1.1.1 ∙ sym (bare-out a.l a.cells a.i p.loop.z a.row.now out)),
+          rw w.2 (cut_skip a.l a.cells a.i a.y.now p.loop.z p.loop.cut out v.1.1.0),
+          w.1 ∙ (v.1.1.1 ∙ sym (bare_out a.l a.cells a.i p.loop.z a.row.now out)),
         ),
       ),
     ))

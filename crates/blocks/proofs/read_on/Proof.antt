@@ -9,9 +9,9 @@ use native.Mathlib.Omega.{arith}
 use borrow.Author.Count.{below_more}
 use lib.ListN.{length, get_or, set, drop, length-set}
 use lib.Seq.{get_or-set_same, get_or-set_other}
-use Rattle.bits.specs.Bits.{number, longest, mostChunks}
-use Rattle.column.proofs.Rows.{chunk-stands}
-use Rattle.message.proofs.Legal.{legal-bounds}
+use Rattle.bits.specs.Bits.{number, longest, most_chunks}
+use Rattle.column.proofs.Rows.{chunk_stands}
+use Rattle.message.proofs.Legal.{legal_bounds}
 use Rattle.blocks.specs.Blocks.{Later}
 use Rattle.blocks.proofs.read_on.Statement.{statement}
 use Rattle.blocks.proofs.read_on.Tie as tie
@@ -30,19 +30,19 @@ entry c = c.before.before.before.before.before
 
 -- where the chunk of a turn stands
 stands : (c : tie.In-loop invariant-loop decreases-loop) → let a = (entry c).args in
-    (a.i * a.l.l2 + c.before.loop.c < mostChunks) × ((a.i * a.l.l2 + c.before.loop.c) * a.l.nc ≤ longest)
+    (a.i * a.l.l2 + c.before.loop.c < most_chunks) × ((a.i * a.l.l2 + c.before.loop.c) * a.l.nc ≤ longest)
 stands c =
     let s = entry c in
-    (chunk-stands s.args.l s.pre.0 s.args.i c.before.loop.c s.pre.1.1.1.0 c.loop-test.true).1
+    (chunk_stands s.args.l s.pre.0 s.args.i c.before.loop.c s.pre.1.1.1.0 c.loop-test.true).1
 
 mul-first : tie.Need-overflow-mul-first invariant-loop decreases-loop
 mul-first c =
     let s = c.before.before in
-    let b = legal-bounds s.args.l s.requires.0 in
+    let b = legal_bounds s.args.l s.requires.0 in
     record {
       fits = omega (
         arith,
-        (chunk-stands s.args.l s.requires.0 s.args.i 0 s.requires.1.1.1.0 b.l2-low).1.0,
+        (chunk_stands s.args.l s.requires.0 s.args.i 0 s.requires.1.1.1.0 b.l2_low).1.0,
       );
     }
 
@@ -78,7 +78,7 @@ returns c =
 add-if2 : tie.Need-overflow-add-if2 invariant-loop decreases-loop
 add-if2 c =
     let s = entry c.before in
-    record { fits = omega (arith, (stands c.before).1, (legal-bounds s.args.l s.pre.0).nc-high) }
+    record { fits = omega (arith, (stands c.before).1, (legal_bounds s.args.l s.pre.0).nc_high) }
 
 same-length-2 : tie.Need-same-length-2 invariant-loop decreases-loop
 same-length-2 c = c.before.before.before.loop.invariant.0.1
@@ -99,7 +99,7 @@ returns-2 c =
 number-at-requires : tie.Need-number-at-requires invariant-loop decreases-loop
 number-at-requires c κs =
     let s = entry c.before.before in
-    (s.pre.1.0, ((legal-bounds s.args.l s.pre.0).nc-high, c.if2.false))
+    (s.pre.1.0, ((legal_bounds s.args.l s.pre.0).nc_high, c.if2.false))
 
 add_row : tie.Need-overflow-add-row invariant-loop decreases-loop
 add_row c = record { fits = omega (arith, (stands c.before.before.before).0) }

@@ -8,7 +8,7 @@ use borrow.Author.Count.{below_more}
 use borrow.Author.Rules.{rules}
 use lib.ListN.{length}
 use Rattle.cells.specs.Cells.{share, SingleAt}
-use Rattle.cells.proofs.Shares.{none-single}
+use Rattle.cells.proofs.Shares.{none_single}
 use Rattle.cells.proofs.single.Statement.{statement}
 use Rattle.cells.proofs.single.Tie as tie
 
@@ -62,7 +62,7 @@ returns-2 c =
     let a = c.before.before.args in
     let p = c.before.loop in
     let l : length a.t1 ≡ 12 = search rules in
-    (omega arith, (λ h. absurd (omega arith), λ h. none-single a.t1 a.t2 (λ z k. p.invariant.1 z (omega arith))))
+    (omega arith, (λ h. absurd (omega arith), λ h. none_single a.t1 a.t2 (λ z k. p.invariant.1 z (omega arith))))
 
 pub single-spec : {M : Type 1} → statement M
 single-spec =

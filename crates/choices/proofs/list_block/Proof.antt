@@ -4,17 +4,17 @@ use borrow.Author.Rules.{rules}
 use Prim.Native.Nat.{◌+◌, ◌-◌, ◌<◌, ◌≤◌}
 use mathlib.Core.Logic.{◌⊎◌, inl, inr, ⊎_elim}
 use native.Mathlib.Omega.{arith}
-use Rattle.bits.proofs.Laws.{lt-or-ge}
-use Rattle.message.proofs.Legal.{legal-bounds}
-use Rattle.choices.specs.Choices.{Keeps, mostChoices, ChoicesOf}
-use Rattle.choices.proofs.Listing.{keeps_same, keeps_then, kept-listed, listed_then, listed-weaken, listed-none}
+use Rattle.bits.proofs.Laws.{lt_or_ge}
+use Rattle.message.proofs.Legal.{legal_bounds}
+use Rattle.choices.specs.Choices.{Keeps, most_choices, ChoicesOf}
+use Rattle.choices.proofs.Listing.{keeps_same, keeps_then, kept-listed, listed_then, listed_weaken, listed-none}
 use Rattle.choices.proofs.Listing.{below, below_next, below-most}
 use Rattle.choices.proofs.list_block.Statement.{statement}
 use Rattle.choices.proofs.list_block.Tie as tie
 
 abbrev invariant-loop : tie.invariant-loop
 invariant-loop l y totals counts heavy z j b left one choices₀ t most end₀ a₀ choices end a =
-    (Keeps t choices₀ choices × ((t ≤ end) × ((end ≤ t + mostChoices) × (a ≤ 9 → end ≤ t + below a))))
+    (Keeps t choices₀ choices × ((t ≤ end) × ((end ≤ t + most_choices) × (a ≤ 9 → end ≤ t + below a))))
     × ChoicesOf l y heavy z j b left one choices t end (λ next vs. (next b ≤ left) × (left < next b + a))
 
 abbrev decreases-loop : tie.decreases-loop
@@ -60,7 +60,7 @@ list-share-requires c κs =
           (
             p.1.1.0,
             λ h.
-                let low : l.a ≤ 8 = omega (arith, h, (legal-bounds s.args.l p.0.0.allowed).nc-high) in
+                let low : l.a ≤ 8 = omega (arith, h, (legal_bounds s.args.l p.0.0.allowed).nc_high) in
                 let more = below-most (l.a + 1) (omega (arith, low)) in
                 omega (arith, p.1.1.1, i.0.long, i.1.1.1 (omega (arith, low)), below_next l.a, more),
           ),
@@ -88,13 +88,13 @@ loop-again c =
     let i = l.invariant in
     let e = n.list-share.ensures in
     let order = e.1.order in
-    let nc-high = (legal-bounds a.l s.pre.0.0.allowed).nc-high in
-    let most : n.list-share.result ≤ a.t + mostChoices =
+    let nc_high = (legal_bounds a.l s.pre.0.0.allowed).nc_high in
+    let most : n.list-share.result ≤ a.t + most_choices =
     ⊎_elim
     (λ (h : l.a < 9).
     omega (arith, e.0.1.0, i.0.1.1.1 (omega arith), below_next l.a, below-most (l.a + 1) (omega arith)))
-    (λ (h : 9 ≤ l.a). omega (arith, e.0.1.1 (omega (arith, h, nc-high)), i.0.1.1.0))
-    (lt-or-ge l.a 9) in (
+    (λ (h : 9 ≤ l.a). omega (arith, e.0.1.1 (omega (arith, h, nc_high)), i.0.1.1.0))
+    (lt_or_ge l.a 9) in (
       (
         keeps_then i.0.1.0 i.0.0 e.0.0,
         (
@@ -104,7 +104,7 @@ loop-again c =
       ),
       listed_then (kept-listed e.0.0 (omega arith) i.1) e.1
           (λ numbers row vs own next is x r.
-          ⊎_elim (λ u. inl (r.0, u)) (λ u. inr (omega (arith, r, u))) (lt-or-ge a.left (next a.b + l.a))),
+          ⊎_elim (λ u. inl (r.0, u)) (λ u. inr (omega (arith, r, u))) (lt_or_ge a.left (next a.b + l.a))),
     )
 
 same_length : tie.Need-same-length invariant-loop decreases-loop
@@ -116,7 +116,7 @@ returns c =
     let l = c.before.loop in
     let i = l.invariant in (
       (i.0.0, i.0.1.1.0),
-      listed-weaken i.1
+      listed_weaken i.1
           (λ numbers row vs own next is x r. (r, omega (arith, r, c.loop-test.false, w.wide.ensures))),
     )
 

@@ -7,14 +7,14 @@ use native.Mathlib.Omega.{arith}
 use lib.ListN.{length, get_or, set, length-set}
 use lib.Seq.{get_or-set_same}
 use Rattle.states.specs.States.{stride, each}
-use Rattle.choices.specs.Choices.{mostChoices, Blocks}
-use Rattle.choices.proofs.Listing.{blocks-next, adds-low}
+use Rattle.choices.specs.Choices.{most_choices, Blocks}
+use Rattle.choices.proofs.Listing.{blocks-next, adds_low}
 use Rattle.choices.proofs.list_choices.Statement.{statement}
 use Rattle.choices.proofs.list_choices.Tie as tie
 
 abbrev invariant-loop : tie.invariant-loop
 invariant-loop l y totals counts heavy z j choices₀ shape left n from₀ b₀ choices from b =
-    ((length choices ≡ length choices₀) × ((length from ≡ 7) × ((b ≤ n) × (get_or from b 0 ≤ mostChoices * b))))
+    ((length choices ≡ length choices₀) × ((length from ≡ 7) × ((b ≤ n) × (get_or from b 0 ≤ most_choices * b))))
     × Blocks l y heavy z j (each left) (stride (each shape.size)) choices from b
 
 abbrev decreases-loop : tie.decreases-loop
@@ -54,7 +54,7 @@ list-block-requires c κs =
     let k = c.before.before in
     let s = begin k in
     let i = k.before.loop.invariant.0 in
-    let own = adds-low s.pre.1.0 k.before.loop.b k.loop-test.true in
+    let own = adds_low s.pre.1.0 k.before.loop.b k.loop-test.true in
     (s.pre.0, (k.loop-test.true, (own, omega (arith, s.pre.1.1, i, inside k))))
 
 add-b : tie.Need-overflow-add-b invariant-loop decreases-loop
@@ -107,7 +107,7 @@ returns c =
     let end : l.b ≡ a.heavy.n = omega (arith, i.0.1.1.0, c.loop-test.false) in (
       i.0.0,
       (
-        subst (λ (v : ℕ). get_or l.from v 0 ≤ 6 * mostChoices) end (omega (arith, i.0.1.1.1, end, s.pre.0.0.few)),
+        subst (λ (v : ℕ). get_or l.from v 0 ≤ 6 * most_choices) end (omega (arith, i.0.1.1.1, end, s.pre.0.0.few)),
         subst (λ (v : ℕ). Blocks a.l a.y.now a.heavy a.z.now a.j (each a.t9)
             (stride (each a.t7.size)) l.choices l.from v) end i.1,
       ),

@@ -10,16 +10,16 @@ use native.Mathlib.Omega.{arith}
 use borrow.Author.Tests.{not-true, not-false}
 use lib.ListN.{get_or}
 use Rattle.bits.specs.Bits.{digits}
-use Rattle.bits.proofs.Laws.{lt-or-ge}
+use Rattle.bits.proofs.Laws.{lt_or_ge}
 use Rattle.vt.specs.Ones.{ones}
-use Rattle.message.proofs.Legal.{Lies, legal-bounds}
+use Rattle.message.proofs.Legal.{Lies, legal_bounds}
 use Rattle.weigh.specs.Weigh.{Wider}
 use Rattle.weigh.specs.declared.Span.{Span}
 use Rattle.column.specs.Column.{value_at}
 use Rattle.column.proofs.Rows.{crosses-readable}
 use Rattle.choices.specs.Choices.{Viewed, Keeps, ChoicesOf}
-use Rattle.choices.proofs.Listing.{chunk-is, keeps_same, keeps_then, kept-listed, listed_then}
-use Rattle.choices.proofs.Listing.{listed-weaken, listed-none, listed-one, ones-first, ones-last}
+use Rattle.choices.proofs.Listing.{chunk_is, keeps_same, keeps_then, kept-listed, listed_then}
+use Rattle.choices.proofs.Listing.{listed_weaken, listed-none, listed-one, ones-first, ones-last}
 use Rattle.choices.proofs.list_share.Statement.{statement}
 use Rattle.choices.proofs.list_share.Tie as tie
 
@@ -69,12 +69,12 @@ stands : (c : tie.Else1 invariant-loop decreases-loop) (i : ℕ) → i ≡ get_o
     → Lies (begin c).args.l i (begin c).args.j
 stands c i is =
     let s = begin c in
-    chunk-is s.pre.0.0 s.args.b i s.pre.1.0 is
+    chunk_is s.pre.0.0 s.args.b i s.pre.1.0 is
 
 -- what a choice adds is small
-adds-low : (c : tie.After-wide2 invariant-loop decreases-loop) → let a = (begin (there c.before)).args in
+adds_low : (c : tie.After-wide2 invariant-loop decreases-loop) → let a = (begin (there c.before)).args in
     c.wide2.result * a.one ≤ 65535
-adds-low c =
+adds_low c =
     let s = begin (there c.before) in
     let a = s.args in
     let top : (a.left - a.a) * a.one ≤ a.left * a.one = mul-le-mul_right a.one (omega arith) in
@@ -128,7 +128,7 @@ other-requires c κs =
     let e = c.before.before.before.before in
     let s = begin e in
     let g = s.pre.0.0 in
-    ((legal-bounds s.args.l g.allowed).nc-high, ((g.bits, g.short), (g.tables, (viewed e).there)))
+    ((legal_bounds s.args.l g.allowed).nc_high, ((g.bits, g.short), (g.tables, (viewed e).there)))
 
 sub_wide : tie.Need-overflow-sub-wide invariant-loop decreases-loop
 sub_wide c = (begin (there c)).pre.1.1.0
@@ -137,7 +137,7 @@ wide-requires-2 : tie.Need-wide-requires-2 invariant-loop decreases-loop
 wide-requires-2 c κs = search rules
 
 mul-adds : tie.Need-overflow-mul-adds invariant-loop decreases-loop
-mul-adds c = record { fits = omega (arith, adds-low c) }
+mul-adds c = record { fits = omega (arith, adds_low c) }
 
 loop-holds : tie.Need-loop-init invariant-loop decreases-loop
 loop-holds c =
@@ -161,7 +161,7 @@ wide-requires-3 c κs = search rules
 mul-before : tie.Need-overflow-mul-before invariant-loop decreases-loop
 mul-before c =
     let k = c.before in
-    record { fits = omega (arith, (stands (seen k.before.before) k.wide3.result k.wide3.ensures).in-string) }
+    record { fits = omega (arith, (stands (seen k.before.before) k.wide3.result k.wide3.ensures).in_string) }
 
 wide-requires-4 : tie.Need-wide-requires-4 invariant-loop decreases-loop
 wide-requires-4 c κs = search rules
@@ -175,11 +175,11 @@ widen-requires c κs =
     let a = s.args in
     let v = viewed e in
     let lost = c.wide4.ensures in
-    let nc-high = (legal-bounds a.l s.pre.0.0.allowed).nc-high in
-    let keeps : a.l.nc - a.a ≤ 8 = omega (arith, nc-high) in
+    let nc_high = (legal_bounds a.l s.pre.0.0.allowed).nc_high in
+    let keeps : a.l.nc - a.a ≤ 8 = omega (arith, nc_high) in
     let low : (look e).look_at.result.seen.total ≤ 64 =
     omega (arith, v.seen.positions-small, mul-le-mul keeps keeps) in (
-      (nc-high, (stands e k.wide3.result k.wide3.ensures).in-string),
+      (nc_high, (stands e k.wide3.result k.wide3.ensures).in_string),
       (
         (
           omega (arith, v.seen.count_small, v.few, lost),
@@ -200,7 +200,7 @@ put-choice-requires c κs =
     let n = w.widen.ensures in
     let room = s.pre.1.1.1.1 v.few in (
       omega (arith, room, i.0.0.long, i.0.1, o.loop-test.taken, v.more.few),
-      (adds-low o.before.before.before, (n.low_small, n.high_small)),
+      (adds_low o.before.before.before, (n.low_small, n.high_small)),
     )
 
 add-end : tie.Need-overflow-add-end invariant-loop decreases-loop
@@ -259,7 +259,7 @@ loop-again c =
       listed_then (kept-listed put.0 (omega arith) i.1) one
           (λ numbers row vs own next is x r.
           ⊎_elim (λ u. inl (r.0, u)) (λ u. inr (r.0, omega (arith, r.1, u)))
-          (lt-or-ge (ones (digits a.l.nc (value_at a.l a.t5 vs a.j a.b))) (had.ones + l.g))),
+          (lt_or_ge (ones (digits a.l.nc (value_at a.l a.t5 vs a.j a.b))) (had.ones + l.g))),
     )
 
 same_length : tie.Need-same-length invariant-loop decreases-loop
@@ -273,7 +273,7 @@ returns-2 c =
     let v = viewed e in
     let i = l.invariant in (
       (i.0.0, (omega (arith, i.0.1), λ h. absurd (omega (arith, h, v.few)))),
-      listed-weaken i.1
+      listed_weaken i.1
           (λ numbers row vs own next is x r.
           (r, omega (arith, c.loop-test.false, ones-last x s.pre.1.0 is s.args.a r v))),
     )

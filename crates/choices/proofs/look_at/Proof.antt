@@ -7,7 +7,7 @@ use native.Mathlib.Omega.{arith}
 use borrow.Author.Tests.{not-true, not-false}
 use lib.ListN.{length, get_or, take, drop}
 use Rattle.weigh.specs.Weigh.{SeenIn, MoreOnes}
-use Rattle.column.specs.Column.{chunkAt}
+use Rattle.column.specs.Column.{chunk_at}
 use Rattle.choices.proofs.look_at.Statement.{statement}
 use Rattle.choices.proofs.look_at.Tie as tie
 
@@ -38,15 +38,15 @@ place-of-requires c κs =
 
 -- the place that was found
 found : (c : tie.Else1) → let o = c.before.before in let a = (begin o).args in
-    (o.place_of.result.at ≡ chunkAt a.l a.t5 a.j a.s * a.l.nc + a.left - get_or a.t5.end a.s 0)
+    (o.place_of.result.at ≡ chunk_at a.l a.t5 a.j a.s * a.l.nc + a.left - get_or a.t5.end a.s 0)
     × ((o.place_of.result.at + a.l.nc ≤ length a.y.now + a.a) × (a.a ≤ a.l.nc))
 found c =
     let o = c.before.before in
     let s = begin o in
     let place = o.place_of.ensures in
     let ok : o.place_of.result.ok ≡ true = not-false _ c.if1.false in
-    let lost : o.place_of.result.lost ≡ s.args.a = place.lost-just ok ∙ omega (arith, s.pre.1.1) in
-    (place.at-just ok, (omega (arith, place.within ok, lost), omega (arith, place.few ok, lost)))
+    let lost : o.place_of.result.lost ≡ s.args.a = place.lost_just ok ∙ omega (arith, s.pre.1.1) in
+    (place.at_just ok, (omega (arith, place.within ok, lost), omega (arith, place.few ok, lost)))
 
 unseen-requires : tie.Need-unseen-requires
 unseen-requires c κs = search rules

@@ -1,7 +1,7 @@
 -- `choices::put_choice` meets its contract. Rests on Listing.antt. Assumes nothing.
 use borrow.Author.Rules.{rules}
 use native.Mathlib.Omega.{arith}
-use Rattle.choices.proofs.Listing.{one-long, two-long, three-long, four-keeps, four-put}
+use Rattle.choices.proofs.Listing.{one-long, two_long, three_long, four_keeps, four_put}
 use Rattle.choices.proofs.put_choice.Statement.{statement}
 use Rattle.choices.proofs.put_choice.Tie as tie
 
@@ -43,7 +43,7 @@ mul-choices-3 c = search rules
 slice-write-choices-3 : tie.Need-slice-write-choices-3
 slice-write-choices-3 c =
     let a = c.args in
-    omega (arith, c.requires.0, two-long a.choices.now a.t a.adds a.span a.other c.requires.0)
+    omega (arith, c.requires.0, two_long a.choices.now a.t a.adds a.span a.other c.requires.0)
 
 add-choices-3 : tie.Need-overflow-add-choices-3
 add-choices-3 c = search rules
@@ -54,7 +54,7 @@ mul-choices-4 c = search rules
 slice-write-choices-4 : tie.Need-slice-write-choices-4
 slice-write-choices-4 c =
     let a = c.args in
-    omega (arith, c.requires.0, three-long a.choices.now a.t a.adds a.span a.other c.requires.0)
+    omega (arith, c.requires.0, three_long a.choices.now a.t a.adds a.span a.other c.requires.0)
 
 same_length : tie.Need-same-length
 same_length c = search rules
@@ -62,8 +62,8 @@ same_length c = search rules
 returns : tie.Need-returns
 returns c =
     let a = c.args in (
-      four-keeps a.choices.now a.t a.adds a.span a.other c.requires.0,
-      four-put a.choices.now a.t a.adds a.span a.other c.requires.0,
+      four_keeps a.choices.now a.t a.adds a.span a.other c.requires.0,
+      four_put a.choices.now a.t a.adds a.span a.other c.requires.0,
     )
 
 pub put-choice-spec : {M : Type 1} → statement M

@@ -5,11 +5,11 @@ use mathlib.Core.Path.{◌≡◌, refl, ap, ◌∙◌}
 use native.Mathlib.Omega.{arith}
 use borrow.Author.Rules.{rules}
 use lib.ListN.{length, get_or}
-use Rattle.bits.specs.Bits.{mostChunks}
+use Rattle.bits.specs.Bits.{most_chunks}
 use Rattle.message.proofs.Fields.{field_room}
-use Rattle.message.proofs.Legal.{legal-bounds, sizes}
+use Rattle.message.proofs.Legal.{legal_bounds, sizes}
 use Rattle.column.specs.Column.{Cleared}
-use Rattle.column.proofs.Zeros.{cleared-none, cleared-next}
+use Rattle.column.proofs.Zeros.{cleared_none, cleared_next}
 use Rattle.column.proofs.clear_heavy.Statement.{statement}
 use Rattle.column.proofs.clear_heavy.Tie as tie
 
@@ -20,7 +20,7 @@ abbrev decreases-loop : tie.decreases-loop
 decreases-loop l row₀ heavy n s₀ row s = n - s
 
 loop-holds : tie.Need-loop-init invariant-loop decreases-loop
-loop-holds c = let a = c.before.args in ((omega arith, refl), cleared-none a.l a.t2 a.row.now)
+loop-holds c = let a = c.before.args in ((omega arith, refl), cleared_none a.l a.t2 a.row.now)
 
 element-copy-out-wide : tie.Need-element-copy-out-wide invariant-loop decreases-loop
 element-copy-out-wide c = search rules
@@ -33,14 +33,14 @@ block-is : (c : tie.After-struct-known invariant-loop decreases-loop) → let p 
     let a = p.before.before.args in
     (c.before.wide.result * a.l.l2 ≡ get_or a.t2.block p.loop.s 0 * a.l.l2)
     × ((c.before.wide.result * a.l.l2 + a.l.l2 ≤ length a.row.now)
-    × (c.before.wide.result * a.l.l2 ≤ mostChunks))
+    × (c.before.wide.result * a.l.l2 ≤ most_chunks))
 block-is c =
     let p = c.before.before.before.before in
     let s = p.before.before in
     let l = s.args.l in
     let e = ap (λ (v : ℕ). v * l.l2) c.before.wide.ensures in
     let h = s.requires.1 p.loop.s c.before.before.before.loop-test.true in
-    let z = sizes l (legal-bounds l s.requires.0.0) in
+    let z = sizes l (legal_bounds l s.requires.0.0) in
     let f = field_room l.l1 l.l2 (get_or s.args.t2.block p.loop.s 0) h in
     (e, (omega (arith, e, f, s.requires.0.1.1), omega (arith, e, f, z.chunks)))
 
@@ -64,7 +64,7 @@ loop-again c =
     let z = c.before.before.clear.ensures in
     let e = (block-is c.before.before.before.before).0 in (
       (omega arith, z.size ∙ p.loop.invariant.0.1),
-      cleared-next a.l a.t2 p.loop.s a.row.now p.loop.row _ p.loop.invariant.1 (rw e at z),
+      cleared_next a.l a.t2 p.loop.s a.row.now p.loop.row _ p.loop.invariant.1 (rw e at z),
     )
 
 same_length : tie.Need-same-length invariant-loop decreases-loop

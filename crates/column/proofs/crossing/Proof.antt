@@ -7,12 +7,12 @@ use native.Mathlib.Omega.{arith}
 use borrow.Author.Rules.{rules}
 use borrow.Author.Tests.{not-true, not-false}
 use lib.ListN.{length}
-use Rattle.message.proofs.Legal.{legal-bounds}
+use Rattle.message.proofs.Legal.{legal_bounds}
 use Rattle.states.specs.States.{each}
 use Rattle.weigh.specs.Weigh.{brought}
 use Rattle.column.specs.Column.{value_at, Placed}
-use Rattle.column.proofs.Rows.{StringLow, string-low, known-low}
-use Rattle.column.proofs.Rows.{crosses-readable, crosses-can, crosses-as-read, crosses-brings}
+use Rattle.column.proofs.Rows.{StringLow, string_low, known-low}
+use Rattle.column.proofs.Rows.{crosses-readable, crosses-can, crosses_as_read, crosses-brings}
 use Rattle.column.proofs.crossing.Statement.{statement}
 use Rattle.column.proofs.crossing.Tie as tie
 
@@ -34,7 +34,7 @@ placed c = c.before.before.find-chunks.ensures.1 (not-false _ c.if1.false)
 low : (c : tie.Else1) → let a = (entry c.before.before).args in StringLow a.l a.numbers.now a.j
 low c =
     let s = entry c.before.before in
-    string-low s.pre.0 s.args.j s.pre.1.1.0
+    string_low s.pre.0 s.args.j s.pre.1.1.0
 
 find-chunks-requires : tie.Need-find-chunks-requires
 find-chunks-requires c κs = search rules
@@ -93,7 +93,7 @@ can-bring-requires c κs =
     let s = entry e.before.before in
     let f = s.pre.0 in
     let few : e.before.before.find-chunks.result.chunks.n ≤ 6 = omega (arith, f.few, (placed e).count) in (
-      ((legal-bounds s.args.l f.allowed).nc-high, (omega arith, omega (arith, (low e).modulus))),
+      ((legal_bounds s.args.l f.allowed).nc_high, (omega arith, omega (arith, (low e).modulus))),
       (f.bits, (f.short, (s.pre.1.0, (few, c.missing.ensures.0)))),
     )
 
@@ -126,7 +126,7 @@ others-requires c κs =
 returns-3 : tie.Need-returns-3
 returns-3 c =
     let e = found c.before.before.before.before in
-    (λ row vs light x. c.others.ensures.0 vs (crosses-as-read x (placed e)), c.others.ensures.1)
+    (λ row vs light x. c.others.ensures.0 vs (crosses_as_read x (placed e)), c.others.ensures.1)
 
 pub crossing-spec : {M : Type 1} → statement M
 crossing-spec =

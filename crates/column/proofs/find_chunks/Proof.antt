@@ -10,7 +10,7 @@ use lib.ListN.{length, get_or, length-set}
 use lib.Seq.{get_or-set_same, get_or-set_other}
 use Rattle.message.specs.declared.Layout.{Layout}
 use Rattle.states.specs.States.{each}
-use Rattle.column.specs.Column.{readFrom}
+use Rattle.column.specs.Column.{read_from}
 use Rattle.column.specs.declared.Heavy.{Heavy}
 use borrow.Author.Rules.{rules}
 use Rattle.column.proofs.find_chunks.Statement.{statement}
@@ -19,7 +19,7 @@ use Rattle.column.proofs.find_chunks.Tie as tie
 -- the place and the losses of heavy block t
 abbrev At : Layout → (size : ℕ) → Heavy → (j : ℕ) (left next : ℕ → ℕ) (t at lost : ℕ) → Type 0
 At l size heavy j left next t at lost =
-    (at ≡ readFrom l heavy left j t - get_or heavy.end t 0) × ((lost ≡ left t - next t) × (at + l.nc ≤ size + lost))
+    (at ≡ read_from l heavy left j t - get_or heavy.end t 0) × ((lost ≡ left t - next t) × (at + l.nc ≤ size + lost))
 
 abbrev invariant-loop : tie.invariant-loop
 invariant-loop l y numbers j heavy left next n block place₀ lost₀ s₀ place lost s =
@@ -92,7 +92,7 @@ loop-again c =
     let was = p.loop.invariant.0.1 in
     let here : At a.l (length a.y.now) a.t4 a.j (each a.t6) (each a.t7) s
     o.place_of.result.at o.place_of.result.lost =
-    (e.at-just ok, (e.lost-just ok, e.within ok))
+    (e.at_just ok, (e.lost_just ok, e.within ok))
     in (
       (omega arith, (length-set p.loop.place _ _ ∙ was.0, length-set p.loop.lost _ _ ∙ was.1)),
       below_more _ s

@@ -8,12 +8,12 @@ use borrow.Author.Count.{below_more}
 use borrow.Author.Rules.{rules}
 use lib.ListN.{length, get_or, length-set}
 use lib.Seq.{get_or-set_same, get_or-set_other}
-use Rattle.bits.specs.Bits.{longestLine}
+use Rattle.bits.specs.Bits.{longest_line}
 use Rattle.vt.specs.Sum.{total}
-use Rattle.message.proofs.Legal.{string-high}
+use Rattle.message.proofs.Legal.{string_high}
 use Rattle.lines.specs.Lines.{line}
-use Rattle.lines.proofs.Lines.{string-inside}
-use Rattle.column.proofs.Zeros.{cleared-sum}
+use Rattle.lines.proofs.Lines.{string_inside}
+use Rattle.column.proofs.Zeros.{cleared_sum}
 use Rattle.column.proofs.light_sums.Statement.{statement}
 use Rattle.column.proofs.light_sums.Tie as tie
 
@@ -26,8 +26,8 @@ abbrev decreases-loop : tie.decreases-loop
 decreases-loop l y numbers row known₀ l2 modulus table j₀ known j = l2 - j
 
 -- the modulus is small
-modulus-high : (s : tie.Start invariant-loop decreases-loop) → s.args.l.l1 * s.args.l.nc ≤ longestLine
-modulus-high s = string-high s.args.l s.requires.0.allowed
+modulus-high : (s : tie.Start invariant-loop decreases-loop) → s.args.l.l1 * s.args.l.nc ≤ longest_line
+modulus-high s = string_high s.args.l s.requires.0.allowed
 
 mul-modulus : tie.Need-overflow-mul-modulus invariant-loop decreases-loop
 mul-modulus c = omega (arith, modulus-high c.before.before.before.before.before)
@@ -59,7 +59,7 @@ line-total-requires c κs =
     let s = start p in
     let long = (cleared p).clear-heavy.auto.1.1.0 in (
       p.before.before.before.before.before.weights.ensures,
-      string-inside s.args.l s.pre.0.allowed _ (omega (arith, s.pre.1.0, long)) p.loop.j (omega arith),
+      string_inside s.args.l s.pre.0.allowed _ (omega (arith, s.pre.1.0, long)) p.loop.j (omega arith),
     )
 
 rem-known : tie.Need-nonzero-rem-known invariant-loop decreases-loop
@@ -107,7 +107,7 @@ returns c =
     let p = c.before in
     let a = (start p).args in
     let k = (cleared p).clear-heavy.ensures in
-    (λ j h. p.loop.invariant.1 j (omega arith) ∙ cleared-sum a.l a.heavy a.row.now _ k j h, k)
+    (λ j h. p.loop.invariant.1 j (omega arith) ∙ cleared_sum a.l a.heavy a.row.now _ k j h, k)
 
 pub light-sums-spec : {M : Type 1} → statement M
 light-sums-spec =

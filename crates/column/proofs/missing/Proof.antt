@@ -2,7 +2,7 @@
 use Prim.Native.Nat.{◌+◌, ◌-◌}
 use native.Mathlib.Omega.{arith}
 use borrow.Author.Rules.{rules}
-use Rattle.column.proofs.Rows.{rest-is}
+use Rattle.column.proofs.Rows.{rest_is}
 use Rattle.column.proofs.missing.Statement.{statement}
 use Rattle.column.proofs.missing.Tie as tie
 
@@ -10,7 +10,7 @@ returns : tie.Need-returns
 returns c =
     let a = c.before.args in (
       omega arith,
-      λ b low e. rest-is a.whole a.part a.modulus b (a.whole - a.part) 0 (omega arith) (omega arith) e,
+      λ b low e. rest_is a.whole a.part a.modulus b (a.whole - a.part) 0 (omega arith) (omega arith) e,
     )
 
 returns-2 : tie.Need-returns-2
@@ -27,7 +27,7 @@ returns-3 c =
     let a = c.before.before.args in (
       omega arith,
       λ b low e.
-          rest-is a.whole a.part a.modulus b (a.whole + a.modulus - a.part) 1 (omega arith) (omega arith) e,
+          rest_is a.whole a.part a.modulus b (a.whole + a.modulus - a.part) 1 (omega arith) (omega arith) e,
     )
 
 pub missing-spec : {M : Type 1} → statement M

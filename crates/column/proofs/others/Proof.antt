@@ -7,15 +7,15 @@ use native.Mathlib.Numerals.{add-one}
 use native.Mathlib.Omega.{arith}
 use borrow.Author.Rules.{rules}
 use lib.ListN.{length, get_or}
-use Rattle.bits.specs.Bits.{mostChunks}
-use Rattle.message.proofs.Legal.{legal-bounds, chunk_lies}
-use Rattle.column.specs.Column.{chunkAt, AsRead, apartIn}
+use Rattle.bits.specs.Bits.{most_chunks}
+use Rattle.message.proofs.Legal.{legal_bounds, chunk_lies}
+use Rattle.column.specs.Column.{chunk_at, AsRead, apart_in}
 use Rattle.column.proofs.others.Statement.{statement}
 use Rattle.column.proofs.others.Tie as tie
 
 abbrev invariant-loop : tie.invariant-loop
 invariant-loop l y totals counts numbers z j heavy chunks n nc r₀ s₀ r s =
-    ((s ≤ n) × (r ≤ s + 1)) × ((vs : List ℕ) → AsRead l y heavy chunks vs j s → apartIn l heavy z vs j s < r)
+    ((s ≤ n) × (r ≤ s + 1)) × ((vs : List ℕ) → AsRead l y heavy chunks vs j s → apart_in l heavy z vs j s < r)
 
 abbrev decreases-loop : tie.decreases-loop
 decreases-loop l y totals counts numbers z j heavy chunks n nc r₀ s₀ r s = n - s
@@ -25,11 +25,11 @@ abbrev start : tie.At-loop invariant-loop decreases-loop → tie.Start invariant
 start p = p.before.before.before.before.before.before
 
 -- the chunk of a turn
-chunk-is : (c : tie.After-struct-known invariant-loop decreases-loop) → let p = c.before.before.before.before in
+chunk_is : (c : tie.After-struct-known invariant-loop decreases-loop) → let p = c.before.before.before.before in
     let a = (start p).args in
     let i = c.before.wide.result * a.l.l2 + a.j in
-    (i ≡ chunkAt a.l a.t6 a.j p.loop.s) × ((i < mostChunks) × (i < length a.z.now))
-chunk-is c =
+    (i ≡ chunk_at a.l a.t6 a.j p.loop.s) × ((i < most_chunks) × (i < length a.z.now))
+chunk_is c =
     let p = c.before.before.before.before in
     let s = start p in
     let a = s.args in
@@ -40,7 +40,7 @@ chunk-is c =
     (e, (rw e k.low, rw e (omega (arith, k.inside, s.pre.1.1.1))))
 
 loop-holds : tie.Need-loop-init invariant-loop decreases-loop
-unfolding apartIn
+unfolding apart_in
 loop-holds c = ((omega arith, omega arith), λ vs read. omega arith)
 
 element-copy-out-wide : tie.Need-element-copy-out-wide invariant-loop decreases-loop
@@ -50,10 +50,10 @@ wide-requires : tie.Need-wide-requires invariant-loop decreases-loop
 wide-requires c κs = search rules
 
 mul-c : tie.Need-overflow-mul-c invariant-loop decreases-loop
-mul-c c = omega (arith, (chunk-is c).1.0)
+mul-c c = omega (arith, (chunk_is c).1.0)
 
 add-c : tie.Need-overflow-add-c invariant-loop decreases-loop
-add-c c = omega (arith, (chunk-is c).1.0)
+add-c c = omega (arith, (chunk_is c).1.0)
 
 mul-other : tie.Need-overflow-mul-other invariant-loop decreases-loop
 mul-other c = search rules
@@ -65,7 +65,7 @@ element-copy-out-other-2 : tie.Need-element-copy-out-other-2 invariant-loop decr
 element-copy-out-other-2 c = search rules
 
 shared-slice-read-other : tie.Need-shared-slice-read-other invariant-loop decreases-loop
-shared-slice-read-other c = (chunk-is c.before.before.before).1.1
+shared-slice-read-other c = (chunk_is c.before.before.before).1.1
 
 other-requires : tie.Need-other-requires invariant-loop decreases-loop
 other-requires c κs =
@@ -73,7 +73,7 @@ other-requires c κs =
     let p = w.before.before.before in
     let s = start p in
     let f = s.pre.0.0 in (
-      (legal-bounds s.args.l f.allowed).nc-high,
+      (legal_bounds s.args.l f.allowed).nc_high,
       ((f.bits, f.short), (s.pre.0.1, s.pre.1.0 p.loop.s (omega arith))),
     )
 
@@ -87,7 +87,7 @@ loop-less : tie.Need-loop-smaller invariant-loop decreases-loop
 loop-less c = search rules
 
 loop-again : tie.Need-loop-preserved invariant-loop decreases-loop
-unfolding apartIn
+unfolding apart_in
 loop-again c =
     let k = c.before.before.before.before in
     let p = k.before.before.before.before in
@@ -95,8 +95,8 @@ loop-again c =
     let s : ℕ = p.loop.s in (
       (omega arith, omega (arith, c.other.ensures.1)),
       λ vs read.
-          let u : ℕ = get_or vs (chunkAt a.l a.t6 a.j s) 0 in
-          let o = rw (chunk-is k).0 at (c.other.ensures.0 u (read s (omega arith))) in
+          let u : ℕ = get_or vs (chunk_at a.l a.t6 a.j s) 0 in
+          let o = rw (chunk_is k).0 at (c.other.ensures.0 u (read s (omega arith))) in
           let h = p.loop.invariant.1 vs (λ t m. read t (omega arith)) in
           rw (add-one s) (omega (arith, o, h)),
     )
@@ -110,7 +110,7 @@ returns c =
     let most = b.pre.0.0.few in (
       λ vs read.
           let h = p.invariant.1 vs (λ s h. read s (omega arith)) in
-          omega (arith, h, ap (apartIn a.l a.t6 a.z.now vs a.j) k),
+          omega (arith, h, ap (apart_in a.l a.t6 a.z.now vs a.j) k),
       omega arith,
     )
 

@@ -7,7 +7,7 @@ use borrow.Author.Rules.{rules}
 use borrow.Author.Tests.{leb-true, le-leb}
 use Rattle.bits.specs.Bits.{longest}
 use Rattle.message.specs.declared.Layout.{Layout}
-use Rattle.message.proofs.Legal.{Lies, chunk_lies, legal-bounds}
+use Rattle.message.proofs.Legal.{Lies, chunk_lies, legal_bounds}
 use Rattle.column.specs.Column.{start_at, Readable, PlaceOf}
 use Rattle.column.proofs.place_of.Statement.{statement}
 use Rattle.column.proofs.place_of.Tie as tie
@@ -19,8 +19,8 @@ nowhere : (l : Layout) (size block j end left next : ℕ)
 nowhere l size block j end left next never =
     record {
       found = λ r. absurd (never r);
-      at-just = λ e. absurd (false≢true e);
-      lost-just = λ e. absurd (false≢true e);
+      at_just = λ e. absurd (false≢true e);
+      lost_just = λ e. absurd (false≢true e);
       few = λ e. absurd (false≢true e);
       within = λ e. absurd (false≢true e);
     }
@@ -97,7 +97,7 @@ add_ok : tie.Need-overflow-add-ok
 add_ok c =
     let f = c.before.before in
     let s = begin f.before in
-    record { fits = omega (arith, (from_is f).1, (legal-bounds s.args.l s.pre.0.0).nc-high) }
+    record { fits = omega (arith, (from_is f).1, (legal_bounds s.args.l s.pre.0.0).nc_high) }
 
 wide-requires-5 : tie.Need-wide-requires-5
 wide-requires-5 c κs = search rules
@@ -114,7 +114,7 @@ add-ok-2 c =
         s.pre.0.1,
         two.if2.false,
         two.before.wide.ensures,
-        (legal-bounds s.args.l s.pre.0.0).nc-high,
+        (legal_bounds s.args.l s.pre.0.0).nc_high,
       );
     }
 
@@ -133,8 +133,8 @@ returns-4 c =
     record {
       found = λ r.
           le-leb reach room (omega (arith, e.wide4.ensures, c.wide5.ensures, r.there, r.falls, r.starts));
-      at-just = λ ok. omega (arith, e.wide4.ensures);
-      lost-just = λ ok. refl;
+      at_just = λ ok. omega (arith, e.wide4.ensures);
+      lost_just = λ ok. refl;
       few = λ ok. omega (arith, two.if2.false, two.before.wide.ensures);
       within = λ ok. omega (arith, leb-true reach room ok, c.wide5.ensures);
     }

@@ -1,7 +1,7 @@
 -- `consistent::after_bit` meets its contract: past the end, another bit, or the bit itself. Assumes nothing.
 use borrow.Author.Rules.{rules}
 use native.Mathlib.Omega.{arith}
-use Rattle.consistent.proofs.Steps.{bit_past, bit-other, bit-takes}
+use Rattle.consistent.proofs.Steps.{bit_past, bit_other, bit_takes}
 use Rattle.consistent.proofs.after_bit.Statement.{statement}
 use Rattle.consistent.proofs.after_bit.Tie as tie
 
@@ -14,7 +14,7 @@ shared-slice-read-if2 c = search rules
 returns-2 : tie.Need-returns-2
 returns-2 c =
     let a = c.before.before.before.args in
-    bit-other a.b a.y.now a.j (omega arith) c.if2.true
+    bit_other a.b a.y.now a.j (omega arith) c.if2.true
 
 add-result : tie.Need-overflow-add-result
 add-result c = search rules
@@ -22,7 +22,7 @@ add-result c = search rules
 returns-3 : tie.Need-returns-3
 returns-3 c =
     let a = c.before.before.before.args in
-    bit-takes a.b a.y.now a.j (omega arith) c.if2.false
+    bit_takes a.b a.y.now a.j (omega arith) c.if2.false
 
 pub after-bit-spec : {M : Type 1} → statement M
 after-bit-spec = tie.close (tie.spec returns shared-slice-read-if2 returns-2 add-result returns-3)

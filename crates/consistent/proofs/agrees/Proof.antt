@@ -6,12 +6,12 @@ use mathlib.Core.List.{List, ◌++◌}
 use native.Mathlib.Omega.{arith}
 use lib.ListN.{length}
 use lib.Seq.{take_all}
-use Rattle.bits.specs.Bits.{mostChunks, same}
-use Rattle.message.specs.Layout.{layout, rowBits}
-use Rattle.message.specs.Message.{blockSums, stringSums, checks}
+use Rattle.bits.specs.Bits.{most_chunks, same}
+use Rattle.message.specs.Layout.{layout, row_bits}
+use Rattle.message.specs.Message.{block_sums, string_sums, checks}
 use Rattle.message.specs.declared.Layout.{Layout}
-use Rattle.message.proofs.Assembly.{chunks-elements, length-lent, row-again}
-use Rattle.message.proofs.Legal.{legal-bounds, sizes}
+use Rattle.message.proofs.Assembly.{chunks_elements, length_lent, row_again}
+use Rattle.message.proofs.Legal.{legal_bounds, sizes}
 use Rattle.consistent.proofs.agrees.Statement.{statement}
 use Rattle.consistent.proofs.agrees.Tie as tie
 
@@ -19,8 +19,8 @@ use Rattle.consistent.proofs.agrees.Tie as tie
 abbrev named : tie.Start → Layout
 named c = layout c.args.l1 c.args.l2 c.args.nc c.args.r
 
-few : (c : tie.Start) → c.args.l1 * c.args.l2 ≤ mostChunks
-few c = (sizes (named c) (legal-bounds (named c) c.requires.0)).chunks
+few : (c : tie.Start) → c.args.l1 * c.args.l2 ≤ most_chunks
+few c = (sizes (named c) (legal_bounds (named c) c.requires.0)).chunks
 
 -- where the function starts, seen from where the chunks are filled in
 abbrev start : tie.After-fill-chunks → tie.Start
@@ -54,7 +54,7 @@ chunks-agree-requires c κs =
     let e = k.fill-chunks.ensures in (
       s.pre.0,
       (
-        (length-lent (named s) x s.pre.1.0 _ _ e, chunks-elements (named s) x s.pre.1.0 _ _ e),
+        (length_lent (named s) x s.pre.1.0 _ _ e, chunks_elements (named s) x s.pre.1.0 _ _ e),
         s.pre.1.1.1,
       ),
     )
@@ -64,12 +64,12 @@ returns c =
     let k = c.before.before.before.before in
     let s = start k in
     let x : List ℕ = s.args.x.now in
-    let n : length x ≡ rowBits (named s) = s.pre.1.1.0 in
+    let n : length x ≡ row_bits (named s) = s.pre.1.1.0 in
     let again =
-    row-again (named s) x s.pre.1.0 _ _ k.fill-chunks.ensures (omega arith)
-    ∙ take_all (rowBits (named s)) x (omega arith) in
+    row_again (named s) x s.pre.1.0 _ _ k.fill-chunks.ensures (omega arith)
+    ∙ take_all (row_bits (named s)) x (omega arith) in
     c.chunks-agree.ensures
-    ∙ ap (λ (z : List ℕ). same (blockSums (named s) z ++ stringSums (named s) z ++ checks (named s) z)
+    ∙ ap (λ (z : List ℕ). same (block_sums (named s) z ++ string_sums (named s) z ++ checks (named s) z)
     s.args.numbers.now) again
 
 pub agrees-spec : {M : Type 1} → statement M

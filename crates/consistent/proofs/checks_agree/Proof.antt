@@ -7,12 +7,12 @@ use native.Mathlib.Omega.{arith}
 use lib.ListN.{take}
 use Rattle.bits.specs.Bits.{same}
 use Rattle.message.specs.Layout.{layout}
-use Rattle.message.proofs.Legal.{Bounds, legal-bounds}
+use Rattle.message.proofs.Legal.{Bounds, legal_bounds}
 use Rattle.consistent.proofs.checks_agree.Statement.{statement}
 use Rattle.consistent.proofs.checks_agree.Tie as tie
 
 bounds : (c : tie.Start) → Bounds (layout c.args.l1 c.args.l2 c.args.nc c.args.r)
-bounds c = legal-bounds (layout c.args.l1 c.args.l2 c.args.nc c.args.r) c.requires.0
+bounds c = legal_bounds (layout c.args.l1 c.args.l2 c.args.nc c.args.r) c.requires.0
 
 slice-aggregate-fill-checks : tie.Need-slice-aggregate-fill-checks
 slice-aggregate-fill-checks c = search rules
@@ -20,7 +20,7 @@ slice-aggregate-fill-checks c = search rules
 fill-checks-requires : tie.Need-fill-checks-requires
 fill-checks-requires c κs =
     let s = c.before.before.before in
-    (s.requires.0, (s.requires.1.0, (bounds s).r-high))
+    (s.requires.0, (s.requires.1.0, (bounds s).r_high))
 
 sub-equal : tie.Need-overflow-sub-equal
 sub-equal c = search rules
@@ -33,7 +33,7 @@ abbrev start : tie.After-fill-checks → tie.Start
 start c = c.before.before.before.before
 
 part-equal-end : tie.Need-slice-bounds-equal-end
-part-equal-end c = omega (arith, (bounds (start c.before.before)).r-high)
+part-equal-end c = omega (arith, (bounds (start c.before.before)).r_high)
 
 equal-requires : tie.Need-equal-requires
 equal-requires c κs = search rules

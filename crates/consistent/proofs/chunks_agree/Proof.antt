@@ -11,7 +11,7 @@ use lib.Seq.{length-take-le}
 use Rattle.message.specs.Chunks.{row_of}
 use Rattle.message.specs.Layout.{layout}
 use Rattle.message.specs.declared.Layout.{Layout}
-use Rattle.consistent.proofs.Candidate.{sums-differ, sums_same}
+use Rattle.consistent.proofs.Candidate.{sums_differ, sums_same}
 use Rattle.consistent.proofs.chunks_agree.Statement.{statement}
 use Rattle.consistent.proofs.chunks_agree.Tie as tie
 
@@ -43,7 +43,7 @@ sums-agree-requires c κs =
 returns : tie.Need-returns
 returns c =
     let s = c.before.before.before.before.before in
-    sums-differ (named s) (row s) s.args.numbers.now s.requires.1.1
+    sums_differ (named s) (row s) s.args.numbers.now s.requires.1.1
     (sym c.before.sums-agree.ensures ∙ not-true _ c.if1.true)
 
 mul-checks-agree : tie.Need-overflow-mul-checks-agree

@@ -7,7 +7,7 @@ use mathlib.Core.Path.{◌≡◌, refl, sym, ◌∙◌}
 use native.Mathlib.Omega.{arith}
 use lib.ListN.{length, drop}
 use Rattle.consistent.specs.Greedy.{eat}
-use Rattle.consistent.proofs.Steps.{comes-is, bits-end, piece-eaten}
+use Rattle.consistent.proofs.Steps.{comes_is, bits-end, piece_eaten}
 use Rattle.consistent.proofs.comes.Statement.{statement}
 use Rattle.consistent.proofs.comes.Tie as tie
 
@@ -72,7 +72,7 @@ left c =
     let a = (start (loop c)).args in
     let p = (loop c).loop in
     let j = c.before.before.before.before in
-    piece-eaten a.x.now a.y.now p.i j.if1.end p.at c.piece-taken.result (omega (arith, (ends j).0))
+    piece_eaten a.x.now a.y.now p.i j.if1.end p.at c.piece-taken.result (omega (arith, (ends j).0))
     p.inv.1.0 c.piece-taken.ensures
 
 add_at : tie.Need-overflow-add-at invariant-loop decreases-loop
@@ -90,7 +90,7 @@ returns : tie.Need-returns invariant-loop decreases-loop
 returns c =
     let a = (start c.before).args in
     let p = c.before.loop in
-    comes-is a.x.now a.y.now p.at p.invariant.1.0
+    comes_is a.x.now a.y.now p.at p.invariant.1.0
     (sym p.invariant.1.1 ∙ (bits-end a.x.now a.y.now p.i p.at (omega arith)).0)
 
 pub comes-spec : {M : Type 1} → statement M

@@ -3,7 +3,7 @@ use borrow.Author.Rules.{rules}
 use mathlib.Core.Path.{sym, ◌∙◌}
 use borrow.Author.Tests.{not-true, not-false}
 use Rattle.message.specs.Layout.{layout}
-use Rattle.consistent.proofs.Candidate.{comes-not-candidate, comes-candidate}
+use Rattle.consistent.proofs.Candidate.{comes_not_candidate, comes-candidate}
 use Rattle.consistent.proofs.is_consistent.Statement.{statement}
 use Rattle.consistent.proofs.is_consistent.Tie as tie
 
@@ -13,7 +13,7 @@ comes-requires c κs = search rules
 returns : tie.Need-returns
 returns c =
     let a = c.before.before.before.before.before.args in
-    comes-not-candidate (layout a.l1 a.l2 a.nc a.r) a.numbers.now a.y.now a.x.now
+    comes_not_candidate (layout a.l1 a.l2 a.nc a.r) a.numbers.now a.y.now a.x.now
     (sym c.before.comes.ensures ∙ not-true _ c.if1.true)
 
 agrees-requires : tie.Need-agrees-requires

@@ -2,7 +2,7 @@
 -- nothing.
 use borrow.Author.Rules.{rules}
 use native.Mathlib.Omega.{arith}
-use Rattle.consistent.proofs.Steps.{whole-eats}
+use Rattle.consistent.proofs.Steps.{whole_eats}
 use Rattle.consistent.proofs.piece_taken.Statement.{statement}
 use Rattle.consistent.proofs.piece_taken.Tie as tie
 
@@ -13,7 +13,7 @@ returns : tie.Need-returns
 returns c =
     let s = c.before.before.before.before.before in
     let a = s.args in
-    (omega arith, whole-eats a.p.now a.y.now (c.before.starts.ensures c.if2.true))
+    (omega arith, whole_eats a.p.now a.y.now (c.before.starts.ensures c.if2.true))
 
 taken-requires : tie.Need-taken-requires
 taken-requires c κs = search rules

@@ -10,7 +10,7 @@ use Rattle.bits.specs.Bits.{same}
 use Rattle.bits.proofs.Laws.{same_next, same_stop, same_end}
 use Rattle.message.specs.Chunks.{row_of}
 use Rattle.message.specs.Layout.{layout}
-use Rattle.message.specs.Message.{blockSums, stringSums}
+use Rattle.message.specs.Message.{block_sums, string_sums}
 use Rattle.message.proofs.RowSums.{length-sums}
 use Rattle.consistent.proofs.sums_agree.Statement.{statement}
 use Rattle.consistent.proofs.sums_agree.Tie as tie
@@ -18,7 +18,7 @@ use Rattle.consistent.proofs.sums_agree.Tie as tie
 -- the sums of the row with these chunks
 abbrev sums : (l1 l2 nc r : ℕ) → List ℕ → List ℕ
 sums l1 l2 nc r chunks =
-    blockSums (layout l1 l2 nc r) (row_of nc chunks) ++ stringSums (layout l1 l2 nc r) (row_of nc chunks)
+    block_sums (layout l1 l2 nc r) (row_of nc chunks) ++ string_sums (layout l1 l2 nc r) (row_of nc chunks)
 
 abbrev invariant-loop : tie.invariant-loop
 invariant-loop l1 l2 nc r chunks numbers t k₀ k =

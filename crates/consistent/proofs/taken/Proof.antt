@@ -7,7 +7,7 @@ use native.Mathlib.Nat.{add-zero, zero-add}
 use native.Mathlib.Omega.{arith}
 use lib.ListN.{length, drop}
 use Rattle.consistent.specs.Greedy.{eat, losses}
-use Rattle.consistent.proofs.Steps.{bit-next, bits-end}
+use Rattle.consistent.proofs.Steps.{bit_next, bits-end}
 use Rattle.consistent.proofs.taken.Statement.{statement}
 use Rattle.consistent.proofs.taken.Tie as tie
 
@@ -39,7 +39,7 @@ loop-again c =
     let a = c.before.before.before.before.before.before.args in
     let p = c.before.before.before.loop in
     let s = c.after-bit.ensures in
-    let n = bit-next a.x.now a.y.now p.i p.j c.after-bit.result (omega arith) s in
+    let n = bit_next a.x.now a.y.now p.i p.j c.after-bit.result (omega arith) s in
     (omega arith, (s.0, (n.0 ∙ p.invariant.1.1.0, omega (arith, p.invariant.1.1.1, n.1))))
 
 returns : tie.Need-returns invariant-loop decreases-loop

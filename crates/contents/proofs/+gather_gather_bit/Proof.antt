@@ -8,7 +8,7 @@ use native.Mathlib.Omega.{arith}
 use lib.ListN.{length, get_or, drop}
 use Rattle.contents.specs.Contents.{Room}
 use Rattle.contents.proofs.Bits.{half, more_byte, is_byte, ends-few, ends_more, after-taken, after-lost}
-use Rattle.contents.proofs.Gathered.{gathered_none, gathered-then, gathered-weaken}
+use Rattle.contents.proofs.Gathered.{gathered_none, gathered_then, gathered_weaken}
 use borrow.Fn.Kinds.{In}
 use borrow.Fn.PlainCycle.{Measures, is, falls, and}
 use Rattle.contents.proofs.gather.Reads as gather
@@ -112,7 +112,7 @@ gather-returns-2 t c =
     let s = gather-start t f.before in
     let a = s.args in
     let some : 0 < a.left = omega arith in
-    gathered-then (2 ^ a.left) (2 ^ (a.left - 1)) a.n _ _ a.out.now _ _ (omega (arith, half a.left some))
+    gathered_then (2 ^ a.left) (2 ^ (a.left - 1)) a.n _ _ a.out.now _ _ (omega (arith, half a.left some))
     f.gather-bit.ensures o.gather-bit2.ensures
     (λ w e. ends_more a.left a.v a.a (drop a.p a.y.now) w some e)
 
@@ -153,7 +153,7 @@ gather-bit-returns : (t : ℕ) → gather-bit-lts.Need-returns (gather-bit-claim
 gather-bit-returns t c =
     let n = c.before.before.before.before in
     let a = n.before.before.before.before.before.args in
-    gathered-weaken (2 ^ a.left) a.n _ a.out.now _
+    gathered_weaken (2 ^ a.left) a.n _ a.out.now _
     (λ w e. after-taken a.b a.left a.v a.a a.y.now a.p w n.before.before.if1.true
     n.if2.true e)
     c.before.before.gather.ensures
@@ -179,7 +179,7 @@ gather-bit-returns-3 : (t : ℕ) → gather-bit-lts.Need-returns-3 (gather-bit-c
 gather-bit-returns-3 t c =
     let j = c.before.before.before.before.before in
     let a = j.before.before.before.args in
-    gathered-weaken (2 ^ a.left) a.n _ a.out.now _
+    gathered_weaken (2 ^ a.left) a.n _ a.out.now _
     (λ w e. (after-lost a.b a.left a.v a.a a.y.now a.p w (unmatched t j) e).1)
     c.before.before.gather2.ensures
 

@@ -5,7 +5,7 @@ use Prim.Native.Nat.{◌+◌, ◌-◌, ◌*◌, ◌%◌, ◌<◌, ◌≤◌}
 use mathlib.Core.Path.{◌≡◌, ◌∙◌}
 use native.Mathlib.Omega.{arith}
 use lib.ListN.{length, set}
-use Rattle.bits.specs.Bits.{longestLine}
+use Rattle.bits.specs.Bits.{longest_line}
 use Rattle.vt.specs.Sum.{sum}
 use Rattle.message.proofs.Fields.{field_room}
 use Rattle.message.proofs.Positions.{sum-high}
@@ -19,7 +19,7 @@ use Rattle.contents.proofs.asked.Tie as tie
 stands : (c : tie.Start) →
     let a = c.args in
     (a.start + a.t * a.stride < length a.row.now)
-    × ((a.t * a.nc + a.nc ≤ a.count * a.nc) × (a.count * a.nc ≤ longestLine))
+    × ((a.t * a.nc + a.nc ≤ a.count * a.nc) × (a.count * a.nc ≤ longest_line))
 stands c =
     let a = c.args in
     let i = c.requires.0 in
@@ -55,7 +55,7 @@ shared-slice-read-chunk-total c = (stands c.before.before.before.before).0
 chunk-total-requires : tie.Need-chunk-total-requires
 chunk-total-requires c κs =
     let s = c.before.before.before.before in
-    ((c.before.before.weights.ensures, s.requires.0.nc-high), (omega arith, omega (arith, stands s)))
+    ((c.before.before.weights.ensures, s.requires.0.nc_high), (omega arith, omega (arith, stands s)))
 
 line-total-requires : tie.Need-line-total-requires
 line-total-requires c κs = search rules

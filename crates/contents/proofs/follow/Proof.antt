@@ -7,8 +7,8 @@ use borrow.Author.Rules.{rules}
 use lib.ListN.{length, get_or, drop}
 use lib.Pow.{pow_pos}
 use Rattle.contents.specs.Contents.{Ends}
-use Rattle.contents.proofs.Bits.{more_byte, is_byte, ends-here, follow-none, follow-next}
-use Rattle.contents.proofs.Gathered.{gathered_none, gathered-one}
+use Rattle.contents.proofs.Bits.{more_byte, is_byte, ends-here, follow_none, follow_next}
+use Rattle.contents.proofs.Gathered.{gathered_none, gathered_one}
 use Rattle.contents.proofs.follow.Statement.{statement}
 use Rattle.contents.proofs.follow.Tie as tie
 
@@ -35,7 +35,7 @@ returns c =
     let o = c.before.before in
     let a = o.before.args in
     gathered_none (2 ^ a.left) a.n _
-    (λ w e. follow-none (a.left - o.loop.i) o.loop.whole a.y.now (a.p + o.loop.i) w
+    (λ w e. follow_none (a.left - o.loop.i) o.loop.whole a.y.now (a.p + o.loop.i) w
     (omega (arith, c.before.loop-test.true)) (λ b k h d. omega (arith, h, c.if1.true)) (o.loop.invariant.1 w e))
 
 add-b : tie.Need-overflow-add-b invariant-loop decreases-loop
@@ -49,7 +49,7 @@ returns-2 c =
     let o = c.before.before.before.before in
     let a = o.before.args in
     gathered_none (2 ^ a.left) a.n _
-    (λ w e. follow-none (a.left - o.loop.i) o.loop.whole a.y.now (a.p + o.loop.i) w
+    (λ w e. follow_none (a.left - o.loop.i) o.loop.whole a.y.now (a.p + o.loop.i) w
     (omega (arith, c.before.before.before.loop-test.true)) (λ b k h d. omega (arith, d, k, c.if2.true))
     (o.loop.invariant.1 w e))
 
@@ -90,7 +90,7 @@ loop-again c =
     let inside : a.p + i < length a.y.now = omega (arith, c.before.before.if1.false) in
     rw (e, q) (
       (omega (arith, t), (omega (arith, inside), (next-byte c).1)),
-      λ w x. follow-next (a.left - i) o.loop.whole (get_or a.y.now (a.p + i) 0) a.y.now (a.p + i) w
+      λ w x. follow_next (a.left - i) o.loop.whole (get_or a.y.now (a.p + i) 0) a.y.now (a.p + i) w
           (omega (arith, t)) (omega (arith, c.if2.false)) inside refl (o.loop.invariant.1 w x),
     )
 
@@ -112,7 +112,7 @@ returns-3 c =
     let o = c.before in
     let s = o.before in
     let a = s.args in
-    gathered-one (2 ^ a.left) a.n o.loop.whole a.out.now (pow_pos a.left)
+    gathered_one (2 ^ a.left) a.n o.loop.whole a.out.now (pow_pos a.left)
     (omega (arith, s.requires.0.entries, pow_pos a.left))
     (λ w e. ends-here (a.left - o.loop.i) o.loop.whole 0 (drop (a.p + o.loop.i) a.y.now) w
     (omega (arith, c.loop-test.false)) (o.loop.invariant.1 w e))

@@ -5,7 +5,7 @@ use mathlib.Core.Path.{ap, ◌∙◌}
 use mathlib.Core.Logic.{⊎_elim}
 use native.Mathlib.Omega.{arith}
 use lib.ListN.{length}
-use Rattle.contents.proofs.Sifted.{Sifted, sifted-none, sifted-kept, sifted-left}
+use Rattle.contents.proofs.Sifted.{Sifted, sifted_none, sifted_kept, sifted_left}
 use Rattle.contents.proofs.sift_each.Statement.{statement}
 use Rattle.contents.proofs.sift_each.Tie as tie
 
@@ -21,7 +21,7 @@ weights-requires c κs = search rules
 loop-holds : tie.Need-loop-init invariant-loop decreases-loop
 loop-holds c =
     let a = c.before.before.args in
-    (search rules, sifted-none a.nc a.a a.out.now)
+    (search rules, sifted_none a.nc a.a a.out.now)
 
 slice-read-v : tie.Need-slice-read-v invariant-loop decreases-loop
 slice-read-v c =
@@ -74,11 +74,11 @@ loop-again c =
     ⊎_elim
     (λ w. (
       omega arith,
-      rw (w.1, w.2) (sifted-kept a.nc a.a a.out.now v.i v.out v.k v.inv.1 low),
+      rw (w.1, w.2) (sifted_kept a.nc a.a a.out.now v.i v.out v.k v.inv.1 low),
     ))
     (λ w. (
       omega arith,
-      rw (w.1, w.2) (sifted-left a.nc a.a a.out.now v.i v.out v.k v.inv.1
+      rw (w.1, w.2) (sifted_left a.nc a.a a.out.now v.i v.out v.k v.inv.1
           (λ allows. w.0.left (ap (λ (n : ℕ). (a.a.rest + n) % a.a.modulus) t ∙ allows))),
     ))
     c.if1.branch

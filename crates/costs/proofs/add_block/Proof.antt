@@ -8,11 +8,11 @@ use native.Mathlib.Omega.{arith}
 use borrow.Author.Count.{below_more}
 use borrow.Author.Rules.{rules}
 use lib.ListN.{length}
-use Rattle.bits.specs.Bits.{longestLine}
-use Rattle.message.proofs.Legal.{string-high}
+use Rattle.bits.specs.Bits.{longest_line}
+use Rattle.message.proofs.Legal.{string_high}
 use Rattle.whole.specs.Whole.{modulus, Legible, brings}
 use Rattle.sets.specs.Sets.{Grows, Moved}
-use Rattle.sets.proofs.Sets.{moved-rest, moved-grows}
+use Rattle.sets.proofs.Sets.{moved_rest, moved_grows}
 use Rattle.costs.proofs.add_block.Statement.{statement}
 use Rattle.costs.proofs.add_block.Tie as tie
 
@@ -34,8 +34,8 @@ abbrev begin : tie.At-loop invariant-loop decreases-loop → tie.Start invariant
 begin c = entry c.before.before.before
 
 -- the modulus is small
-high : (s : tie.Start invariant-loop decreases-loop) → s.args.l.l1 * s.args.l.nc ≤ longestLine
-high s = string-high s.args.l s.requires.0.allowed
+high : (s : tie.Start invariant-loop decreases-loop) → s.args.l.l1 * s.args.l.nc ≤ longest_line
+high s = string_high s.args.l s.requires.0.allowed
 
 mul-m : tie.Need-overflow-mul-m invariant-loop decreases-loop
 mul-m c = omega (arith, high (entry c.before))
@@ -105,10 +105,10 @@ loop-again c =
       (
         rw t.last t.moved,
         below_more _ p.loop.e
-            (λ k h r. moved-grows m (gain k) a.from.now p.loop.to c.if1.to t.grows (i.1.1 k h r))
+            (λ k h r. moved_grows m (gain k) a.from.now p.loop.to c.if1.to t.grows (i.1.1 k h r))
             (λ r.
             let e = c.before.residue.ensures r in
-            moved-rest m c.before.residue.result (gain p.loop.e) a.from.now c.if1.to e
+            moved_rest m c.before.residue.result (gain p.loop.e) a.from.now c.if1.to e
             (t.moved (rw e (mod-lt _ (omega arith))))),
       ),
     )

@@ -2,7 +2,7 @@
 -- nothing.
 use native.Mathlib.Omega.{arith}
 use borrow.Author.Rules.{rules}
-use Rattle.costs.proofs.Costs.{kept-sum, read-but, asked-source, asked_low}
+use Rattle.costs.proofs.Costs.{kept-sum, read_but, asked_source, asked_low}
 use Rattle.costs.proofs.can_be_whole.Statement.{statement}
 use Rattle.costs.proofs.can_be_whole.Tie as tie
 
@@ -20,7 +20,7 @@ start c = entry (made c).before
 fill-sums-requires : tie.Need-fill-sums-requires
 fill-sums-requires c κs =
     let q = (entry c).requires in
-    ((q.0.fit.allowed, (q.0.fit.few, omega (arith, q.0.light, q.0.column))), (asked-source q.0, q.1))
+    ((q.0.fit.allowed, (q.0.fit.few, omega (arith, q.0.light, q.0.column))), (asked_source q.0, q.1))
 
 add_holds : tie.Need-overflow-add-holds
 add_holds c = search rules
@@ -60,7 +60,7 @@ returns c row vs left next light less crosses kept =
     let s = start k in
     let a = s.args in
     let q = s.pre.0 in
-    let was = (made k).fill-sums.ensures left (read-but crosses a.size a.heavy.n less (λ t h d. kept t h)) in
+    let was = (made k).fill-sums.ensures left (read_but crosses a.size a.heavy.n less (λ t h d. kept t h)) in
     let at = kept-sum crosses q.fit q.column a.known.now light kept in
     c.holds.ensures (rw at at was)
 

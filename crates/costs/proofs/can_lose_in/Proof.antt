@@ -10,8 +10,8 @@ use Rattle.states.specs.States.{firsts}
 use Rattle.column.specs.Column.{value_at}
 use Rattle.column.proofs.Rows.{crosses-readable}
 use Rattle.whole.specs.Whole.{modulus}
-use Rattle.costs.specs.Costs.{bringsBut}
-use Rattle.costs.proofs.Costs.{one-sum, read-but, asked-source, asked_low}
+use Rattle.costs.specs.Costs.{brings_but}
+use Rattle.costs.proofs.Costs.{one-sum, read_but, asked_source, asked_low}
 use Rattle.costs.proofs.can_lose_in.Statement.{statement}
 use Rattle.costs.proofs.can_lose_in.Tie as tie
 
@@ -29,7 +29,7 @@ start c = entry (made c).before
 fill-sums-requires : tie.Need-fill-sums-requires
 fill-sums-requires c κs =
     let q = (entry c).requires in
-    ((q.0.fit.allowed, (q.0.fit.few, omega (arith, q.0.light, q.0.column))), (asked-source q.0, q.1.1))
+    ((q.0.fit.allowed, (q.0.fit.few, omega (arith, q.0.light, q.0.column))), (asked_source q.0, q.1.1))
 
 add-sum : tie.Need-overflow-add-sum
 add-sum c = search rules
@@ -59,7 +59,7 @@ repairs-some-requires c κs =
     let k = c.before.before.before in
     let s = start k in
     let q = s.pre.0 in (
-      asked-source q s.args.at s.pre.1.0,
+      asked_source q s.args.at s.pre.1.0,
       (
         omega (arith, q.fit.low s.args.j q.column),
         omega (arith, s.pre.1.1.0, (made k).fill-sums.auto.1.1.1.1.1.1.1.1.1.0),
@@ -81,13 +81,13 @@ returns c row vs left next light less crosses one =
     let s : ℕ = a.at in
     let h = st.pre.1.0 in
     let part : ℕ =
-    get_or a.known.now a.j 0 + firsts (bringsBut a.l a.y.now a.t6 a.j left s) a.t6.n in
+    get_or a.known.now a.j 0 + firsts (brings_but a.l a.y.now a.t6 a.j left s) a.t6.n in
     let last : next s ≡ left s - 1 = omega (arith, one.0) in
     c.repairs-some.ensures (left s) (value_at a.l a.t6 vs a.j s) (part % modulus a.l)
     (omega (arith, one.0)) (less s h)
     (record {
       low = mod-lt part (omega arith);
-      among = (made k).fill-sums.ensures left (read-but crosses a.t7 s less one.1);
+      among = (made k).fill-sums.ensures left (read_but crosses a.t7 s less one.1);
       small = crosses.small s h;
       readable = rw last at (crosses-readable crosses s h);
       loses = crosses.loses s h ∙ omega (arith, one.0);

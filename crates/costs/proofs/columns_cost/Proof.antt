@@ -7,12 +7,12 @@ use mathlib.Core.List.{List}
 use native.Mathlib.Omega.{arith}
 use borrow.Author.Rules.{rules}
 use lib.ListN.{length}
-use Rattle.bits.specs.Bits.{mostInLine}
-use Rattle.message.proofs.Legal.{legal-bounds, sizes}
+use Rattle.bits.specs.Bits.{most_in_line}
+use Rattle.message.proofs.Legal.{legal_bounds, sizes}
 use Rattle.states.specs.States.{each, firsts}
 use Rattle.column.specs.Column.{Light}
 use Rattle.marks.specs.Marks.{Path}
-use Rattle.costs.proofs.Costs.{firsts-fall}
+use Rattle.costs.proofs.Costs.{firsts_fall}
 use Rattle.costs.proofs.columns_cost.Statement.{statement}
 use Rattle.costs.proofs.columns_cost.Tie as tie
 
@@ -38,8 +38,8 @@ abbrev turn : tie.After-cost invariant-loop decreases-loop → tie.In-loop invar
 turn c = c.before.before.before
 
 -- there are few columns
-few : (s : tie.Start invariant-loop decreases-loop) → s.args.l.l2 ≤ mostInLine
-few s = (sizes s.args.l (legal-bounds s.args.l s.requires.0.allowed)).l2-high
+few : (s : tie.Start invariant-loop decreases-loop) → s.args.l.l2 ≤ most_in_line
+few s = (sizes s.args.l (legal_bounds s.args.l s.requires.0.allowed)).l2_high
 
 -- behind the column, what is passed and what is left is no more than all losses
 spent : (c : tie.After-cost invariant-loop decreases-loop) → let p = (turn c).before in
@@ -68,7 +68,7 @@ loop-holds c =
           λ s h. omega (arith, path.starts s h),
           omega (
             arith,
-            firsts-fall (each a.size) (own 0) a.heavy.n (λ s h. omega (arith, path.starts s h)),
+            firsts_fall (each a.size) (own 0) a.heavy.n (λ s h. omega (arith, path.starts s h)),
           ),
         ),
       ),

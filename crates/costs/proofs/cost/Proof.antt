@@ -6,7 +6,7 @@ use native.Mathlib.Omega.{arith}
 use borrow.Author.Rules.{rules}
 use Rattle.states.specs.States.{each, firsts}
 use Rattle.column.specs.Column.{Light, Crosses}
-use Rattle.costs.proofs.Costs.{costs-none, costs-one, costs-two}
+use Rattle.costs.proofs.Costs.{costs_none, costs_one, costs_two}
 use Rattle.costs.proofs.cost.Statement.{statement}
 use Rattle.costs.proofs.cost.Tie as tie
 
@@ -25,7 +25,7 @@ fewer : (c : tie.Else1) → let a = (start (told c)).args in
     → firsts next a.heavy.n + 1 ≤ firsts left a.heavy.n
 fewer c row vs left next light less crosses =
     let w = (told c).can-be-whole in
-    costs-one crosses w.result (w.ensures row vs left next light less crosses) c.if1.false
+    costs_one crosses w.result (w.ensures row vs left next light less crosses) c.if1.false
 
 can-be-whole-requires : tie.Need-can-be-whole-requires
 can-be-whole-requires c κs = search rules
@@ -37,7 +37,7 @@ same-length-2 : tie.Need-same-length-2
 same-length-2 c = search rules
 
 returns : tie.Need-returns
-returns c = (omega arith, λ row vs left next light less crosses. costs-none crosses)
+returns c = (omega arith, λ row vs left next light less crosses. costs_none crosses)
 
 same-length-3 : tie.Need-same-length-3
 same-length-3 c = search rules
@@ -76,7 +76,7 @@ returns-4 c =
     let e = o.before.before.before.before in (
       omega arith,
       λ row vs left next light less crosses.
-          costs-two crosses o.can-lose-one.result (o.can-lose-one.ensures row vs left next light less crosses)
+          costs_two crosses o.can-lose-one.result (o.can-lose-one.ensures row vs left next light less crosses)
           c.if3.false (fewer e row vs left next light less crosses),
     )
 

@@ -4,8 +4,8 @@ use Prim.Native.Nat.{◌*◌, ◌≤◌}
 use native.Mathlib.Omega.{arith}
 use borrow.Author.Rules.{rules}
 use borrow.Author.Tests.{le-leb}
-use Rattle.bits.specs.Bits.{longestLine}
-use Rattle.message.proofs.Legal.{string-high}
+use Rattle.bits.specs.Bits.{longest_line}
+use Rattle.message.proofs.Legal.{string_high}
 use Rattle.costs.proofs.enough.Statement.{statement}
 use Rattle.costs.proofs.enough.Tie as tie
 
@@ -21,8 +21,8 @@ abbrev asked : tie.Else2 → tie.After-columns-cost
 asked c = c.before.before.before.before
 
 -- the modulus is small
-high : (s : tie.Start) → s.args.l.l1 * s.args.l.nc ≤ longestLine
-high s = string-high s.args.l s.requires.0.allowed
+high : (s : tie.Start) → s.args.l.l1 * s.args.l.nc ≤ longest_line
+high s = string_high s.args.l s.requires.0.allowed
 
 all-losses-requires : tie.Need-all-losses-requires
 all-losses-requires c κs = search rules

@@ -10,14 +10,14 @@ use native.Mathlib.Numerals.{add-one}
 use native.Mathlib.Omega.{arith}
 use borrow.Author.Rules.{rules}
 use lib.ListN.{length, get_or}
-use Rattle.bits.specs.Bits.{longestLine}
-use Rattle.message.proofs.Legal.{string-high}
+use Rattle.bits.specs.Bits.{longest_line}
+use Rattle.message.proofs.Legal.{string_high}
 use Rattle.states.specs.States.{firsts}
-use Rattle.whole.specs.Whole.{modulus, bringsIn}
+use Rattle.whole.specs.Whole.{modulus, brings_in}
 use Rattle.sets.specs.Sets.{Twice}
-use Rattle.sets.proofs.Sets.{next-in}
-use Rattle.costs.specs.Costs.{ReadBut, bringsBut}
-use Rattle.costs.proofs.Costs.{but-own, but-other}
+use Rattle.sets.proofs.Sets.{next_in}
+use Rattle.costs.specs.Costs.{ReadBut, brings_but}
+use Rattle.costs.proofs.Costs.{but_own, but_other}
 use Rattle.costs.proofs.fill_sums.Statement.{statement}
 use Rattle.costs.proofs.fill_sums.Tie as tie
 
@@ -25,7 +25,7 @@ abbrev invariant-loop : tie.invariant-loop
 invariant-loop l y totals counts known j but set₀ other₀ heavy size n m first s₀ set other s =
     ((s ≤ n) × ((length set ≡ length set₀) × (length other ≡ length other₀)))
     × ((left : ℕ → ℕ) → ReadBut l (length y) heavy size j left but s
-    → Twice (modulus l) set ((get_or known j 0 + firsts (bringsBut l y heavy j left but) s) % modulus l))
+    → Twice (modulus l) set ((get_or known j 0 + firsts (brings_but l y heavy j left but) s) % modulus l))
 
 abbrev decreases-loop : tie.decreases-loop
 decreases-loop l y totals counts known j but set₀ other₀ heavy size n m first s₀ set other s = n - s
@@ -42,8 +42,8 @@ abbrev begin : tie.After-slice-known3 invariant-loop decreases-loop → tie.Star
 begin c = entry (first c).before.before.before
 
 -- the modulus is small
-high : (s : tie.Start invariant-loop decreases-loop) → s.args.l.l1 * s.args.l.nc ≤ longestLine
-high s = string-high s.args.l s.requires.0.0
+high : (s : tie.Start invariant-loop decreases-loop) → s.args.l.l1 * s.args.l.nc ≤ longest_line
+high s = string_high s.args.l s.requires.0.0
 
 -- the sets are as long as at the start
 long : (c : tie.At-loop invariant-loop decreases-loop) → let a = (begin c.before).args in
@@ -117,7 +117,7 @@ loop-again c =
     let m : ℕ = modulus a.l in
     let s : ℕ = p.loop.s in
     let i = p.loop.invariant in
-    let gain : (ℕ → ℕ) → ℕ → ℕ = λ left. bringsBut a.l a.y.now a.t5 a.j left a.but in (
+    let gain : (ℕ → ℕ) → ℕ → ℕ = λ left. brings_but a.l a.y.now a.t5 a.j left a.but in (
       (
         omega (arith, t.loop-test.true),
         (
@@ -132,12 +132,12 @@ loop-again c =
           (⊎_elim
           (λ w. let own = read s (omega arith) w.0.taken in
           let moved = w.5.ensures (left s) own.0 own.1 in
-          let e = but-other a.l a.y.now a.t5 a.j left a.but s w.0.taken in
+          let e = but_other a.l a.y.now a.t5 a.j left a.but s w.0.taken in
           subst Holds (sym w.10)
           (rw e
-          (next-in m known (firsts (gain left) s) (bringsIn a.l a.y.now a.t5 a.j left s) p.loop.set
+          (next_in m known (firsts (gain left) s) (brings_in a.l a.y.now a.t5 a.j left s) p.loop.set
           w.5.last.1.1.1.1.1.1.1.1.0 (omega arith) moved was)))
-          (λ w. let e : gain left s ≡ 0 = rw w.0.left (but-own a.l a.y.now a.t5 a.j left a.but) in
+          (λ w. let e : gain left s ≡ 0 = rw w.0.left (but_own a.l a.y.now a.t5 a.j left a.but) in
           let z : known + (firsts (gain left) s + 0) ≡ known + firsts (gain left) s = omega arith in
           subst Holds (sym w.1) (rw (e, z) was))
           c.if1.branch),

@@ -8,13 +8,13 @@ use native.Mathlib.Omega.{arith}
 use borrow.Author.Rules.{rules}
 use borrow.Author.Tests.{not-true, not-false}
 use lib.ListN.{length}
-use Rattle.bits.specs.Bits.{digits, longestLine}
+use Rattle.bits.specs.Bits.{digits, longest_line}
 use Rattle.vt.specs.Ones.{ones}
 use Rattle.vt.specs.Sum.{total}
-use Rattle.message.proofs.Legal.{Bounds, legal-bounds, chunk_lies, string-high}
+use Rattle.message.proofs.Legal.{Bounds, legal_bounds, chunk_lies, string_high}
 use Rattle.column.specs.Column.{start_at}
 use Rattle.costs.specs.Costs.{Repairs}
-use Rattle.costs.proofs.OneLost.{lost-between, brings-between}
+use Rattle.costs.proofs.OneLost.{lost_between, brings_between}
 use Rattle.costs.proofs.repairs.Statement.{statement}
 use Rattle.costs.proofs.repairs.Tie as tie
 
@@ -49,21 +49,21 @@ turn c = c.before.before.before
 
 -- the layout is legal
 bounds : (s : tie.Start invariant-loop decreases-loop) → Bounds s.args.l
-bounds s = legal-bounds s.args.l s.requires.0.allowed
+bounds s = legal_bounds s.args.l s.requires.0.allowed
 
 -- the modulus is small
-high : (s : tie.Start invariant-loop decreases-loop) → s.args.l.l1 * s.args.l.nc ≤ longestLine
-high s = string-high s.args.l s.requires.0.allowed
+high : (s : tie.Start invariant-loop decreases-loop) → s.args.l.l1 * s.args.l.nc ≤ longest_line
+high s = string_high s.args.l s.requires.0.allowed
 
 -- the positions before the chunk are few
 before-low : (c : tie.Else1 invariant-loop decreases-loop) → let o = place c in
-    (known o).wide.result * (begin o).args.l.nc ≤ longestLine
+    (known o).wide.result * (begin o).args.l.nc ≤ longest_line
 before-low c =
     let o = place c in
     let a = (begin o).args in
     let p = (begin o).pre.0 in
-    subst (λ (i : ℕ). i * a.l.nc ≤ longestLine) (sym (known o).wide.ensures)
-    (chunk_lies a.l p.allowed a.block a.j p.inside p.column).in-string
+    subst (λ (i : ℕ). i * a.l.nc ≤ longest_line) (sym (known o).wide.ensures)
+    (chunk_lies a.l p.allowed a.block a.j p.inside p.column).in_string
 
 wide-requires : tie.Need-wide-requires invariant-loop decreases-loop
 wide-requires c κs = search rules
@@ -89,10 +89,10 @@ placed c =
     let s = begin o in
     let e = o.place_of.ensures in
     let ok : o.place_of.result.ok ≡ true = not-false _ c.if1.false in
-    (e.at-just ok, omega (arith, e.within ok, e.lost-just ok, s.pre.1.0, (bounds s).nc-low))
+    (e.at_just ok, omega (arith, e.within ok, e.lost_just ok, s.pre.1.0, (bounds s).nc_low))
 
 sub-look : tie.Need-overflow-sub-look invariant-loop decreases-loop
-sub-look c = omega (arith, (bounds (begin (place c))).nc-low)
+sub-look c = omega (arith, (bounds (begin (place c))).nc_low)
 
 look-requires : tie.Need-look-requires invariant-loop decreases-loop
 look-requires c κs =
@@ -100,7 +100,7 @@ look-requires c κs =
     (p.bits, (p.short, (p.tables, (placed c).1)))
 
 sub-more-ones : tie.Need-overflow-sub-more-ones invariant-loop decreases-loop
-sub-more-ones c = omega (arith, (bounds (begin (place c.before))).nc-low)
+sub-more-ones c = omega (arith, (bounds (begin (place c.before))).nc_low)
 
 more-ones-requires : tie.Need-more-ones-requires invariant-loop decreases-loop
 more-ones-requires c κs =
@@ -114,7 +114,7 @@ between : (c : tie.After-more-ones invariant-loop decreases-loop) → let e = c.
     × (ones (digits a.l.nc v) ≤ c.before.look.result.ones + c.more-ones.result.last)
 between c v part r =
     let e = c.before.before in
-    lost-between r (omega (arith, (bounds (begin (place e))).nc-low)) _ (placed e).0 c.before.look.ensures
+    lost_between r (omega (arith, (bounds (begin (place e))).nc_low)) _ (placed e).0 c.before.look.ensures
     c.more-ones.ensures
 
 loop-holds : tie.Need-loop-init invariant-loop decreases-loop
@@ -128,13 +128,13 @@ widen-requires c κs =
     let p = c.before in
     let s = begin (place (found p)) in
     let i = (looked p).look.ensures in
-    let few = (bounds s).nc-high in
+    let few = (bounds s).nc_high in
     let keeps : s.args.l.nc - 1 ≤ 8 = omega arith in
     let low : (looked p).look.result.total ≤ 64 = omega (arith, i.positions-small, mul-le-mul keeps keeps) in (
       (few, before-low (found p)),
       (
         (
-          omega (arith, i.count_small, (bounds s).nc-low),
+          omega (arith, i.count_small, (bounds s).nc_low),
           (low, omega (arith, c.loop-test.true, p.before.more-ones.ensures.few)),
         ),
         (omega arith, omega arith),
@@ -178,10 +178,10 @@ loop-again c v part r =
     let b = total (a.block * a.l.nc + 1) d in
     let just : ones d ≡ (looked p).look.result.ones + p.loop.g → ⊥ =
     λ q.
-    let i = brings-between r (omega (arith, (bounds s).nc-low)) _ (placed e).0 (looked p).look.ensures
+    let i = brings_between r (omega (arith, (bounds s).nc_low)) _ (placed e).0 (looked p).look.ensures
     (known (place e)).wide.result p.loop.g _ w.widen.result (known (place e)).wide.ensures refl refl q
     w.widen.ensures in
-    false≢true (sym c.if2.false ∙ m.makes-up.ensures part b r.low r.among i.0 i.1 r.hits) in
+    false≢true (sym c.if2.false ∙ m.makes_up.ensures part b r.low r.among i.0 i.1 r.hits) in
     omega (arith, p.loop.inv v part r, just)
 
 returns-3 : tie.Need-returns-3 invariant-loop decreases-loop

@@ -3,8 +3,8 @@ use Prim.Native.Nat.{ℕ, ◌*◌, ◌%◌, ◌≤◌}
 use mathlib.Core.Path.{ap}
 use native.Mathlib.Omega.{arith}
 use borrow.Author.Rules.{rules}
-use Rattle.bits.specs.Bits.{longestLine}
-use Rattle.message.proofs.Legal.{string-high}
+use Rattle.bits.specs.Bits.{longest_line}
+use Rattle.message.proofs.Legal.{string_high}
 use Rattle.whole.specs.Whole.{modulus}
 use Rattle.costs.proofs.residue.Statement.{statement}
 use Rattle.costs.proofs.residue.Tie as tie
@@ -13,8 +13,8 @@ use Rattle.costs.proofs.residue.Tie as tie
 abbrev start : tie.After-struct-known → tie.Start
 start c = c.before.before.before.before
 
-high : (c : tie.After-struct-known) → let l = (start c).args.l in l.l1 * l.nc ≤ longestLine
-high c = string-high (start c).args.l (start c).requires.0.allowed
+high : (c : tie.After-struct-known) → let l = (start c).args.l in l.l1 * l.nc ≤ longest_line
+high c = string_high (start c).args.l (start c).requires.0.allowed
 
 mul-m : tie.Need-overflow-mul-m
 mul-m c = omega (arith, high c)

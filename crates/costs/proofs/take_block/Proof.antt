@@ -3,7 +3,7 @@ use Prim.Native.Nat.{ℕ}
 use native.Mathlib.Omega.{arith}
 use borrow.Author.Rules.{rules}
 use Rattle.whole.specs.Whole.{modulus, brings}
-use Rattle.sets.proofs.Sets.{moved-over}
+use Rattle.sets.proofs.Sets.{moved_over}
 use Rattle.costs.proofs.take_block.Statement.{statement}
 use Rattle.costs.proofs.take_block.Tie as tie
 
@@ -43,7 +43,7 @@ returns c =
     let a = (start b).args in
     let gain : ℕ → ℕ = brings a.l a.y.now a.block a.end a.j in
     λ e h legible.
-    moved-over (modulus a.l) (gain e) a.set.now b.add-block.last.1.1.1.1.1.1.1.1.1.0
+    moved_over (modulus a.l) (gain e) a.set.now b.add-block.last.1.1.1.1.1.1.1.1.1.0
     o.take-over.new.1.0 (omega arith) o.take-over.ensures (b.add-block.ensures e h legible)
 
 pub take-block-spec : {M : Type 1} → statement M

@@ -2,7 +2,7 @@
 use borrow.Author.Rules.{rules}
 use mathlib.Core.Path.{sym, ap, ◌∙◌}
 use Rattle.lister.specs.Answer.{listed_of}
-use Rattle.dairyhour.proofs.Refusing.{listRefusedBy}
+use Rattle.dairyhour.proofs.Refusing.{list_refused_by}
 use Rattle.dairyhour.proofs.dh_list.Statement.{statement}
 use Rattle.dairyhour.proofs.dh_list.Tie as tie
 
@@ -33,7 +33,7 @@ returns-2 : tie.Need-returns-2
 returns-2 c =
     let k = c.before.before.before.before.before.before in
     let e = c.before.before.answer2.given.1 in
-    (ap listRefusedBy c.number.ensures ∙ ap listed_of (sym e) ∙ k.list.ensures.0, k.list.ensures.1)
+    (ap list_refused_by c.number.ensures ∙ ap listed_of (sym e) ∙ k.list.ensures.0, k.list.ensures.1)
 
 pub dh-list-spec : {M : Type 1} → statement M
 dh-list-spec =

@@ -2,7 +2,7 @@
 use borrow.Author.Rules.{rules}
 use mathlib.Core.Path.{sym, ap, ◌∙◌}
 use Rattle.message.specs.Read.{read_of}
-use Rattle.dairyhour.proofs.Refusing.{layoutRefusedBy}
+use Rattle.dairyhour.proofs.Refusing.{layout_refused_by}
 use Rattle.dairyhour.proofs.dh_read.Statement.{statement}
 use Rattle.dairyhour.proofs.dh_read.Tie as tie
 
@@ -33,7 +33,7 @@ returns-2 : tie.Need-returns-2
 returns-2 c =
     let k = c.before.before.before.before.before.before in
     let e = c.before.before.answer2.given.1 in
-    (ap layoutRefusedBy c.number.ensures ∙ ap read_of (sym e) ∙ k.read.ensures.0, k.read.ensures.1)
+    (ap layout_refused_by c.number.ensures ∙ ap read_of (sym e) ∙ k.read.ensures.0, k.read.ensures.1)
 
 pub dh-read-spec : {M : Type 1} → statement M
 dh-read-spec =

@@ -2,7 +2,7 @@
 use borrow.Author.Rules.{rules}
 use mathlib.Core.Path.{sym, ap, ◌∙◌}
 use Rattle.message.specs.Write.{written_of}
-use Rattle.dairyhour.proofs.Refusing.{refusedBy}
+use Rattle.dairyhour.proofs.Refusing.{refused_by}
 use Rattle.dairyhour.proofs.dh_write.Statement.{statement}
 use Rattle.dairyhour.proofs.dh_write.Tie as tie
 
@@ -33,7 +33,7 @@ returns-2 : tie.Need-returns-2
 returns-2 c =
     let k = c.before.before.before.before.before.before in
     let e = c.before.before.answer2.given.1 in
-    (ap refusedBy c.number.ensures ∙ ap written_of (sym e) ∙ k.write.ensures.0, k.write.ensures.1)
+    (ap refused_by c.number.ensures ∙ ap written_of (sym e) ∙ k.write.ensures.0, k.write.ensures.1)
 
 pub dh-write-spec : {M : Type 1} → statement M
 dh-write-spec =

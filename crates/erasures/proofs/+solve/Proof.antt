@@ -7,9 +7,9 @@ use borrow.Author.Rules.{rules}
 use lib.ListN.{get_or}
 use Rattle.bits.proofs.Laws.{bit_at}
 use Rattle.field.specs.Field.{power}
-use Rattle.field.proofs.Double.{power-element}
+use Rattle.field.proofs.Double.{power_element}
 use Rattle.erasures.specs.Erasures.{scaled}
-use Rattle.erasures.proofs.Erasures.{brings-next, scaled-contents}
+use Rattle.erasures.proofs.Erasures.{brings-next, scaled_contents}
 use borrow.Fn.Kinds.{In}
 use borrow.Fn.PlainCycle.{Measures, is, falls, and}
 use Rattle.erasures.proofs.solve.Reads as solve
@@ -49,7 +49,7 @@ solve-returns t c =
     let b = c.before.before in
     let p = b.requires.1 in
     let z : List ℕ = 0 ∷ 0 ∷ 0 ∷ 0 ∷ 0 ∷ 0 ∷ 0 ∷ 0 ∷ 0 ∷ 0 ∷ 0 ∷ 0 ∷ [] in (
-      λ k. omega (arith, bit_at z (omega arith) k, power-element b.args.nc p.0.1 p.0.2 0),
+      λ k. omega (arith, bit_at z (omega arith) k, power_element b.args.nc p.0.1 p.0.2 0),
       λ e he h w l m. absurd (omega (arith, c.if1.true)),
     )
 
@@ -107,7 +107,7 @@ solve-returns-2 t c =
       c.settle.ensures.0,
       λ e he h. c.settle.ensures.1 e he
           (λ w l m. c.before.solve.ensures.1 (scaled a.nc place e a.u)
-          (scaled-contents a.nc lo hi place e he a.u)
+          (scaled_contents a.nc lo hi place e he a.u)
           (brings-next a.nc lo hi place e he a.t7 left.result a.n a.u less h
           (λ i l. rw is at (left.ensures.1 i l))) w (omega arith) m)
           (h 0 (omega arith)),

@@ -4,8 +4,8 @@ use Prim.Native.Nat.{ℕ, ◌-◌}
 use mathlib.Core.Path.{ap, ◌∙◌}
 use borrow.Author.Rules.{rules}
 use Rattle.field.specs.Field.{power, times}
-use Rattle.field.proofs.Times.{times-element}
-use Rattle.erasures.proofs.Erasures.{quotient-one, quotient}
+use Rattle.field.proofs.Times.{times_element}
+use Rattle.erasures.proofs.Erasures.{quotient_one, quotient}
 use Rattle.erasures.proofs.divide.Statement.{statement}
 use Rattle.erasures.proofs.divide.Tie as tie
 
@@ -18,7 +18,7 @@ returns c =
     let a = s.args in
     let p = s.requires in
     let one = rw c.if1.true at c.before.log-of.ensures.1 in
-    (p.1.0, λ e he h. quotient-one a.nc p.0.1 p.0.2 a.x a.d e one h)
+    (p.1.0, λ e he h. quotient_one a.nc p.0.1 p.0.2 a.x a.d e one h)
 
 order-requires : tie.Need-order-requires
 order-requires c κs = search rules
@@ -38,7 +38,7 @@ returns-2 c =
     let r = c.shift in
     let is =
     r.ensures ∙ ap (λ (n : ℕ). times a.nc (power a.nc (n - g.result)) a.x) c.before.order.ensures in (
-      rw r.ensures (times-element a.nc p.0.1 p.0.2 _ a.x p.1.0),
+      rw r.ensures (times_element a.nc p.0.1 p.0.2 _ a.x p.1.0),
       λ e he h. quotient a.nc p.0.1 p.0.2 a.x a.d e g.result r.result he g.ensures.0
           g.ensures.1 is h,
     )

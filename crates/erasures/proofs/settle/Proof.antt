@@ -6,7 +6,7 @@ use borrow.Author.Rules.{rules}
 use lib.Bits.{bit_xor, xor_lt}
 use lib.ListN.{length, get_or, length-set}
 use Rattle.field.specs.Field.{Element, Elements, power, times}
-use Rattle.erasures.proofs.Erasures.{set-each, divisor, Settled, settled-start, settled-next, settled-end}
+use Rattle.erasures.proofs.Erasures.{set-each, divisor, Settled, settled_start, settled_next, settled_end}
 use Rattle.erasures.proofs.settle.Statement.{statement}
 use Rattle.erasures.proofs.settle.Tie as tie
 
@@ -45,7 +45,7 @@ loop-holds c =
     let own : c.entry.result ≡ power a.nc (get_or a.t4 a.u 0) =
     c.entry.ensures ∙ ap (power a.nc) c.before.wide.ensures
     in
-    let first = settled-start a.nc p.0.1 p.0.2 (place b) a.n a.u a.first a.t8 in
+    let first = settled_start a.nc p.0.1 p.0.2 (place b) a.n a.u a.first a.t8 in
     (search rules, (own, ((p.1.4, p.1.3), first)))
 
 array-read-divide : tie.Need-array-read-divide invariant-loop decreases-loop
@@ -103,7 +103,7 @@ loop-again c =
     in
     let low : o.z < length o.out = omega (arith, p.1.1) in
     let next =
-    settled-next a.nc p.0.1 p.0.2 (place b) a.n a.u a.first a.t8 o.out o.sum o.z v
+    settled_next a.nc p.0.1 p.0.2 (place b) a.n a.u a.first a.t8 o.out o.sum o.z v
     o.invariant.0.0.0 t low
     (λ x hx h. c.divide.ensures.1 x hx
     (h ∙ ap (λ (d : ℕ). times a.nc d x) (ap₂ bit_xor (sym is) (sym o.invariant.1.0))))
@@ -126,7 +126,7 @@ returns c =
     let low : a.u < length o.out = omega (arith, p.1.0, p.1.1) in
     let i = o.invariant.1.1 in (
       set-each (λ (k x : ℕ). Element a.nc x) o.out a.u o.sum low (λ k n. i.0.0 k) i.0.1,
-      settled-end a.nc p.0.1 p.0.2 (place b) a.n a.u a.first a.t8 o.out o.sum o.z
+      settled_end a.nc p.0.1 p.0.2 (place b) a.n a.u a.first a.t8 o.out o.sum o.z
           c.loop-test.false p.1.0 low i.1,
     )
 

@@ -7,7 +7,7 @@ use lib.Bits.{bit_xor, xor_lt}
 use lib.ListN.{length, get_or}
 use native.Mathlib.Omega.{arith}
 use Rattle.field.specs.Field.{Element, Elements, power, times}
-use Rattle.field.proofs.Times.{times-element}
+use Rattle.field.proofs.Times.{times_element}
 use Rattle.erasures.specs.Erasures.{without}
 use Rattle.erasures.proofs.Erasures.{set-each}
 use Rattle.erasures.proofs.take_out.Statement.{statement}
@@ -67,7 +67,7 @@ loop-again c =
     rw (e, c.shift.ensures) refl
     in
     let product : Element a.nc (times a.nc (power a.nc a.c) (get_or a.t6 (i - 1) 0)) =
-    times-element a.nc p.0.1 p.0.2 (power a.nc a.c) (get_or a.t6 (i - 1) 0) (p.1.2 (i - 1))
+    times_element a.nc p.0.1 p.0.2 (power a.nc a.c) (get_or a.t6 (i - 1) 0) (p.1.2 (i - 1))
     in
     let element : Element a.nc v =
     rw c.shift.ensures (xor_lt a.nc (get_or a.t6 i 0) _ (p.1.2 i) product) in (

@@ -7,7 +7,7 @@ use native.Mathlib.Omega.{arith}
 use borrow.Author.Count.{below_more}
 use borrow.Author.Rules.{rules}
 use lib.ListN.{length, get_or}
-use Rattle.message.proofs.Legal.{legal-bounds, sizes}
+use Rattle.message.proofs.Legal.{legal_bounds, sizes}
 use Rattle.states.specs.States.{lefts}
 use Rattle.far.specs.Far.{Covered, block_at}
 use Rattle.far.proofs.Walks.{covered-kept}
@@ -27,8 +27,8 @@ abbrev begin : tie.At-loop invariant-loop decreases-loop → tie.Start invariant
 begin c = c.before.before.before.before.before.before
 
 -- the table of a block ends where that of the next one starts
-next-block : (columns s n : ℕ) → s < n → block_at columns s + (columns + 1) * lefts ≤ block_at columns n
-next-block columns s n h = omega (arith, mul-le-mul_right {m = s + 1} {n = n} ((columns + 1) * lefts) (omega arith))
+next_block : (columns s n : ℕ) → s < n → block_at columns s + (columns + 1) * lefts ≤ block_at columns n
+next_block columns s n h = omega (arith, mul-le-mul_right {m = s + 1} {n = n} ((columns + 1) * lefts) (omega arith))
 
 add-stride : tie.Need-overflow-add-stride invariant-loop decreases-loop
 add-stride c = search rules
@@ -36,7 +36,7 @@ add-stride c = search rules
 mul-stride : tie.Need-overflow-mul-stride invariant-loop decreases-loop
 mul-stride c =
     let s = c.before.before.before.before.before in
-    record { fits = omega (arith, (sizes s.args.l (legal-bounds s.args.l s.requires.0.allowed)).l2-high) }
+    record { fits = omega (arith, (sizes s.args.l (legal_bounds s.args.l s.requires.0.allowed)).l2_high) }
 
 loop-holds : tie.Need-loop-init invariant-loop decreases-loop
 loop-holds c = ((omega arith, refl), λ k h. absurd (omega arith))
@@ -56,7 +56,7 @@ mul-sweep c =
         arith,
         s.pre.1.1.1,
         s.good.1.1.1.1.1.1.1.0,
-        next-block s.args.l.l2 p.loop.s s.args.heavy.n c.before.loop-test.true,
+        next_block s.args.l.l2 p.loop.s s.args.heavy.n c.before.loop-test.true,
       );
     }
 
@@ -75,7 +75,7 @@ sweep-requires c κs =
         others = s.pre.1.0;
         small = omega (arith, c.before.wide.ensures, s.pre.1.1.0 p.loop.s h);
       },
-      omega (arith, next-block s.args.l.l2 p.loop.s s.args.heavy.n h, s.pre.1.1.1, p.loop.invariant.0.1),
+      omega (arith, next_block s.args.l.l2 p.loop.s s.args.heavy.n h, s.pre.1.1.1, p.loop.invariant.0.1),
     )
 
 add-s : tie.Need-overflow-add-s invariant-loop decreases-loop
@@ -99,7 +99,7 @@ loop-again c =
           covered-kept a.l a.y.now a.heavy a.z.now k (get_or a.t6 k 0) a.ahead (block_at a.l.l2 k)
           (s.pre.1.1.0 k (omega (arith, h))) a.l.l2 (omega arith) p.loop.table
           c.before.before.sweep.new.1.1.1.1.1.1.1.1.0
-          (λ u m. d.before u (omega (arith, m, next-block a.l.l2 k p.loop.s r))) (i.1 k r))
+          (λ u m. d.before u (omega (arith, m, next_block a.l.l2 k p.loop.s r))) (i.1 k r))
           (rw v.wide.ensures at d.covered),
     )
 

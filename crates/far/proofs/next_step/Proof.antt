@@ -7,10 +7,10 @@ use mathlib.Core.List.{List}
 use native.Mathlib.Omega.{arith}
 use borrow.Author.Rules.{rules}
 use lib.ListN.{length, get_or}
-use Rattle.bits.specs.Bits.{mostInLine}
-use Rattle.message.proofs.Legal.{legal-bounds, sizes}
-use Rattle.far.specs.Far.{stepAt}
-use Rattle.far.proofs.Walks.{Stepping, stepping-first, stepping-next, stepping-last}
+use Rattle.bits.specs.Bits.{most_in_line}
+use Rattle.message.proofs.Legal.{legal_bounds, sizes}
+use Rattle.far.specs.Far.{step_at}
+use Rattle.far.proofs.Walks.{Stepping, stepping_first, stepping_next, stepping_last}
 use Rattle.far.proofs.next_step.Statement.{statement}
 use Rattle.far.proofs.next_step.Tie as tie
 
@@ -26,15 +26,15 @@ here-is : (c : tie.After-step-apart invariant-loop decreases-loop) → let p = c
     let s = p.before.before.before.before in
     let at = s.args.at + s.args.t * 13 + p.loop.w in
     (get_or p.loop.table at 0 ≡ get_or s.args.table.now at 0)
-    × ((get_or s.args.table.now at 0 ≤ s.args.t) × (s.args.t < mostInLine))
+    × ((get_or s.args.table.now at 0 ≤ s.args.t) × (s.args.t < most_in_line))
 here-is c =
     let p = c.before.before.before in
     let s = p.before.before.before.before in
     let f = s.requires.0 in
     let h = c.before.before.loop-test.true in
-    let b = sizes s.args.l (legal-bounds s.args.l f.allowed) in (
+    let b = sizes s.args.l (legal_bounds s.args.l f.allowed) in (
       p.loop.invariant.before _ (omega (arith, f.small, h)),
-      (s.requires.1.1.1 p.loop.w h, omega (arith, s.requires.1.0, b.l2-high)),
+      (s.requires.1.1.1 p.loop.w h, omega (arith, s.requires.1.0, b.l2_high)),
     )
 
 mul-from : tie.Need-overflow-mul-from invariant-loop decreases-loop
@@ -47,7 +47,7 @@ add-to : tie.Need-overflow-add-to invariant-loop decreases-loop
 add-to c = search rules
 
 loop-holds : tie.Need-loop-init invariant-loop decreases-loop
-loop-holds c = stepping-first _ _ _ _ _ _ _ _ _ _
+loop-holds c = stepping_first _ _ _ _ _ _ _ _ _ _
 
 add-here : tie.Need-overflow-add-here invariant-loop decreases-loop
 add-here c = search rules
@@ -88,10 +88,10 @@ loop-again c =
     let p = d.before.before.before in
     let s = p.before.before.before.before in
     let k = here-is d in
-    let next : stepAt s.args.at (s.args.t + 1) + p.loop.w
+    let next : step_at s.args.at (s.args.t + 1) + p.loop.w
     ≡ s.args.at + s.args.t * 13 + 13 + p.loop.w = omega arith in
     rw (← next)
-    (stepping-next _ _ _ _ _ _ _ _ _ _ p.loop.table p.loop.most p.loop.w d.step-apart.result _ _
+    (stepping_next _ _ _ _ _ _ _ _ _ _ p.loop.table p.loop.most p.loop.w d.step-apart.result _ _
     s.requires.0.small
     (omega (arith, s.requires.1.1.0, p.loop.invariant.long)) d.before.before.loop-test.true p.loop.invariant k.1.0
     d.step-apart.ensures.0 d.step-apart.ensures.1 (rw k.0 at c.before.higher.ensures)
@@ -101,7 +101,7 @@ same_length : tie.Need-same-length invariant-loop decreases-loop
 same_length c = search rules
 
 returns : tie.Need-returns invariant-loop decreases-loop
-returns c = stepping-last _ _ _ _ _ _ _ _ _ _ _ _ _ (omega (arith, c.loop-test.false)) c.before.loop.invariant
+returns c = stepping_last _ _ _ _ _ _ _ _ _ _ _ _ _ (omega (arith, c.loop-test.false)) c.before.loop.invariant
 
 pub next-step-spec : {M : Type 1} → statement M
 next-step-spec =

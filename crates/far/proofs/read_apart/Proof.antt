@@ -7,9 +7,9 @@ use borrow.Author.Rules.{rules}
 use borrow.Author.Tests.{eq-eqb, not-true, not-false}
 use lib.Dec.{eqb}
 use lib.ListN.{length, get_or, drop}
-use Rattle.bits.specs.Bits.{mostChunks, number}
-use Rattle.message.proofs.Legal.{legal-bounds, chunk_lies}
-use Rattle.column.specs.Column.{chunkAt}
+use Rattle.bits.specs.Bits.{most_chunks, number}
+use Rattle.message.proofs.Legal.{legal_bounds, chunk_lies}
+use Rattle.column.specs.Column.{chunk_at}
 use Rattle.far.proofs.Unlost.{one-most}
 use Rattle.far.proofs.read_apart.Statement.{statement}
 use Rattle.far.proofs.read_apart.Tie as tie
@@ -57,10 +57,10 @@ wide-requires : tie.Need-wide-requires
 wide-requires c κs = search rules
 
 -- the chunk is one of the row's
-chunk-is : (c : tie.After-struct-known2) → let a = (begin (placed c)).args in
+chunk_is : (c : tie.After-struct-known2) → let a = (begin (placed c)).args in
     let i = c.before.wide.result * a.l.l2 + a.j in
-    (i ≡ chunkAt a.l a.t3 a.j a.s) × ((i < mostChunks) × (i < length a.z.now))
-chunk-is c =
+    (i ≡ chunk_at a.l a.t3 a.j a.s) × ((i < most_chunks) × (i < length a.z.now))
+chunk_is c =
     let s = begin (placed c) in
     let a = s.args in
     let f = s.pre.0 in
@@ -69,10 +69,10 @@ chunk-is c =
     (e, (rw e k.low, rw e (omega (arith, k.inside, f.others))))
 
 mul-c : tie.Need-overflow-mul-c
-mul-c c = omega (arith, (chunk-is c).1.0)
+mul-c c = omega (arith, (chunk_is c).1.0)
 
 add-c : tie.Need-overflow-add-c
-add-c c = omega (arith, (chunk-is c).1.0)
+add-c c = omega (arith, (chunk_is c).1.0)
 
 number-at-requires : tie.Need-number-at-requires
 number-at-requires c κs =
@@ -80,10 +80,10 @@ number-at-requires c κs =
     let f = (begin o).pre.0 in
     let place = o.place_of.ensures in
     let ok : o.place_of.result.ok ≡ true = not-false _ c.before.before.before.if1.false in
-    (f.bits, ((legal-bounds _ f.allowed).nc-high, omega (arith, place.within ok, place.lost-just ok)))
+    (f.bits, ((legal_bounds _ f.allowed).nc_high, omega (arith, place.within ok, place.lost_just ok)))
 
 shared-slice-read-if2 : tie.Need-shared-slice-read-if2
-shared-slice-read-if2 c = (chunk-is c.before.before).1.1
+shared-slice-read-if2 c = (chunk_is c.before.before).1.1
 
 returns-2 : tie.Need-returns-2
 returns-2 c =
@@ -91,15 +91,15 @@ returns-2 c =
     let k = n.before in
     let o = placed k in
     let a = (begin o).args in
-    let i = chunkAt a.l a.t3 a.j a.s in
+    let i = chunk_at a.l a.t3 a.j a.s in
     let at : ℕ = i * a.l.nc + a.e - get_or a.t3.end a.s 0 in
-    let here = o.place_of.ensures.at-just (not-false _ k.before.before.before.if1.false) in (
+    let here = o.place_of.ensures.at_just (not-false _ k.before.before.before.if1.false) in (
       omega arith,
       λ h.
           let is : number a.l.nc (drop at a.y.now) ≡ get_or a.z.now i 0 =
           ap (λ (v : ℕ). number a.l.nc (drop v a.y.now)) (sym here)
           ∙ sym n.number_at.ensures
-          ∙ (c.if2.true ∙ ap (λ (v : ℕ). get_or a.z.now v 0) (chunk-is k).0)
+          ∙ (c.if2.true ∙ ap (λ (v : ℕ). get_or a.z.now v 0) (chunk_is k).0)
           in
           rw (eq-eqb _ _ is) (omega arith),
     )
@@ -107,7 +107,7 @@ returns-2 c =
 returns-3 : tie.Need-returns-3
 returns-3 c =
     let a = (begin (placed c.before.before.before)).args in
-    let i = chunkAt a.l a.t3 a.j a.s in
+    let i = chunk_at a.l a.t3 a.j a.s in
     let at = i * a.l.nc + a.e - get_or a.t3.end a.s 0 in
     (omega arith, λ h. one-most (eqb (number a.l.nc (drop at a.y.now)) (get_or a.z.now i 0)))
 

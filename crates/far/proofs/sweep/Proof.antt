@@ -7,7 +7,7 @@ use native.Mathlib.Omega.{arith}
 use borrow.Author.Rules.{rules}
 use lib.ListN.{length, get_or}
 use Rattle.states.specs.States.{lefts}
-use Rattle.far.specs.Far.{stepAt, Covered}
+use Rattle.far.specs.Far.{step_at, Covered}
 use Rattle.far.proofs.Walks.{covered-first, covered_next}
 use Rattle.far.proofs.sweep.Statement.{statement}
 use Rattle.far.proofs.sweep.Tie as tie
@@ -16,7 +16,7 @@ abbrev invariant-loop : tie.invariant-loop
 invariant-loop l y heavy z s size ahead at table₀ columns t₀ table t =
     ((t ≤ columns) × (length table ≡ length table₀))
     × (((i : ℕ) → i < at → get_or table i 0 ≡ get_or table₀ i 0)
-    × (((w : ℕ) → w ≤ size → get_or table (stepAt at t + w) 0 ≤ t) × Covered l y heavy z s size ahead at t table))
+    × (((w : ℕ) → w ≤ size → get_or table (step_at at t + w) 0 ≤ t) × Covered l y heavy z s size ahead at t table))
 
 abbrev decreases-loop : tie.decreases-loop
 decreases-loop l y heavy z s size ahead at table₀ columns t₀ table t = columns - t
@@ -42,7 +42,7 @@ loop-holds c =
       (
         λ i h. refl,
         (
-          λ w h. let e : stepAt s.args.at 0 + w ≡ s.args.at + w = omega arith in rw e (omega (arith, f.1.1 w h)),
+          λ w h. let e : step_at s.args.at 0 + w ≡ s.args.at + w = omega arith in rw e (omega (arith, f.1.1 w h)),
           covered-first _ _ _ _ _ _ _ s.args.at s.pre.0.small c.before.before.first_step.new.1.1.0,
         ),
       ),

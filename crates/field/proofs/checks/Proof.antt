@@ -10,7 +10,7 @@ use lib.ListN.{length, get_or, length-set, get_or-replicate}
 use Rattle.field.specs.Exponents.{Exponents}
 use Rattle.field.specs.Field.{check, Checks}
 use Rattle.field.proofs.Double.{size_low, size-high}
-use Rattle.field.proofs.Terms.{AreTerms, exponents-none, exponents-take, terms-check, first-terms, next-terms, entries_next}
+use Rattle.field.proofs.Terms.{AreTerms, exponents-none, exponents-take, terms_check, first_terms, next_terms, entries_next}
 use Rattle.field.proofs.checks.Statement.{statement}
 use Rattle.field.proofs.checks.Tie as tie
 
@@ -68,7 +68,7 @@ loop-holds c =
       search rules,
       search rules,
       t.fill-terms.ensures.exponents,
-      first-terms s.args.nc s.pre.0.1 s.pre.0.2 t.fill-terms.result (places t) (exponents t),
+      first_terms s.args.nc s.pre.0.1 s.pre.0.2 t.fill-terms.result (places t) (exponents t),
       λ i h. absurd (omega arith),
     )
 
@@ -112,7 +112,7 @@ terms c =
     ⊎_elim
     (λ w. let raised = w.3.ensures in
     let next =
-    next-terms nc s.pre.0.1 s.pre.0.2 n (p.i - 1) p.i (places t) (exponents t) p.es
+    next_terms nc s.pre.0.1 s.pre.0.2 n (p.i - 1) p.i (places t) (exponents t) p.es
     w.3.last.1.1.1.0 (omega arith) p.invariant.4
     (λ k h. raised.1 k (omega (arith, r.eights.ensures.0))) in
     subst Are (sym w.5) (search rules, raised.0, next))
@@ -164,7 +164,7 @@ loop-again c =
     let Is : ℕ → ℕ → Type 0 = λ i v. v ≡ check a.nc i a.chunks.now in
     let sum =
     c.sum.ensures
-    ∙ terms-check a.nc n p.i a.chunks.now (places t) (exponents t) j.if1.es long
+    ∙ terms_check a.nc n p.i a.chunks.now (places t) (exponents t) j.if1.es long
     t.fill-terms.ensures q.2 in (
       simp length-set p.invariant.0,
       q.0,

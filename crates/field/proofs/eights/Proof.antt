@@ -1,6 +1,6 @@
 -- `field::eights` meets its contract: the size of the field is a multiple of 8. Assumes nothing.
 use native.Mathlib.Omega.{arith}
-use Rattle.field.proofs.Double.{size-high, size-eights}
+use Rattle.field.proofs.Double.{size-high, size_eights}
 use Rattle.field.proofs.eights.Statement.{statement}
 use Rattle.field.proofs.eights.Tie as tie
 
@@ -11,7 +11,7 @@ mul-result : tie.Need-overflow-mul-result
 mul-result c = record { fits = omega (arith, size-high c.args.nc c.requires.1) }
 
 returns : tie.Need-returns
-returns c = (omega arith, omega (arith, size-eights c.args.nc c.requires.0))
+returns c = (omega arith, omega (arith, size_eights c.args.nc c.requires.0))
 
 pub eights-spec : {M : Type 1} → statement M
 eights-spec = tie.close (tie.spec add-result mul-result returns)

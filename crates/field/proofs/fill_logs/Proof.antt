@@ -5,14 +5,14 @@ use mathlib.Core.Path.{◌≡◌, sym, ap, ◌∙◌, subst}
 use native.Mathlib.Omega.{arith}
 use lib.ListN.{length}
 use Rattle.field.specs.Field.{power}
-use Rattle.field.specs.Tables.{withLogs, Logs}
-use Rattle.field.proofs.Double.{size-high, power-element}
-use Rattle.field.proofs.Logs.{length-withLogs, logs-more, logs-none, logs-filled}
+use Rattle.field.specs.Tables.{with_logs, Logs}
+use Rattle.field.proofs.Double.{size-high, power_element}
+use Rattle.field.proofs.Logs.{length-with_logs, logs_more, logs_none, logs_filled}
 use Rattle.field.proofs.fill_logs.Statement.{statement}
 use Rattle.field.proofs.fill_logs.Tie as tie
 
 abbrev invariant-loop : tie.invariant-loop
-invariant-loop t nc logs₀ n e₀ logs e = (e ≤ n) × (logs ≡ withLogs nc e logs₀)
+invariant-loop t nc logs₀ n e₀ logs e = (e ≤ n) × (logs ≡ with_logs nc e logs₀)
 
 abbrev decreases-loop : tie.decreases-loop
 decreases-loop t nc logs₀ n e₀ logs e = n - e
@@ -23,7 +23,7 @@ order-requires c κs = search rules
 loop-holds : tie.Need-loop-init invariant-loop decreases-loop
 loop-holds c =
     let a = c.before.before.args in
-    (search rules, logs-none a.nc a.logs.now)
+    (search rules, logs_none a.nc a.logs.now)
 
 -- where the function starts, seen from the loop
 abbrev start : tie.At-loop invariant-loop decreases-loop → tie.Start invariant-loop decreases-loop
@@ -55,8 +55,8 @@ slice-write-logs c =
     let l = c.before.before.before in
     let s = start l in
     let nc = s.args.nc in
-    let same = ap length l.loop.invariant.1 ∙ length-withLogs nc l.loop.e s.args.logs.now in
-    omega (arith, power-element nc s.pre.1 s.pre.2 l.loop.e, element c)
+    let same = ap length l.loop.invariant.1 ∙ length-with_logs nc l.loop.e s.args.logs.now in
+    omega (arith, power_element nc s.pre.1 s.pre.2 l.loop.e, element c)
 
 add-e : tie.Need-overflow-add-e invariant-loop decreases-loop
 add-e c = search rules
@@ -68,12 +68,12 @@ loop-again : tie.Need-loop-preserved invariant-loop decreases-loop
 loop-again c =
     let l = c.before.before.before in
     let s = start l in
-    (omega arith, rw (l.loop.invariant.1, element c) (logs-more s.args.nc l.loop.e s.args.logs.now))
+    (omega arith, rw (l.loop.invariant.1, element c) (logs_more s.args.nc l.loop.e s.args.logs.now))
 
 same_length : tie.Need-same-length invariant-loop decreases-loop
 same_length c =
     let s = start c.before in
-    ap length c.before.loop.invariant.1 ∙ length-withLogs s.args.nc c.before.loop.e s.args.logs.now
+    ap length c.before.loop.invariant.1 ∙ length-with_logs s.args.nc c.before.loop.e s.args.logs.now
 
 returns : tie.Need-returns invariant-loop decreases-loop
 returns c =
@@ -82,8 +82,8 @@ returns c =
     let nc = s.args.nc in
     let xs = s.args.logs.now in
     let all : l.loop.e ≡ 2 ^ nc - 1 = omega arith in
-    let done = l.loop.invariant.1 ∙ ap (λ (k : ℕ). withLogs nc k xs) all in
-    (done, subst (Logs nc) (sym done) (logs-filled nc s.pre.1 s.pre.2 xs s.pre.3))
+    let done = l.loop.invariant.1 ∙ ap (λ (k : ℕ). with_logs nc k xs) all in
+    (done, subst (Logs nc) (sym done) (logs_filled nc s.pre.1 s.pre.2 xs s.pre.3))
 
 pub fill-logs-spec : {M : Type 1} → statement M
 fill-logs-spec =

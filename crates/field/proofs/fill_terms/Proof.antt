@@ -8,7 +8,7 @@ use native.Mathlib.Omega.{arith}
 use lib.ListN.{length, get_or, length-set}
 use Rattle.field.specs.Exponents.{Terms}
 use Rattle.field.proofs.Double.{size-high}
-use Rattle.field.proofs.Terms.{terms-none, terms-zero, terms-some}
+use Rattle.field.proofs.Terms.{terms_none, terms_zero, terms_some}
 use Rattle.field.proofs.fill_terms.Statement.{statement}
 use Rattle.field.proofs.fill_terms.Tie as tie
 
@@ -33,7 +33,7 @@ loop-holds c =
       search rules,
       search rules,
       search rules,
-      terms-none a.nc a.xs.now a.cs.now a.es.now s.requires.2.0 s.requires.2.1,
+      terms_none a.nc a.xs.now a.cs.now a.es.now s.requires.2.0 s.requires.2.1,
     )
 
 shared-slice-read-x : tie.Need-shared-slice-read-x invariant-loop decreases-loop
@@ -96,7 +96,7 @@ loop-again c =
       ap length w.2 ∙ simp length-set p.inv.1,
       ap length w.3 ∙ simp length-set p.inv.2,
       rw (w.2, w.3, w.4)
-          (terms-some a.nc p.n p.c w.1.result a.xs.now p.cs p.es q (omega arith)
+          (terms_some a.nc p.n p.c w.1.result a.xs.now p.cs p.es q (omega arith)
           (omega (arith, q.few, s.pre.1.1)) (omega (arith, q.few, s.pre.1.2))
           (omega arith) w.1.ensures.0 w.1.ensures.1),
     ))
@@ -104,7 +104,7 @@ loop-again c =
       omega arith,
       ap length w.1 ∙ p.inv.1,
       ap length w.2 ∙ p.inv.2,
-      rw (w.1, w.2, w.3) (terms-zero a.nc p.n p.c a.xs.now p.cs p.es q (omega arith) w.0.left),
+      rw (w.1, w.2, w.3) (terms_zero a.nc p.n p.c a.xs.now p.cs p.es q (omega arith) w.0.left),
     ))
     c.if1.branch
 

@@ -3,7 +3,7 @@ use borrow.Author.Rules.{rules}
 use Prim.Native.Nat.{ℕ, ◌-◌}
 use native.Mathlib.Omega.{arith}
 use Rattle.field.proofs.Double.{size-high}
-use Rattle.field.proofs.Terms.{raise-low, raise-round}
+use Rattle.field.proofs.Terms.{raise_low, raise_round}
 use Rattle.field.proofs.raise.Statement.{statement}
 use Rattle.field.proofs.raise.Tie as tie
 
@@ -22,14 +22,14 @@ add-result c = record { fits = omega (arith, size-high c.before.before.args.nc c
 returns : tie.Need-returns
 returns c =
     let s = c.before.before in
-    (omega arith, raise-low s.args.nc s.requires.0 s.requires.1 s.args.e s.args.c)
+    (omega arith, raise_low s.args.nc s.requires.0 s.requires.1 s.args.e s.args.c)
 
 returns-2 : tie.Need-returns-2
 returns-2 c =
     let s = c.before.before in
     let a = s.args in
     let n : ℕ = c.before.order.result in
-    (omega arith, raise-round a.nc s.requires.0 s.requires.1 a.e a.c (a.e - (n - a.c)) (omega arith))
+    (omega arith, raise_round a.nc s.requires.0 s.requires.1 a.e a.c (a.e - (n - a.c)) (omega arith))
 
 pub raise-spec : {M : Type 1} → statement M
 raise-spec = tie.close (tie.spec order-requires cast-d sub-d add-result returns returns-2)

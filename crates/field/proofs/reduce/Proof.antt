@@ -4,7 +4,7 @@ use Prim.Native.Nat.{ℕ, ◌+◌, ◌-◌, ◌^◌}
 use mathlib.Core.Path.{◌≡◌, sym, ap, ◌∙◌}
 use native.Mathlib.Omega.{arith}
 use Rattle.field.specs.Field.{power}
-use Rattle.field.proofs.Times.{power-period}
+use Rattle.field.proofs.Times.{power_period}
 use Rattle.field.proofs.reduce.Statement.{statement}
 use Rattle.field.proofs.reduce.Tie as tie
 
@@ -20,7 +20,7 @@ returns-2 c =
     let a = c.before.before.args in
     let p = c.before.before.requires in
     let round : 2 ^ a.nc - 1 + (a.e - n) ≡ a.e = omega arith in
-    (omega arith, sym (power-period a.nc p.0 p.1 (a.e - n)) ∙ ap (power a.nc) round)
+    (omega arith, sym (power_period a.nc p.0 p.1 (a.e - n)) ∙ ap (power a.nc) round)
 
 pub reduce-spec : {M : Type 1} → statement M
 reduce-spec = tie.close (tie.spec order-requires returns returns-2)

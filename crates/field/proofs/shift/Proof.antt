@@ -2,7 +2,7 @@
 use borrow.Author.Rules.{rules}
 use mathlib.Core.Path.{sym, ap, ◌∙◌}
 use Rattle.field.specs.Field.{power, times}
-use Rattle.field.proofs.Times.{times-of-zero, times_power}
+use Rattle.field.proofs.Times.{times_of_zero, times_power}
 use Rattle.field.proofs.shift.Statement.{statement}
 use Rattle.field.proofs.shift.Tie as tie
 
@@ -10,7 +10,7 @@ returns : tie.Need-returns
 returns c =
     let a = c.before.before.args in
     let p = power a.nc a.e in
-    sym (ap (times a.nc p) c.if1.true ∙ times-of-zero a.nc p)
+    sym (ap (times a.nc p) c.if1.true ∙ times_of_zero a.nc p)
 
 log-of-requires : tie.Need-log-of-requires
 log-of-requires c κs = search rules

@@ -10,18 +10,18 @@ use mathlib.Core.Logic.{◌⊎◌, inl, inr}
 use mathlib.Core.List.{List}
 use native.Mathlib.Omega.{arith}
 use lib.ListN.{length, get_or, set, length-set}
-use Rattle.bits.proofs.Laws.{lt-or-ge}
+use Rattle.bits.proofs.Laws.{lt_or_ge}
 use Rattle.message.specs.declared.Layout.{Layout}
-use Rattle.consistent.specs.Greedy.{inAll}
+use Rattle.consistent.specs.Greedy.{in_all}
 use Rattle.found.specs.Found.{Grown}
-use Rattle.found.proofs.Found.{grown-length, grown-holding, grown-nothing, grown-then, grown-weaken}
+use Rattle.found.proofs.Found.{grown_length, grown_holding, grown_nothing, grown_then, grown_weaken}
 use Rattle.cells.specs.Cells.{OpenAt, SameBut, Under, found}
 use Rattle.cells.specs.declared.Cells.{Cells}
-use Rattle.cells.proofs.Same.{same_refl, same-trans, cell_set, same-found, under_same}
+use Rattle.cells.proofs.Same.{same_refl, same_trans, cell_set, same-found, under_same}
 use Rattle.cells.proofs.State.{placed-found}
 use Rattle.recover.proofs.Weights.{weight-some}
 use Rattle.fill.specs.Fill.{With, Tried}
-use Rattle.fill.proofs.Rows.{closed-in-hand, with-found, tried-next, lost-less}
+use Rattle.fill.proofs.Rows.{closed_in_hand, with_found, tried_next, lost-less}
 use borrow.Fn.Kinds.{In}
 use borrow.Fn.PlainCycle.{Measures, is, falls, and}
 use Rattle.fill.proofs.try_content.Reads as try-content
@@ -43,13 +43,13 @@ use Rattle.fill.proofs.+try_content_try_contents_try_each.{statement}
 use Rattle.fill.proofs.+try_content_try_contents_try_each.Tie.{close}
 
 abbrev μ-try-content : Measures 4 try-content-kinds.ps ℕ
-μ-try-content κs a = 3 * inAll a.1.1.1.0.lost
+μ-try-content κs a = 3 * in_all a.1.1.1.0.lost
 
 abbrev μ-try-contents : Measures 4 try-contents-kinds.ps ℕ
-μ-try-contents κs a = 3 * inAll a.1.1.1.0.lost + 2
+μ-try-contents κs a = 3 * in_all a.1.1.1.0.lost + 2
 
 abbrev μ-try-each : Measures 4 try-each-kinds.ps ℕ
-μ-try-each κs a = 3 * inAll a.1.1.1.0.lost + 1
+μ-try-each κs a = 3 * in_all a.1.1.1.0.lost + 1
 
 abbrev try-content-at : ℕ → In 4 try-content-kinds.ps
 try-content-at t =
@@ -129,7 +129,7 @@ found-under t c x w =
     let s = content-start t c in
     let a = s.args in
     let e = c.chunk_of.ensures in
-    with-found a.l a.y.now a.cells a.row.now a.z a.v c.chunk_of.result e.0
+    with_found a.l a.y.now a.cells a.row.now a.z a.v c.chunk_of.result e.0
     (omega (arith, e.1, s.pre.1.0.1)) w
 
 -- only the cell's chunk is changed
@@ -149,7 +149,7 @@ try-content-chunk-of-requires t c κs =
     let s = c.before.before.before.before in
     let o = s.requires.1.1.1.1 in
     let q = s.requires.1.1.1.0 s.args.z o in
-    (s.requires.1.0.0.is-legal, (o.0, (q.0, q.1.0)))
+    (s.requires.1.0.0.is_legal, (o.0, (q.0, q.1.0)))
 
 try-content-slice-write-row : (t : ℕ)
     → try-content-lts.Need-slice-write-row (try-content-claims t) (try-content-at t) try-content.Post
@@ -199,8 +199,8 @@ try-content-returns t c =
     let r = c.before.before.before.before in
     let k = r.before.before.before in
     let a = (content-start t k).args in (
-      grown-weaken (λ x s w. found-under t k x w) r.try-contents.ensures.0,
-      same-trans (content-set t k) (same-found a.cells a.z r.try-contents.ensures.1),
+      grown_weaken (λ x s w. found-under t k x w) r.try-contents.ensures.0,
+      same_trans (content-set t k) (same-found a.cells a.z r.try-contents.ensures.1),
     )
 
 -- ---- the open cells
@@ -242,7 +242,7 @@ try-contents-returns t c =
     let closed = r.before.before.before in
     let k = closed.before in
     let none = sym k.open-cells.ensures.0 ∙ closed.if1.true in (
-      grown-weaken (λ x s u. closed-in-hand (contents-start t k).requires.1.0.0.is-legal none u) r.add_row.ensures,
+      grown_weaken (λ x s u. closed_in_hand (contents-start t k).requires.1.0.0.is_legal none u) r.add_row.ensures,
       same_refl,
     )
 
@@ -282,7 +282,7 @@ cells-lost t c = search rules
 -- so one of them is chosen
 chosen : (t : ℕ) (c : try-contents-lts.After-choose (try-contents-claims t) (try-contents-at t) try-contents.Post)
     → c.choose.result < 12
-chosen t c = go (lt-or-ge c.choose.result 12)
+chosen t c = go (lt_or_ge c.choose.result 12)
   where
     go : (c.choose.result < 12) ⊎ (12 ≤ c.choose.result) → c.choose.result < 12
     go (inl h) = h
@@ -348,7 +348,7 @@ try-each-loop-holds : (t : ℕ)
     → try-each-lts.Need-loop-init (try-each-claims t) (try-each-at t) try-each.Post try-each-Inv-loop try-each-μ-loop
 try-each-loop-holds t c =
     let s = try-each-start t c.before in
-    (grown-nothing s.pre.1.1.0 (λ x r b. omega (arith, b.1.1.1.0)), (same_refl, refl))
+    (grown_nothing s.pre.1.1.0 (λ x r b. omega (arith, b.1.1.1.0)), (same_refl, refl))
 
 try-each-array-read-try-content : (t : ℕ)
     → try-each-lts.Need-array-read-try-content (try-each-claims t) (try-each-at t) try-each.Post try-each-Inv-loop
@@ -366,7 +366,7 @@ try-each-try-content-requires t c κs =
     let p = s.pre.1 in
     let i = o.loop.invariant in (
       omega (arith, s.pre.0),
-      ((p.0.0, omega (arith, i.1.1, p.0.1)), (grown-holding p.1.0 i.0, p.1.1)),
+      ((p.0.0, omega (arith, i.1.1, p.0.1)), (grown_holding p.1.0 i.0, p.1.1)),
     )
 
 try-each-add-u : (t : ℕ)
@@ -406,12 +406,12 @@ try-each-loop-again t c =
     let i = p.loop.inv in
     let tried = p.before.before.list-contents.last.1.1.1.1.1.1.0 in
     let v = get_or tried p.loop.u 0 in
-    let one = grown-weaken
+    let one = grown_weaken
     (λ x s. with-same a.l a.y.now a.cells a.row.now p.loop.row a.z v i.1.0 x)
     r.try-content.ensures.0 in (
-      grown-weaken (λ x s b. tried-next a.l a.y.now a.cells a.row.now a.z tried p.loop.u b)
-          (grown-then s.pre.1.1.0 i.0 one),
-      (same-trans i.1.0 r.try-content.ensures.1, same_size t r ∙ i.1.1),
+      grown_weaken (λ x s b. tried_next a.l a.y.now a.cells a.row.now a.z tried p.loop.u b)
+          (grown_then s.pre.1.1.0 i.0 one),
+      (same_trans i.1.0 r.try-content.ensures.1, same_size t r ∙ i.1.1),
     )
 
 try-each-same-length : (t : ℕ)
@@ -422,14 +422,14 @@ try-each-same-length-2 : (t : ℕ)
     → try-each-lts.Need-same-length-2 (try-each-claims t) (try-each-at t) try-each.Post try-each-Inv-loop try-each-μ-loop
 try-each-same-length-2 t c =
     let p = c.before in
-    grown-length (try-each-start t p.before.before).pre.1.1.0 p.loop.invariant.0
+    grown_length (try-each-start t p.before.before).pre.1.1.0 p.loop.invariant.0
 
 try-each-returns : (t : ℕ)
     → try-each-lts.Need-returns (try-each-claims t) (try-each-at t) try-each.Post try-each-Inv-loop try-each-μ-loop
 try-each-returns t c =
     let p = c.before in
     let own = p.before.before.list-contents.ensures.1 in (
-      grown-weaken
+      grown_weaken
           (λ x r u.
           let i = own x r u in
           (u, (i.0, (i.1.0, (omega (arith, i.1.1.0, c.loop-test.false), i.1.1.1)))))

@@ -9,12 +9,12 @@ use mathlib.Core.List.{List}
 use native.Mathlib.Omega.{arith}
 use lib.ListN.{length}
 use Rattle.found.specs.Found.{Sent, InHand}
-use Rattle.found.proofs.Found.{grown-nothing, grown-weaken}
+use Rattle.found.proofs.Found.{grown_nothing, grown_weaken}
 use Rattle.cells.specs.Cells.{OpenAt, SameBut, Under}
-use Rattle.cells.proofs.Same.{same-wider}
+use Rattle.cells.proofs.Same.{same_wider}
 use Rattle.recover.specs.Recover.{OpenInside}
-use Rattle.recover.proofs.Spots.{collected-some, collected-open}
-use Rattle.fill.proofs.Rows.{in-hand-loses}
+use Rattle.recover.proofs.Spots.{collected_some, collected_open}
+use Rattle.fill.proofs.Rows.{in_hand_loses}
 use Rattle.fill.proofs.add_recovered.Statement.{statement}
 use Rattle.fill.proofs.add_recovered.Tie as tie
 
@@ -30,7 +30,7 @@ collect-requires : tie.Need-collect-requires
 collect-requires c κs =
     let s = c.before.before.before.before in
     let n = s.requires.1.1.1 in
-    ((s.requires.0.0.is-legal, omega (arith, n)), inside s)
+    ((s.requires.0.0.is_legal, omega (arith, n)), inside s)
 
 -- where the function starts, seen from where the open cells are collected
 abbrev entry : tie.After-collect → tie.Start
@@ -43,8 +43,8 @@ recover-requires c κs =
     let a = s.args in
     let n = s.pre.1.1.1 in
     let e = k.collect.ensures in
-    let some = collected-some a.l a.cells k.collect.result.n k.collect.result.places (size s) e n.0 in (
-      s.pre.0.0.is-legal,
+    let some = collected_some a.l a.cells k.collect.result.n k.collect.result.places (size s) e n.0 in (
+      s.pre.0.0.is_legal,
       (s.pre.0.0.count, ((e.few, (some, omega (arith, e.no_more, n.1))), (e.spots, s.pre.0.1))),
     )
 
@@ -76,7 +76,7 @@ same c =
     let s = start c in
     let a = s.args in
     let k = (collected c).collect in
-    same-wider (collected-open a.l a.cells k.result.n k.result.places (inside s) k.ensures)
+    same_wider (collected_open a.l a.cells k.result.n k.result.places (inside s) k.ensures)
     c.recover.ensures.0
 
 long : (c : tie.After-recover) → (start c).args.l.l1 * (start c).args.l.l2 ≤ length (whole c)
@@ -88,7 +88,7 @@ all-lose-requires : tie.Need-all-lose-requires
 all-lose-requires c κs =
     let k = c.before.before.before in
     let s = start k in
-    ((s.pre.0.0.is-legal, long k), s.pre.1.1.0)
+    ((s.pre.0.0.is_legal, long k), s.pre.1.1.0)
 
 -- where the open cells are recovered, seen from where they are tested
 abbrev tested : tie.After-all-lose → tie.After-recover
@@ -102,9 +102,9 @@ returns c =
     let w = tested c.before in
     let s = start w in
     let a = s.args in (
-      grown-nothing s.pre.1.0
+      grown_nothing s.pre.1.0
           (λ x r u. false≢true (sym (not-true _ c.if1.true)
-          ∙ c.before.all-lose.ensures (in-hand-loses a.l a.y.now a.cells s.pre.1.1.0
+          ∙ c.before.all-lose.ensures (in_hand_loses a.l a.y.now a.cells s.pre.1.1.0
           (whole w) u (recovered w x r u)))),
       same w,
     )
@@ -125,7 +125,7 @@ returns-2 : tie.Need-returns-2
 returns-2 c =
     let r = c.before.before in
     let w = tested r.before.before.before.before in
-    (grown-weaken (recovered w) r.add_row.ensures, same w)
+    (grown_weaken (recovered w) r.add_row.ensures, same w)
 
 pub add-recovered-spec : {M : Type 1} → statement M
 add-recovered-spec =

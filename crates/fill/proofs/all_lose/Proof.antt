@@ -5,7 +5,7 @@ use borrow.Author.Tests.{eqb-false, not-true}
 use Prim.Native.Nat.{◌-◌, ◌≤◌}
 use mathlib.Core.Path.{sym, ◌∙◌}
 use native.Mathlib.Omega.{arith}
-use Rattle.message.proofs.Legal.{legal-bounds}
+use Rattle.message.proofs.Legal.{legal_bounds}
 use Rattle.cells.specs.Cells.{Open}
 use Rattle.fill.proofs.all_lose.Statement.{statement}
 use Rattle.fill.proofs.all_lose.Tie as tie
@@ -51,8 +51,8 @@ loses-just-requires : tie.Need-loses-just-requires invariant-loop decreases-loop
 loses-just-requires c κs =
     let t = c.before.before.before.before in
     let s = t.before.before.before.before.before.before in
-    let b = legal-bounds s.args.l s.requires.0.0 in
-    (omega (arith, b.nc-low), (b.nc-high, (s.requires.1 t.before.before.before.loop.z (opened t)).1.1))
+    let b = legal_bounds s.args.l s.requires.0.0 in
+    (omega (arith, b.nc_low), (b.nc_high, (s.requires.1 t.before.before.before.loop.z (opened t)).1.1))
 
 returns : tie.Need-returns invariant-loop decreases-loop
 returns c all =

@@ -5,12 +5,12 @@ use Prim.Native.Nat.{◌<◌}
 use mathlib.Core.Path.{◌≡◌, sym, ◌∙◌}
 use native.Mathlib.Omega.{arith}
 use lib.ListN.{length, get_or}
-use Rattle.message.proofs.Legal.{legal-bounds}
+use Rattle.message.proofs.Legal.{legal_bounds}
 use Rattle.lines.specs.Lines.{values}
 use Rattle.lines.proofs.Lines.{block_inside}
 use Rattle.cells.specs.Cells.{chunk_of}
 use Rattle.cells.proofs.State.{chunk-low, chunk_inside}
-use Rattle.fill.proofs.Rows.{block-alone}
+use Rattle.fill.proofs.Rows.{block_alone}
 use Rattle.fill.proofs.ask_block.Statement.{statement}
 use Rattle.fill.proofs.ask_block.Tie as tie
 
@@ -52,7 +52,7 @@ mul-asked c =
     let s = start w.before in
     let l = s.args.l in
     let e = w.wide.ensures in
-    let low = chunk-low l s.pre.0.0 _ 0 s.pre.1.1.1.0 (legal-bounds l s.pre.0.0).l2-low in
+    let low = chunk-low l s.pre.0.0 _ 0 s.pre.1.1.1.0 (legal_bounds l s.pre.0.0).l2_low in
     rw e (omega (arith, low))
 
 mul_wide : tie.Need-overflow-mul-wide
@@ -86,7 +86,7 @@ returns-2 c =
     let e = eqb-true _ _ (sym o.before.alone.ensures ∙ not-false _ o.if1.false) in (
       c.asked.ensures.0,
       λ y x g s u.
-          let has = block-alone g s u a.z (in_row b) (cells-block b) b.pre.1.1.1.0 e in
+          let has = block_alone g s u a.z (in_row b) (cells-block b) b.pre.1.1.1.0 e in
           let own = get_or (values a.l x) (chunk_of a.l a.t3 a.z) 0 in
           c.asked.ensures.1 own (rw (c.before.wide3.ensures, first, second) has),
     )

@@ -5,12 +5,12 @@ use Prim.Native.Nat.{◌<◌}
 use mathlib.Core.Path.{◌≡◌, sym, ◌∙◌}
 use native.Mathlib.Omega.{arith}
 use lib.ListN.{length, get_or}
-use Rattle.message.proofs.Legal.{legal-bounds}
+use Rattle.message.proofs.Legal.{legal_bounds}
 use Rattle.lines.specs.Lines.{values}
-use Rattle.lines.proofs.Lines.{string-inside}
+use Rattle.lines.proofs.Lines.{string_inside}
 use Rattle.cells.specs.Cells.{chunk_of}
 use Rattle.cells.proofs.State.{chunk_inside}
-use Rattle.fill.proofs.Rows.{string-alone}
+use Rattle.fill.proofs.Rows.{string_alone}
 use Rattle.fill.proofs.ask_string.Statement.{statement}
 use Rattle.fill.proofs.ask_string.Tie as tie
 
@@ -63,8 +63,8 @@ asked-requires c κs =
     let w = c.before.before.before in
     let s = start w.before.before.before in
     let a = s.args in (
-      rw w.wide2.ensures (string-inside a.l s.pre.0.0 (length a.row.now) s.pre.0.1 _ s.pre.1.1.1.1),
-      ((legal-bounds a.l s.pre.0.0).l2-low, rw w.before.wide.ensures s.pre.1.1.1.0),
+      rw w.wide2.ensures (string_inside a.l s.pre.0.0 (length a.row.now) s.pre.0.1 _ s.pre.1.1.1.1),
+      ((legal_bounds a.l s.pre.0.0).l2_low, rw w.before.wide.ensures s.pre.1.1.1.0),
     )
 
 returns-2 : tie.Need-returns-2
@@ -78,7 +78,7 @@ returns-2 c =
     let e = eqb-true _ _ (sym o.before.alone.ensures ∙ not-false _ o.if1.false) in (
       c.asked.ensures.0,
       λ y x g s u.
-          let has = string-alone g s u a.z (in_row b) (cells-column b) b.pre.1.1.1.1 e in
+          let has = string_alone g s u a.z (in_row b) (cells-column b) b.pre.1.1.1.1 e in
           let own = get_or (values a.l x) (chunk_of a.l a.t3 a.z) 0 in
           c.asked.ensures.1 own (rw (c.before.wide3.ensures, first, second) has),
     )

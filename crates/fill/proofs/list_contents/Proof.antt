@@ -7,7 +7,7 @@ use mathlib.Core.Bool.{true}
 use native.Mathlib.Omega.{arith}
 use lib.ListN.{length, get_or}
 use Rattle.message.specs.Layout.{legal}
-use Rattle.message.proofs.Legal.{legal-bounds}
+use Rattle.message.proofs.Legal.{legal_bounds}
 use Rattle.lines.proofs.Lines.{value_low}
 use Rattle.cells.specs.Cells.{chunk_of}
 use Rattle.fill.proofs.list_contents.Statement.{statement}
@@ -30,7 +30,7 @@ contents-requires : tie.Need-contents-requires
 contents-requires c κs =
     let s = entry c in
     let q = s.pre.1.0.0 s.args.z s.pre.1.0.1 in
-    ((legal-bounds s.args.l s.pre.0.0.is-legal).nc-high, (q.1.1, s.pre.1.1))
+    ((legal_bounds s.args.l s.pre.0.0.is_legal).nc_high, (q.1.1, s.pre.1.1))
 
 -- where the contents are listed: the function's start; and where they are sifted once: the place where they are listed
 abbrev start : tie.After-contents → tie.Start
@@ -46,7 +46,7 @@ in_row : (s : tie.Start) → let a = s.args in
 in_row s =
     let o = s.requires.1.0.1 in
     let q = s.requires.1.0.0 s.args.z o in
-    ((s.requires.0.0.is-legal, s.requires.0.1), (s.requires.0.0.count, (o.0, (q.0, q.1.0))))
+    ((s.requires.0.0.is_legal, s.requires.0.1), (s.requires.0.0.count, (o.0, (q.0, q.1.0))))
 
 ask-string-requires : tie.Need-ask-string-requires
 ask-string-requires c κs = in_row (start c.before.before)
@@ -55,7 +55,7 @@ sift-requires : tie.Need-sift-requires
 sift-requires c κs =
     let k = c.before.before.before.before in
     let s = start k in (
-      (legal-bounds s.args.l s.pre.0.0.is-legal).nc-high,
+      (legal_bounds s.args.l s.pre.0.0.is_legal).nc_high,
       (c.before.ask-string.ensures.0, omega (arith, k.contents.ensures.0, s.pre.1.1)),
     )
 
@@ -67,7 +67,7 @@ sift-requires-2 c κs =
     let some = c.before.before.before.before in
     let k = listed some in
     let s = start k in (
-      (legal-bounds s.args.l s.pre.0.0.is-legal).nc-high,
+      (legal_bounds s.args.l s.pre.0.0.is_legal).nc_high,
       (c.before.ask-block.ensures.0, omega (arith, some.sift.ensures.0, k.contents.ensures.0, s.pre.1.1)),
     )
 

@@ -10,12 +10,12 @@ use borrow.Author.Tests.{lt-ltb}
 use lib.ListN.{length, get_or}
 use Rattle.states.specs.States.{each, state_of}
 use Rattle.column.specs.Column.{Light}
-use Rattle.marks.specs.Marks.{Path, markAt}
-use Rattle.marks.proofs.Marks.{two-columns}
+use Rattle.marks.specs.Marks.{Path, mark_at}
+use Rattle.marks.proofs.Marks.{two_columns}
 use Rattle.marks.proofs.Digits.{some-state}
-use Rattle.marks.proofs.Paths.{lets-through, own_first, own-low}
+use Rattle.marks.proofs.Paths.{lets_through, own_first, own-low}
 use Rattle.near.specs.Near.{most}
-use Rattle.first.proofs.First.{first_next, last-let}
+use Rattle.first.proofs.First.{first_next, last_let}
 use Rattle.first.proofs.complete.Statement.{statement}
 use Rattle.first.proofs.complete.Tie as tie
 
@@ -24,7 +24,7 @@ invariant-loop l y totals counts numbers heavy known shape digits before after r
     ((j ≤ l.l2) × (length marks ≡ length marks₀)) × ((row vs : List ℕ) (own : ℕ → ℕ → ℕ) → Light l heavy row known
     → Path l y numbers heavy row (each shape.size) vs own
     → ((i : ℕ) → i ≤ l.l2 → room ≤ most l.l2 before after (each shape.size) (own i) i shape.n)
-    → (i : ℕ) → j ≤ i → i ≤ l.l2 → 0 < get_or marks (markAt shape i (own i)) 0)
+    → (i : ℕ) → j ≤ i → i ≤ l.l2 → 0 < get_or marks (mark_at shape i (own i)) 0)
 
 abbrev decreases-loop : tie.decreases-loop
 decreases-loop l y totals counts numbers heavy known shape digits before after room marks₀ states j₀ marks j = j
@@ -45,7 +45,7 @@ places : (c : tie.In-loop invariant-loop decreases-loop)
     (c.before.loop.j - 1 + 1) * s.args.shape.states + s.args.shape.states ≤ length s.args.marks.now
 places c =
     let s = begin c.before in
-    two-columns s.args.shape.states (c.before.loop.j - 1) s.args.l.l2 s.args.marks.now (omega (
+    two_columns s.args.shape.states (c.before.loop.j - 1) s.args.l.l2 s.args.marks.now (omega (
       arith,
       c.loop-test.true,
       c.before.loop.invariant.0.0,
@@ -73,7 +73,7 @@ loop-holds c = (
       let o = c.before.before in
       let s = start o.before.before in
       let a = s.args in
-      last-let a.l a.y.now a.numbers.now a.heavy row a.shape vs own s.pre.1.0 path
+      last_let a.l a.y.now a.numbers.now a.heavy row a.shape vs own s.pre.1.0 path
       a.marks.now _ o.only.ensures.0 (omega (arith, o.only.ensures.1)),
 )
 
@@ -196,13 +196,13 @@ returns-2 c =
     let z : i.loop.j ≡ 0 = omega (arith, c.before.loop-test.false) in (
       long i,
       λ row vs own light path far.
-          let t : (u : ℕ) → u ≤ a.l.l2 → 0 < get_or i.loop.marks (markAt a.shape u (own u)) 0 =
+          let t : (u : ℕ) → u ≤ a.l.l2 → 0 < get_or i.loop.marks (mark_at a.shape u (own u)) 0 =
           λ u h. i.loop.invariant.1 row vs own light path far u (omega arith) h
           in
           let f = own_first a.l a.y.now a.numbers.now a.heavy row a.shape vs own s.pre.1.0 path in
-          let e : markAt a.shape 0 (own 0) ≡ a.shape.states - 1 = omega (arith, zero-mul a.shape.states) in (
+          let e : mark_at a.shape 0 (own 0) ≡ a.shape.states - 1 = omega (arith, zero-mul a.shape.states) in (
             lt-ltb 0 (get_or i.loop.marks (a.shape.states - 1) 0) (rw e at (t 0 (omega arith))),
-            lets-through a.l a.y.now a.numbers.now a.heavy row a.shape vs own s.pre.1.0 path
+            lets_through a.l a.y.now a.numbers.now a.heavy row a.shape vs own s.pre.1.0 path
                 i.loop.marks t,
           ),
     )

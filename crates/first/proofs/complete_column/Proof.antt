@@ -6,9 +6,9 @@ use native.Mathlib.Omega.{arith}
 use borrow.Author.Rules.{rules}
 use Rattle.states.specs.States.{each}
 use Rattle.marks.specs.Digits.{entry_of}
-use Rattle.marks.proofs.Digits.{number-low, entry-is}
+use Rattle.marks.proofs.Digits.{number-low, entry_is}
 use Rattle.near.specs.Near.{most}
-use Rattle.first.proofs.First.{Completing, completing-starts, completing-next}
+use Rattle.first.proofs.First.{Completing, completing_starts, completing_next}
 use Rattle.first.proofs.complete_column.Statement.{statement}
 use Rattle.first.proofs.complete_column.Tie as tie
 
@@ -58,7 +58,7 @@ fill-apart-requires c κs =
     ((p.1.1.1.0, omega (arith, p.0)), (kept.shaped, omega (arith, kept.few)))
 
 loop-holds : tie.Need-loop-init invariant-loop decreases-loop
-loop-holds c = completing-starts _ _ _ _ _ _ _ _ _ _ _ _ refl
+loop-holds c = completing_starts _ _ _ _ _ _ _ _ _ _ _ _ refl
 
 add-level-of : tie.Need-overflow-add-level-of invariant-loop decreases-loop
 add-level-of c =
@@ -179,20 +179,20 @@ loop-again c =
     let s = begin i in
     let p = s.pre in
     let found = entry_of s.args.digits.now i.loop.q in
-    completing-next _ _ _ _ _ _ _ _ _ _ _ p.1.1.0 p.1.1.1.1.1.0 p.1.1.1.1.1.1
+    completing_next _ _ _ _ _ _ _ _ _ _ _ p.1.1.0 p.1.1.1.1.1.0 p.1.1.1.1.1.1
     i.loop.marks i.loop.levels
     i.loop.highest i.loop.q found v.level-of.result d.far-level.result f.first-mark.result
     c.higher.result
     i.loop.inv t.loop-test.taken
     record {
-      digits = λ own w e. entry-is p.1.1.0 p.1.1.1.0 own w i.loop.q e;
+      digits = λ own w e. entry_is p.1.1.0 p.1.1.1.0 own w i.loop.q e;
       own = v.level-of.ensures.0;
       down = v.level-of.ensures.1;
       tested = λ left w e room.
           d.far-level.ensures (omega (arith, room, rw e at (i.before.before.fill-apart.ensures.1 left w)));
       first = f.first-mark.ensures;
       most-more = c.higher.ensures.0;
-      mark-more = c.higher.ensures.1;
+      mark_more = c.higher.ensures.1;
     }
 
 same_length : tie.Need-same-length invariant-loop decreases-loop
@@ -204,7 +204,7 @@ returns c =
     let kept = (begin i).requires.1.1.0 in (
       i.loop.invariant.column,
       (
-        λ p h. i.loop.invariant.most-of p (omega arith),
+        λ p h. i.loop.invariant.most_of_is p (omega arith),
         λ left w u. i.loop.invariant.goes left w u (omega (arith, number-low kept left w)),
       ),
     )

@@ -9,7 +9,7 @@ use native.Mathlib.Omega.{arith}
 use borrow.Author.Count.{below_more}
 use borrow.Author.Rules.{rules}
 use lib.ListN.{get_or}
-use Rattle.states.specs.States.{each, addedUp}
+use Rattle.states.specs.States.{each, added_up}
 use Rattle.column.specs.Column.{Light, Crosses}
 use Rattle.whole.specs.Whole.{OneLess}
 use Rattle.first.proofs.loses.Statement.{statement}
@@ -18,7 +18,7 @@ use Rattle.first.proofs.loses.Tie as tie
 abbrev invariant-loop : tie.invariant-loop
 invariant-loop l y totals counts numbers heavy readings j part q marks base left n strides s₀ s =
     (s ≤ n) × ((t : ℕ) → t < s → (row vs known : List ℕ) (next : ℕ → ℕ) → Light l heavy row known
-    → part ≡ get_or known j 0 + addedUp readings (each left) heavy.n
+    → part ≡ get_or known j 0 + added_up readings (each left) heavy.n
     → Crosses l y numbers heavy row j (each left) next vs → OneLess heavy.n (each left) next t
     → get_or strides t 0 ≤ q → 0 < get_or marks (base + (q - get_or strides t 0)) 0 → ⊥)
 

@@ -6,11 +6,11 @@ use native.Mathlib.Nat.{mul-le-mul_right}
 use native.Mathlib.Omega.{arith}
 use borrow.Author.Rules.{rules}
 use lib.ListN.{length, get_or}
-use Rattle.states.specs.States.{each, firsts, entry_at, addedUp}
+use Rattle.states.specs.States.{each, firsts, entry_at, added_up}
 use Rattle.column.specs.Column.{value_at}
 use Rattle.column.proofs.Rows.{crosses-readable}
 use Rattle.whole.specs.Whole.{modulus}
-use Rattle.states.proofs.Sums.{firsts-but, firsts-one}
+use Rattle.states.proofs.Sums.{firsts_but, firsts-one}
 use Rattle.whole.proofs.Whole.{weightOf, weights-sum, kept-legible, kept_read}
 use Rattle.first.proofs.loses_one.Statement.{statement}
 use Rattle.first.proofs.loses_one.Tie as tie
@@ -60,7 +60,7 @@ cast-reading c = omega (arith, c.shared-slice-known6.given ((taken c).args.s * 1
 entry : (c : tie.After-shared-slice-known6) → let a = (taken c).args in
     (get_or a.readings.now (a.s * 13 + c.before.wide.result) 0
     ≡ get_or a.readings.now (entry_at a.s (get_or a.t9 a.s 0)) 0)
-    × (get_or a.readings.now (entry_at a.s (get_or a.t9 a.s 0)) 0 ≤ addedUp a.readings.now (each a.t9) a.t6.n)
+    × (get_or a.readings.now (entry_at a.s (get_or a.t9 a.s 0)) 0 ≤ added_up a.readings.now (each a.t9) a.t6.n)
 entry c =
     let s = taken c in
     let a = s.args in (
@@ -120,7 +120,7 @@ returns c row vs known next light sum crosses one =
     let h = s.pre.1.1.0 in
     let tab : ℕ → ℕ = λ t. get_or a.readings.now (entry_at t (get_or a.t9 t 0)) 0 in
     let own = weightOf crosses in
-    let but = firsts-but tab own a.t6.n a.s h
+    let but = firsts_but tab own a.t6.n a.s h
     (λ t k d.
     let kept = one.1 t k d in
     s.pre.0.1.1.1.0 t (get_or a.t9 t 0) k (omega arith) (kept-legible crosses t k kept)

@@ -5,8 +5,8 @@ use mathlib.Core.Bool.{false≢true}
 use native.Mathlib.Omega.{arith}
 use borrow.Author.Rules.{rules}
 use lib.ListN.{get_or}
-use Rattle.message.proofs.Legal.{legal-bounds, sizes, string-high}
-use Rattle.states.specs.States.{each, firsts, entry_at, addedUp}
+use Rattle.message.proofs.Legal.{legal_bounds, sizes, string_high}
+use Rattle.states.specs.States.{each, firsts, entry_at, added_up}
 use Rattle.whole.specs.Whole.{modulus}
 use Rattle.states.proofs.Sums.{firsts_same}
 use Rattle.whole.proofs.Whole.{weightOf, weights-sum, kept-legible, kept_read}
@@ -88,7 +88,7 @@ stays-requires c κs =
     let s = begin c.before.before.before in
     let f = s.pre.0.0.fit in
     let l = s.args.l in
-    (string-high l f.allowed, (s.pre.0.0.column, ((sizes l (legal-bounds l f.allowed)).l1-high, f.sums)))
+    (string_high l f.allowed, (s.pre.0.0.column, ((sizes l (legal_bounds l f.allowed)).l1_high, f.sums)))
 
 returns : tie.Need-returns
 returns c =
@@ -127,7 +127,7 @@ returns-3 c =
     let left = entry_of a.digits.now a.q in
     let same_left : (k : ℕ) → k < a.heavy.n → left k ≡ found k = λ k h. (left_is d k h).0 in
     let part : get_or a.known.now a.j 0 + u.all.result
-    ≡ get_or a.known.now a.j 0 + addedUp a.readings.now (each d.digits_of.result) a.heavy.n =
+    ≡ get_or a.known.now a.j 0 + added_up a.readings.now (each d.digits_of.result) a.heavy.n =
     omega (arith, u.all.ensures.0)
     in
     record {

@@ -7,10 +7,10 @@ use native.Mathlib.Omega.{arith}
 use borrow.Author.Tests.{not-false}
 use lib.ListN.{length, take, drop, length-drop}
 use lib.Seq.{length-take-le}
-use Rattle.bits.specs.Bits.{bytesFor}
-use Rattle.message.specs.Layout.{rowBits}
+use Rattle.bits.specs.Bits.{bytes_for}
+use Rattle.message.specs.Layout.{row_bits}
 use Rattle.consistent.specs.Query.{query}
-use Rattle.found.specs.Given.{consistentWith}
+use Rattle.found.specs.Given.{consistent_with}
 use Rattle.found.specs.Sought.{Sought}
 use Rattle.floor.proofs.Floor.{none-known, last-known, last-room}
 use Rattle.floor.proofs.above.Statement.{statement}
@@ -18,7 +18,7 @@ use Rattle.floor.proofs.above.Tie as tie
 
 -- the rows that are looked for
 abbrev sought : tie.Start → Sought
-sought s = let a = s.args in consistentWith (query a.l a.numbers.now a.y.now)
+sought s = let a = s.args in consistent_with (query a.l a.numbers.now a.y.now)
 
 -- where the function starts, seen from where the first test does not hold
 abbrev entry : tie.Else1 → tie.Start
@@ -32,7 +32,7 @@ some : (c : tie.After-struct-known5) → 0 < (start c).args.kept.count
 some c = omega (arith, c.before.before.before.if2.false)
 
 room : (c : tie.After-struct-known5) → let a = (start c).args in
-    (a.kept.count - 1) * bytesFor (rowBits a.l) + bytesFor (rowBits a.l) ≤ length a.list.now
+    (a.kept.count - 1) * bytes_for (row_bits a.l) + bytes_for (row_bits a.l) ≤ length a.list.now
 room c =
     let s = start c in
     last-room (sought s) s.args.list.now s.args.kept s.pre.1.0 (some c)
@@ -82,20 +82,20 @@ after-row-requires : tie.Need-after-row-requires
 after-row-requires c κs =
     let s = start c.before in
     let a = s.args in
-    let w : ℕ = bytesFor (rowBits a.l) in
+    let w : ℕ = bytes_for (row_bits a.l) in
     let at : ℕ = (a.kept.count - 1) * w in
     let rest = length-drop at a.list.now in
     let part : length (take (at + w - at) (drop at a.list.now)) ≡ w =
     length-take-le (at + w - at) (drop at a.list.now) (omega (arith, room c.before)) ∙ width at w
     in
-    (s.pre.0.is-legal, (s.pre.0.bits, (s.pre.1.1.0, (s.pre.1.1.1, part))))
+    (s.pre.0.is_legal, (s.pre.0.bits, (s.pre.1.1.0, (s.pre.1.1.1, part))))
 
 returns-3 : tie.Need-returns-3
 returns-3 c =
     let k = c.before.before in
     let s = start k in
     let a = s.args in
-    let w : ℕ = bytesFor (rowBits a.l) in
+    let w : ℕ = bytes_for (row_bits a.l) in
     let more = not-false _ k.before.before.before.before.before.if1.false in
     λ e x sent own light.
     last-known (sought s) a.list.now a.kept s.pre.1.0 (some k) more x sent.0

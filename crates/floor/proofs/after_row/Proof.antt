@@ -10,11 +10,11 @@ use native.Mathlib.Nat.{zero-mul}
 use native.Mathlib.Omega.{arith}
 use borrow.Author.Tests.{eqb-true}
 use lib.ListN.{length, take}
-use Rattle.bits.specs.Bits.{mostInLine, unpack}
+use Rattle.bits.specs.Bits.{most_in_line, unpack}
 use Rattle.rows.specs.Order.{Row}
-use Rattle.message.specs.Layout.{rowBits, block_bits}
-use Rattle.message.proofs.Legal.{legal-bounds, sizes}
-use Rattle.consistent.specs.Greedy.{inAll}
+use Rattle.message.specs.Layout.{row_bits, block_bits}
+use Rattle.message.proofs.Legal.{legal_bounds, sizes}
+use Rattle.consistent.specs.Greedy.{in_all}
 use Rattle.anchor.specs.Anchor.{OwnCounts, LightInHand}
 use Rattle.anchor.proofs.Totals.{total-none, total-next}
 use Rattle.floor.specs.Floor.{AtLeast, BlockCompared}
@@ -24,8 +24,8 @@ use Rattle.floor.proofs.after_row.Tie as tie
 
 abbrev invariant-loop : tie.invariant-loop
 invariant-loop l y counts row i last d₀ b₀ d b =
-    ((b ≤ i) × ((d ≡ inAll (take b counts)) × (d ≤ 255 * b)))
-    × ((x : List ℕ) → Row (rowBits l) x → OwnCounts l y counts i x → LightInHand l counts i row x
+    ((b ≤ i) × ((d ≡ in_all (take b counts)) × (d ≤ 255 * b)))
+    × ((x : List ℕ) → Row (row_bits l) x → OwnCounts l y counts i x → LightInHand l counts i row x
     → AtLeast (b * block_bits l) (unpack last) x)
 
 abbrev decreases-loop : tie.decreases-loop
@@ -36,8 +36,8 @@ abbrev start : tie.At-loop invariant-loop decreases-loop → tie.Start invariant
 start t = t.before.before.before.before.before
 
 -- there are as many counts as blocks
-few : (s : tie.Start invariant-loop decreases-loop) → s.args.i ≤ mostInLine
-few s = omega (arith, (sizes s.args.l (legal-bounds s.args.l s.requires.0)).l1-high, s.requires.1.1.1.0)
+few : (s : tie.Start invariant-loop decreases-loop) → s.args.i ≤ most_in_line
+few s = omega (arith, (sizes s.args.l (legal_bounds s.args.l s.requires.0)).l1_high, s.requires.1.1.1.0)
 
 many : (s : tie.Start invariant-loop decreases-loop) → s.args.i ≤ length s.args.counts.now
 many s = omega (arith, s.requires.1.1.0.1, s.requires.1.1.1.0)
@@ -67,7 +67,7 @@ compare-block-requires c κs =
 -- what the comparison of block b says of a row under the counts
 compared : (c : tie.After-compare-block invariant-loop decreases-loop)
     → let t = c.before.before.before.before in let a = (start t).args in
-    (x : List ℕ) → Row (rowBits a.l) x → OwnCounts a.l a.y.now a.counts.now a.i x
+    (x : List ℕ) → Row (row_bits a.l) x → OwnCounts a.l a.y.now a.counts.now a.i x
     → LightInHand a.l a.counts.now a.i a.row.now x
     → BlockCompared a.l t.loop.b (unpack a.last.now) x c.compare-block.result
 compared c x r own light =

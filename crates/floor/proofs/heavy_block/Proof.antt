@@ -11,13 +11,13 @@ use lib.ListN.{length, take}
 use Rattle.bits.specs.Bits.{AllBits, unpack}
 use Rattle.bits.proofs.Laws.{length-unpack, bits-unpack}
 use Rattle.rows.specs.Order.{Less, Row}
-use Rattle.message.specs.Layout.{rowBits, block_bits}
+use Rattle.message.specs.Layout.{row_bits, block_bits}
 use Rattle.message.proofs.Fields.{field_room}
-use Rattle.message.proofs.Legal.{Sizes, legal-bounds, sizes}
+use Rattle.message.proofs.Legal.{Sizes, legal_bounds, sizes}
 use Rattle.consistent.specs.Greedy.{losses}
 use Rattle.floor.specs.Floor.{AtLeast, BlockLoses}
-use Rattle.floor.proofs.Floor.{Stands, Rest, Bit, bit-after, bit-same}
-use Rattle.floor.proofs.Floor.{compared-before, compared_same, compared-after}
+use Rattle.floor.proofs.Floor.{Stands, Rest, Bit, bit_after, bit_same}
+use Rattle.floor.proofs.Floor.{compared_before, compared_same, compared_after}
 use Rattle.floor.proofs.heavy_block.Statement.{statement}
 use Rattle.floor.proofs.heavy_block.Tie as tie
 
@@ -46,16 +46,16 @@ abbrev turn : tie.After-number-in invariant-loop decreases-loop → tie.At-loop 
 turn n = n.before.before.before.before.before
 
 size : (s : tie.Start invariant-loop decreases-loop) → Sizes s.args.l
-size s = sizes s.args.l (legal-bounds s.args.l s.requires.0)
+size s = sizes s.args.l (legal_bounds s.args.l s.requires.0)
 
 -- the block's bits stand in the row
-room : (s : tie.Start invariant-loop decreases-loop) → let a = s.args in a.b * block_bits a.l + block_bits a.l ≤ rowBits a.l
+room : (s : tie.Start invariant-loop decreases-loop) → let a = s.args in a.b * block_bits a.l + block_bits a.l ≤ row_bits a.l
 room s =
     let l = s.args.l in
-    omega (arith, field_room l.l1 (block_bits l) s.args.b s.requires.1.1.0, (size s).l1-block)
+    omega (arith, field_room l.l1 (block_bits l) s.args.b s.requires.1.1.0, (size s).l1_block)
 
 -- the row `last` has all bits
-long : (s : tie.Start invariant-loop decreases-loop) → rowBits s.args.l ≤ length (unpack s.args.last.now)
+long : (s : tie.Start invariant-loop decreases-loop) → row_bits s.args.l ≤ length (unpack s.args.last.now)
 long s = omega (arith, length-unpack s.args.last.now, s.requires.1.1.1)
 
 -- a row of which this is asked
@@ -64,7 +64,7 @@ Asked s x =
     let a = s.args in
     Under a.y.now (unpack a.last.now) (a.b * block_bits a.l) (block_bits a.l) a.d a.a x
 
-asked : (s : tie.Start invariant-loop decreases-loop) (x : List ℕ) → let a = s.args in Row (rowBits a.l) x
+asked : (s : tie.Start invariant-loop decreases-loop) (x : List ℕ) → let a = s.args in Row (row_bits a.l) x
     → BlockLoses a.l a.y.now a.b a.d a.a x → AtLeast (a.b * block_bits a.l) (unpack a.last.now) x
     → Asked s x
 asked s x r q k =
@@ -100,8 +100,8 @@ module _ (n : tie.After-number-in invariant-loop decreases-loop) where
       let e : at-bit + w ≡ s.args.b * block_bits s.args.l + block_bits s.args.l = omega arith in
       record {
         some = omega arith;
-        in-z = omega (arith, room s, long s);
-        in-x = omega (arith, q.long);
+        in_z = omega (arith, room s, long s);
+        in_x = omega (arith, q.long);
         place = t.loop.inv.0.1.1;
         end = rw e q.inside;
       }
@@ -110,20 +110,20 @@ module _ (n : tie.After-number-in invariant-loop decreases-loop) where
       n.before.before.least-lost.result n.before.bit-of.result
   bit =
       record {
-        next-is = n.before.before.before.next_bit.ensures.0;
-        lost-is = n.before.before.least-lost.ensures.0;
+        next_is = n.before.before.before.next_bit.ensures.0;
+        lost_is = n.before.before.least-lost.ensures.0;
         bit_is = n.before.bit-of.ensures;
       }
 
   above : n.number_in.result < n.before.bit-of.result → (x : List ℕ) → Asked s x → Less z x
   above h x q =
-      bit-after z x (bits-unpack s.args.last.now) q.bits s.args.y.now s.pre.1.0 (rest x q) bit
+      bit_after z x (bits-unpack s.args.last.now) q.bits s.args.y.now s.pre.1.0 (rest x q) bit
       (omega (arith, n.number_in.ensures)) (t.loop.inv.1 x q)
 
   agrees : n.before.bit-of.result ≡ n.number_in.result → (x : List ℕ) → Asked s x
       → Stands s.args.y.now z x (at-bit + 1) (t.loop.left - n.before.before.least-lost.result) all
   agrees h x q =
-      bit-same z x (bits-unpack s.args.last.now) q.bits s.args.y.now s.pre.1.0 (rest x q) bit
+      bit_same z x (bits-unpack s.args.last.now) q.bits s.args.y.now s.pre.1.0 (rest x q) bit
       (h ∙ n.number_in.ensures) (t.loop.left - n.before.before.least-lost.result)
       (omega (arith, n.before.before.least-lost.ensures.1.1)) (t.loop.inv.1 x q)
 
@@ -134,7 +134,7 @@ mul-from : tie.Need-overflow-mul-from invariant-loop decreases-loop
 mul-from c = let s = c.before.before.before in omega (arith, room s, (size s).row)
 
 returns : tie.Need-returns invariant-loop decreases-loop
-returns c = λ x r q. compared-before
+returns c = λ x r q. compared_before
 
 loop-holds : tie.Need-loop-init invariant-loop decreases-loop
 loop-holds c =
@@ -171,12 +171,12 @@ number-in-requires c κs =
     (omega arith, (omega (arith, s.pre.1.1.1, (size s).row), omega (arith, s.pre.1.1.1, room s)))
 
 returns-2 : tie.Need-returns-2 invariant-loop decreases-loop
-returns-2 c = λ x r q. compared-before
+returns-2 c = λ x r q. compared_before
 
 returns-3 : tie.Need-returns-3 invariant-loop decreases-loop
 returns-3 c =
     let n = c.before.before in
-    λ x r q. compared-after (λ k. above n c.if3.true x (asked (start (turn n)) x r q k))
+    λ x r q. compared_after (λ k. above n c.if3.true x (asked (start (turn n)) x r q k))
 
 sub-p : tie.Need-overflow-sub-p invariant-loop decreases-loop
 sub-p c = let o = c.before.before.before.before.least-lost.ensures in omega (arith, o.1.0)

@@ -10,18 +10,18 @@ use lib.ListN.{length}
 use Rattle.bits.specs.Bits.{unpack}
 use Rattle.bits.proofs.Laws.{length-unpack, bits-unpack}
 use Rattle.rows.specs.Order.{Row}
-use Rattle.message.specs.Layout.{rowBits, block_bits}
+use Rattle.message.specs.Layout.{row_bits, block_bits}
 use Rattle.message.proofs.Fields.{field_room}
-use Rattle.message.proofs.Legal.{Bounds, Sizes, legal-bounds, sizes}
+use Rattle.message.proofs.Legal.{Bounds, Sizes, legal_bounds, sizes}
 use Rattle.floor.specs.Floor.{AtLeast, BlockInHand}
-use Rattle.floor.proofs.Floor.{chunk-after, chunk-same, compared-before, compared_same, compared-after}
+use Rattle.floor.proofs.Floor.{chunk-after, chunk-same, compared_before, compared_same, compared_after}
 use Rattle.floor.proofs.light_block.Statement.{statement}
 use Rattle.floor.proofs.light_block.Tie as tie
 
 abbrev invariant-loop : tie.invariant-loop
 invariant-loop l row b last from j₀ j =
     (j ≤ l.l2)
-    × ((x : List ℕ) → Row (rowBits l) x → BlockInHand l row b x → AtLeast (b * block_bits l) (unpack last) x
+    × ((x : List ℕ) → Row (row_bits l) x → BlockInHand l row b x → AtLeast (b * block_bits l) (unpack last) x
     → AtLeast ((from + j) * l.nc) (unpack last) x)
 
 abbrev decreases-loop : tie.decreases-loop
@@ -32,7 +32,7 @@ abbrev start : tie.At-loop invariant-loop decreases-loop → tie.Start invariant
 start t = t.before.before.before.before
 
 bounds : (s : tie.Start invariant-loop decreases-loop) → Bounds s.args.l
-bounds s = legal-bounds s.args.l s.requires.0
+bounds s = legal_bounds s.args.l s.requires.0
 
 size : (s : tie.Start invariant-loop decreases-loop) → Sizes s.args.l
 size s = sizes s.args.l (bounds s)
@@ -42,12 +42,12 @@ room : (s : tie.Start invariant-loop decreases-loop) → s.args.b * s.args.l.l2 
 room s = field_room s.args.l.l1 s.args.l.l2 s.args.b s.requires.1.0
 
 -- the row `last` has all bits
-long : (s : tie.Start invariant-loop decreases-loop) → rowBits s.args.l ≤ length (unpack s.args.last.now)
+long : (s : tie.Start invariant-loop decreases-loop) → row_bits s.args.l ≤ length (unpack s.args.last.now)
 long s = omega (arith, length-unpack s.args.last.now, s.requires.1.1.1)
 
 -- a chunk's bits stand in the row
 chunk-room : (s : tie.Start invariant-loop decreases-loop) (j : ℕ) → j < s.args.l.l2
-    → (s.args.b * s.args.l.l2 + j) * s.args.l.nc + s.args.l.nc ≤ rowBits s.args.l
+    → (s.args.b * s.args.l.l2 + j) * s.args.l.nc + s.args.l.nc ≤ row_bits s.args.l
 chunk-room s j h =
     let l = s.args.l in
     field_room (l.l1 * l.l2) l.nc (s.args.b * l.l2 + j) (omega (arith, room s))
@@ -94,10 +94,10 @@ number-in-requires c κs =
     let t = c.before.before.before.before.before in
     let s = start t in
     let r = chunk-room s t.loop.j c.before.before.before.if1.true in
-    ((bounds s).nc-high, (omega (arith, s.pre.1.1.1, (size s).row), omega (arith, s.pre.1.1.1)))
+    ((bounds s).nc_high, (omega (arith, s.pre.1.1.1, (size s).row), omega (arith, s.pre.1.1.1)))
 
 returns : tie.Need-returns invariant-loop decreases-loop
-returns c = λ x r h. compared-before
+returns c = λ x r h. compared_before
 
 returns-2 : tie.Need-returns-2 invariant-loop decreases-loop
 returns-2 c =
@@ -108,7 +108,7 @@ returns-2 c =
     let last = s.args.last.now in
     let own = n.before.before.wide in
     let at : ℕ = s.args.b * l.l2 + t.loop.j in
-    λ x r h. compared-after (λ k.
+    λ x r h. compared_after (λ k.
     let value = h t.loop.j (taken n) ∙ sym own.ensures in
     chunk-after l (unpack last) x (bits-unpack last) r (long s) at own.result (inside n) value
     (omega (arith, n.number_in.ensures, c.if3.true)) (t.loop.inv.1 x r h k))

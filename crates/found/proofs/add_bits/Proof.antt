@@ -3,7 +3,7 @@
 use borrow.Author.Rules.{rules}
 use borrow.Author.Tests.{not-true, not-false}
 use mathlib.Core.Path.{sym, ◌∙◌}
-use Rattle.found.proofs.Steps.{grown-refused}
+use Rattle.found.proofs.Steps.{grown_refused}
 use Rattle.found.proofs.add_bits.Statement.{statement}
 use Rattle.found.proofs.add_bits.Tie as tie
 
@@ -17,12 +17,12 @@ start c = c.before.before.before.before.before
 returns : tie.Need-returns
 returns c =
     let s = start c.before in
-    grown-refused s.pre.1.1 s.args.x.now (sym c.before.is-consistent.ensures ∙ not-true _ c.if1.true)
+    grown_refused s.pre.1.1 s.args.x.now (sym c.before.is_consistent.ensures ∙ not-true _ c.if1.true)
 
 add-sent-requires : tie.Need-add-sent-requires
 add-sent-requires c κs =
     let s = start c.before.before in
-    let passed = sym c.before.before.is-consistent.ensures ∙ not-false _ c.before.if1.false in
+    let passed = sym c.before.before.is_consistent.ensures ∙ not-false _ c.before.if1.false in
     (s.pre.0, ((s.pre.1.0, passed), s.pre.1.1))
 
 same_length : tie.Need-same-length

@@ -7,16 +7,16 @@ use mathlib.Core.List.{List}
 use native.Mathlib.Omega.{arith}
 use lib.ListN.{length, take, drop}
 use Rattle.rows.specs.Order.{Row}
-use Rattle.message.specs.Layout.{rowBits}
-use Rattle.message.proofs.Legal.{Bounds, Sizes, legal-bounds, sizes}
+use Rattle.message.specs.Layout.{row_bits}
+use Rattle.message.proofs.Legal.{Bounds, Sizes, legal_bounds, sizes}
 use Rattle.lines.specs.Lines.{line, Inside}
-use Rattle.found.proofs.Steps.{grown-weaken}
-use Rattle.found.proofs.Row.{front-part, handBits, hand-row, hand-only}
+use Rattle.found.proofs.Steps.{grown_weaken}
+use Rattle.found.proofs.Row.{front_part, hand_bits, hand-row, hand-only}
 use Rattle.found.proofs.add_row.Statement.{statement}
 use Rattle.found.proofs.add_row.Tie as tie
 
 bounds : (s : tie.Start) → Bounds s.args.l
-bounds s = legal-bounds s.args.l s.requires.0.is-legal
+bounds s = legal_bounds s.args.l s.requires.0.is_legal
 
 size : (s : tie.Start) → Sizes s.args.l
 size s = sizes s.args.l (bounds s)
@@ -39,7 +39,7 @@ spread-requires c κs =
     let s = entry c.before in
     let inside : Inside s.args.l.nc 0 1 (s.args.l.l1 * s.args.l.l2) (length s.args.row.now) =
     record {
-      nc-high = (bounds s).nc-high;
+      nc_high = (bounds s).nc_high;
       short = (size s).row;
       stride-high = omega arith;
       last = omega (arith, (size s).chunks, s.pre.1.0);
@@ -66,20 +66,20 @@ abbrev start : tie.After-add-bits-arg2 → tie.Start
 start c = begin c.before.before.before.before
 
 abbrev bits : tie.After-add-bits-arg2 → List ℕ
-bits c = take (rowBits (start c).args.l - 0) c.before.before.before.before.spread.new.1.1.1.1.1.0
+bits c = take (row_bits (start c).args.l - 0) c.before.before.before.before.spread.new.1.1.1.1.1.0
 
 -- they are those of the chunks in hand
-bits_are : (c : tie.After-add-bits-arg2) → bits c ≡ handBits (start c).args.l (start c).args.row.now
+bits_are : (c : tie.After-add-bits-arg2) → bits c ≡ hand_bits (start c).args.l (start c).args.row.now
 bits_are c =
     let a = (start c).args in
     let k = c.before.before.before.before.spread in
-    front-part (handBits a.l a.row.now) (drop (0 + rowBits a.l) _) k.new.1.1.1.1.1.0 (rowBits a.l)
+    front_part (hand_bits a.l a.row.now) (drop (0 + row_bits a.l) _) k.new.1.1.1.1.1.0 (row_bits a.l)
     (hand-row a.l a.row.now).0 k.ensures
 
 add-bits-requires : tie.Need-add-bits-requires
 add-bits-requires c κs =
     let s = start c in
-    let row = subst (Row (rowBits s.args.l)) (sym (bits_are c)) (hand-row s.args.l s.args.row.now) in
+    let row = subst (Row (row_bits s.args.l)) (sym (bits_are c)) (hand-row s.args.l s.args.row.now) in
     (s.pre.0, (row, s.pre.1.1))
 
 same_length : tie.Need-same-length
@@ -90,7 +90,7 @@ returns c =
     let k = c.before.before in
     let i = k.before in
     let a = (start i).args in
-    grown-weaken (λ x sent h. hand-only a.l a.row.now x sent.0 h ∙ sym (bits_are i)) k.add-bits.ensures
+    grown_weaken (λ x sent h. hand-only a.l a.row.now x sent.0 h ∙ sym (bits_are i)) k.add-bits.ensures
 
 pub add-row-spec : {M : Type 1} → statement M
 add-row-spec =

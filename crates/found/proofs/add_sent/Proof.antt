@@ -5,10 +5,10 @@ use mathlib.Core.Path.{◌≡◌}
 use mathlib.Core.List.{List}
 use native.Mathlib.Omega.{arith}
 use lib.ListN.{length, take, drop}
-use Rattle.bits.specs.Bits.{longest, bytesFor, pack}
+use Rattle.bits.specs.Bits.{longest, bytes_for, pack}
 use Rattle.bits.proofs.Packing.{length-pack}
-use Rattle.found.proofs.Row.{front-part, row-some, row-short}
-use Rattle.found.proofs.Steps.{insert-asks, grown-packed}
+use Rattle.found.proofs.Row.{front_part, row-some, row-short}
+use Rattle.found.proofs.Steps.{insert_asks, grown_packed}
 use Rattle.found.proofs.add_sent.Statement.{statement}
 use Rattle.found.proofs.add_sent.Tie as tie
 
@@ -44,19 +44,19 @@ abbrev start : tie.After-insert-arg2 → tie.Start
 start c = entry c.before.before.before.before.before
 
 abbrev bytes : tie.After-insert-arg2 → List ℕ
-bytes c = take (bytesFor (length (start c).args.x.now) - 0) c.before.before.before.before.pack.new.1.0
+bytes c = take (bytes_for (length (start c).args.x.now) - 0) c.before.before.before.before.pack.new.1.0
 
 -- they are the row packed
 bytes-are : (c : tie.After-insert-arg2) → bytes c ≡ pack (start c).args.x.now
 bytes-are c =
     let x = (start c).args.x.now in
     let k = c.before.before.before.before.pack in
-    front-part (pack x) (drop (bytesFor (length x)) _) k.new.1.0 (bytesFor (length x)) (length-pack x) k.ensures
+    front_part (pack x) (drop (bytes_for (length x)) _) k.new.1.0 (bytes_for (length x)) (length-pack x) k.ensures
 
 insert-requires : tie.Need-insert-requires
 insert-requires c κs =
     let s = start c in
-    insert-asks s.pre.1.1 (row-some s.pre.0) s.args.x.now s.pre.1.0.0 (bytes c) (bytes-are c)
+    insert_asks s.pre.1.1 (row-some s.pre.0) s.args.x.now s.pre.1.0.0 (bytes c) (bytes-are c)
 
 same_length : tie.Need-same-length
 same_length c = search rules
@@ -66,7 +66,7 @@ returns c =
     let k = c.before.before in
     let i = k.before in
     let s = start i in
-    grown-packed s.pre.1.1 (row-some s.pre.0) s.args.x.now s.pre.1.0.0 (bytes i) (bytes-are i)
+    grown_packed s.pre.1.1 (row-some s.pre.0) s.args.x.now s.pre.1.0.0 (bytes i) (bytes-are i)
     s.pre.1.0 k.insert.ensures
 
 pub add-sent-spec : {M : Type 1} → statement M

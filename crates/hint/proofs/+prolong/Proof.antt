@@ -6,9 +6,9 @@ use mathlib.Core.Path.{sym, ◌∙◌}
 use mathlib.Core.Logic.{⊎_elim}
 use native.Mathlib.Omega.{arith}
 use Rattle.bits.specs.Bits.{longest}
-use Rattle.consistent.specs.Consistent.{mostLosses}
+use Rattle.consistent.specs.Consistent.{most_losses}
 use Rattle.hint.specs.Tries.{Fit, Hand}
-use Rattle.hint.proofs.Places.{high, block-low, received-short, block-next, block_inside, place-high}
+use Rattle.hint.proofs.Places.{high, block_low, received-short, block_next, block_inside, place-high}
 use borrow.Fn.Kinds.{In}
 use borrow.Fn.PlainCycle.{Measures, is, falls, and}
 use Rattle.hint.proofs.prolong.Reads as prolong
@@ -217,7 +217,7 @@ prolong-add-prolong : (t : ℕ)
     → prolong-lts.Need-overflow-add-prolong (called t) (prolong-at t) prolong.Post prolong-Inv-loop prolong-μ-loop
 prolong-add-prolong t c =
     let r = read t (loop t c.before.before.before.before) in
-    omega (arith, r.as_read.ensures.1.0.inside, (high (entry t r).pre.1.0.0).l1-high)
+    omega (arith, r.as_read.ensures.1.0.inside, (high (entry t r).pre.1.0.0).l1_high)
 
 prolong-add-t36 : (t : ℕ)
     → prolong-lts.Need-overflow-add-t36 (called t) (prolong-at t) prolong.Post prolong-Inv-loop prolong-μ-loop
@@ -243,7 +243,7 @@ prolong-prolong-requires t c κs =
     let g = s.pre.1.0.0 in
     let m = p.before.before.before.least in
     let i = r.as_read.result.i in
-    let next = block-next g i in
+    let next = block_next g i in
     let before = r.as_read.ensures.1.0.before in
     let some = p.loop.inv.1.1.1 in
     let here = inside t p in
@@ -283,7 +283,7 @@ prolong-next-try-requires t c κs =
     let s = entry t (read t p) in
     let v = p.loop.inv.1.1 in
     let m = p.before.before.before.least in
-    let few : m.result ≤ mostLosses = omega (arith, m.ensures.0, s.pre.1.0.1) in
+    let few : m.result ≤ most_losses = omega (arith, m.ensures.0, s.pre.1.0.1) in
     let test = k.before.before.before.before.if2.true in
     ((received-short s.pre.1.0.0, few), (v.0, (v.1, omega (arith, test))))
 
@@ -295,7 +295,7 @@ after_turn t c =
     let k = c.before.before.before in
     let g = (entry t (read t (loop t k))).pre.1.0.0 in
     let left = k.before.before.before.if3.false in
-    let used = k.before.before.less3.ensures.1 (omega arith) (block-low g) in
+    let used = k.before.before.less3.ensures.1 (omega arith) (block_low g) in
     ⊎_elim
     (λ w. rw (w.7, w.8) (w.3.ensures.0, omega (arith, used, w.3.ensures.1)))
     (λ w. rw (w.1, w.2) (hand t k, used))

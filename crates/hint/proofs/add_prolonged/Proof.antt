@@ -2,8 +2,8 @@
 -- Assumes nothing.
 use borrow.Author.Rules.{rules}
 use native.Mathlib.Omega.{arith}
-use Rattle.found.proofs.Steps.{grown-nothing, grown-weaken}
-use Rattle.hint.proofs.Places.{stands-start}
+use Rattle.found.proofs.Steps.{grown_nothing, grown_weaken}
+use Rattle.hint.proofs.Places.{stands_start}
 use Rattle.hint.proofs.add_prolonged.Statement.{statement}
 use Rattle.hint.proofs.add_prolonged.Tie as tie
 
@@ -21,7 +21,7 @@ prolong-requires : tie.Need-prolong-requires
 prolong-requires c κs =
     let s = entry c in
     let g = s.pre.0 in
-    ((g, omega (arith, g.few, s.pre.1.0.size)), (stands-start s.args.l, s.pre.1.0))
+    ((g, omega (arith, g.few, s.pre.1.0.size)), (stands_start s.args.l, s.pre.1.0))
 
 same_length : tie.Need-same-length
 same_length c = search rules
@@ -29,7 +29,7 @@ same_length c = search rules
 returns : tie.Need-returns
 returns c =
     let s = entry c.before.before.before.before.before in
-    grown-nothing s.pre.1.1 (λ z k u. u)
+    grown_nothing s.pre.1.1 (λ z k u. u)
 
 add-bits-requires : tie.Need-add-bits-requires
 add-bits-requires c κs =
@@ -45,7 +45,7 @@ same-length-3 : tie.Need-same-length-3
 same-length-3 c = search rules
 
 returns-2 : tie.Need-returns-2
-returns-2 c = grown-weaken (λ z s u. absurd u) c.before.before.add-bits.ensures
+returns-2 c = grown_weaken (λ z s u. absurd u) c.before.before.add-bits.ensures
 
 pub add-prolonged-spec : {M : Type 1} → statement M
 add-prolonged-spec =

@@ -3,9 +3,9 @@
 use borrow.Author.Rules.{rules}
 use mathlib.Core.Path.{◌∙◌}
 use native.Mathlib.Omega.{arith}
-use Rattle.found.proofs.Steps.{grown-weaken}
+use Rattle.found.proofs.Steps.{grown_weaken}
 use Rattle.hint.specs.Tries.{Hand}
-use Rattle.hint.proofs.Places.{stands-start}
+use Rattle.hint.proofs.Places.{stands_start}
 use Rattle.hint.proofs.add_repeated.Statement.{statement}
 use Rattle.hint.proofs.add_repeated.Tie as tie
 
@@ -19,7 +19,7 @@ read c = c.before.before.before.before
 as-read-requires : tie.Need-as-read-requires
 as-read-requires c κs =
     let s = c.before.before.before.before.before in
-    (s.requires.0, (stands-start s.args.l, s.requires.1.0))
+    (s.requires.0, (stands_start s.args.l, s.requires.1.0))
 
 sub-repeat-at : tie.Need-overflow-sub-repeat-at
 sub-repeat-at c =
@@ -52,7 +52,7 @@ same-length-2 : tie.Need-same-length-2
 same-length-2 c = search rules
 
 returns : tie.Need-returns
-returns c = grown-weaken (λ z s u. absurd u) c.before.before.add-bits.ensures
+returns c = grown_weaken (λ z s u. absurd u) c.before.before.add-bits.ensures
 
 pub add-repeated-spec : {M : Type 1} → statement M
 add-repeated-spec =

@@ -6,7 +6,7 @@ use mathlib.Core.Path.{sym, ◌∙◌}
 use native.Mathlib.Omega.{arith}
 use Rattle.message.specs.Layout.{block_bits}
 use Rattle.hint.specs.Tries.{Hand}
-use Rattle.hint.proofs.Places.{high, received-short, block-next, block_inside, place-high}
+use Rattle.hint.proofs.Places.{high, received-short, block_next, block_inside, place-high}
 use Rattle.hint.proofs.as_read.Statement.{statement}
 use Rattle.hint.proofs.as_read.Tie as tie
 
@@ -47,7 +47,7 @@ try-block-requires c κs =
     let inside = block_inside g p.loop.i (omega arith) in (
       ((g.bits, received-short g), (v.0.bits, omega (arith, v.0.size, (high g).row))),
       (
-        record { q-in = omega arith; r-in = omega arith; g-few = omega arith; e-few = omega arith },
+        record { q_in = omega arith; r_in = omega arith; g_few = omega arith; e_few = omega arith },
         (place-high g p.loop.i p.loop.p v.1.0 v.1.1.0, omega (arith, v.0.size)),
       ),
     )
@@ -88,7 +88,7 @@ loop-again c =
     let k = c.before.before.before in
     let p = turn k in
     let v = p.loop.inv.1 in
-    let next = block-next (start p).pre.0 p.loop.i in
+    let next = block_next (start p).pre.0 p.loop.i in
     (hand k, (omega arith, (omega (arith, next, v.1.0), omega (arith, v.1.1))))
 
 same-length-2 : tie.Need-same-length-2 invariant-loop decreases-loop

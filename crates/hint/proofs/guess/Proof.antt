@@ -4,8 +4,8 @@ use Prim.Native.Nat.{◌-◌}
 use native.Mathlib.Omega.{arith}
 use lib.ListN.{take, replicate}
 use Rattle.bits.specs.Bits.{longest}
-use Rattle.message.specs.Layout.{rowBits}
-use Rattle.found.proofs.Steps.{grown-nothing}
+use Rattle.message.specs.Layout.{row_bits}
+use Rattle.found.proofs.Steps.{grown_nothing}
 use Rattle.hint.specs.Tries.{Hand}
 use Rattle.hint.proofs.Strings.{hand-zeros}
 use Rattle.hint.proofs.Places.{high, received-short}
@@ -13,7 +13,7 @@ use Rattle.hint.proofs.guess.Statement.{statement}
 use Rattle.hint.proofs.guess.Tie as tie
 
 returns : tie.Need-returns
-returns c = grown-nothing c.before.before.before.before.before.requires.1 (λ z s u. u)
+returns c = grown_nothing c.before.before.before.before.before.requires.1 (λ z s u. u)
 
 -- where the function starts, seen from where the first test does not hold; and that place, seen from the tests
 abbrev start : tie.Else1 → tie.Start
@@ -44,8 +44,8 @@ part-x-end : tie.Need-slice-bounds-x-end
 part-x-end c = omega (arith, (high (looked c.before).requires.0).row)
 
 -- the zeros that a guess is made in
-zeros : (s : tie.Start) → Hand s.args.l (take (rowBits s.args.l - 0) (replicate longest 0))
-zeros s = hand-zeros s.args.l longest (high s.requires.0).row (rowBits s.args.l - 0) (omega arith)
+zeros : (s : tie.Start) → Hand s.args.l (take (row_bits s.args.l - 0) (replicate longest 0))
+zeros s = hand-zeros s.args.l longest (high s.requires.0).row (row_bits s.args.l - 0) (omega arith)
 
 add-prolonged-requires : tie.Need-add-prolonged-requires
 add-prolonged-requires c κs =
@@ -85,7 +85,7 @@ returns-3 : tie.Need-returns-3
 returns-3 c = search rules
 
 returns-4 : tie.Need-returns-4
-returns-4 c = grown-nothing (repeating c.before).requires.1 (λ z s u. u)
+returns-4 c = grown_nothing (repeating c.before).requires.1 (λ z s u. u)
 
 pub guess-spec : {M : Type 1} → statement M
 guess-spec =

@@ -2,7 +2,7 @@
 use borrow.Author.Rules.{rules}
 use Prim.Native.Nat.{ℕ, ◌+◌, ◌*◌, ◌%◌}
 use mathlib.Core.Path.{ap, ◌∙◌}
-use Rattle.lines.proofs.Turns.{sum-of-total}
+use Rattle.lines.proofs.Turns.{sum_of_total}
 use Rattle.lines.proofs.line_sum.Statement.{statement}
 use Rattle.lines.proofs.line_sum.Tie as tie
 
@@ -25,7 +25,7 @@ returns : tie.Need-returns
 returns c =
     let a = c.before.before.before.before.args in
     ap (λ (t : ℕ). t % (a.count * a.nc + 1)) c.line-total.ensures
-    ∙ sum-of-total a.nc a.start a.stride a.count a.vs.now
+    ∙ sum_of_total a.nc a.start a.stride a.count a.vs.now
 
 pub line-sum-spec : {M : Type 1} → statement M
 line-sum-spec =

@@ -8,7 +8,7 @@ use native.Mathlib.Omega.{arith}
 use lib.ListN.{length}
 use Rattle.vt.specs.Sum.{total}
 use Rattle.lines.specs.Lines.{line}
-use Rattle.lines.proofs.Turns.{Chunk, chunk_of, total-turn, total-start, total-done, total-most}
+use Rattle.lines.proofs.Turns.{Chunk, chunk_of, total_turn, total-start, total_done, total-most}
 use Rattle.lines.proofs.line_total.Statement.{statement}
 use Rattle.lines.proofs.line_total.Tie as tie
 
@@ -53,7 +53,7 @@ add-chunk-total-2 c = omega (arith, (turn c.before).room, c.before.before.before
 chunk-total-requires : tie.Need-chunk-total-requires invariant-loop decreases-loop
 chunk-total-requires c κs =
     let s = c.before.before.before.before in
-    ((s.requires.0, s.requires.1.nc-high), (omega arith, omega (arith, (turn c.before).room, s.requires.1.short)))
+    ((s.requires.0, s.requires.1.nc_high), (omega arith, omega (arith, (turn c.before).room, s.requires.1.short)))
 
 -- what the turn adds and what is left are what was left before it
 added : (c : tie.After-chunk-total invariant-loop decreases-loop)
@@ -65,7 +65,7 @@ added : (c : tie.After-chunk-total invariant-loop decreases-loop)
 added c =
     let p = c.before.before.before.loop in
     let a = c.before.before.before.before.before.args in
-    let step = total-turn a.nc a.start a.stride a.count p.t a.vs.now (omega arith) in
+    let step = total_turn a.nc a.start a.stride a.count p.t a.vs.now (omega arith) in
     omega (arith, p.invariant.1, step, c.chunk-total.ensures.0)
 
 add-sum : tie.Need-overflow-add-sum invariant-loop decreases-loop
@@ -87,7 +87,7 @@ returns : tie.Need-returns invariant-loop decreases-loop
 returns c =
     let a = c.before.before.before.args in
     let p = c.before.loop in
-    let done = total-done a.nc a.start a.stride a.count p.t a.vs.now (omega arith) in
+    let done = total_done a.nc a.start a.stride a.count p.t a.vs.now (omega arith) in
     omega (arith, p.invariant.1, done)
 
 pub line-total-spec : {M : Type 1} → statement M

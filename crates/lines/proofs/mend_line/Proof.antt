@@ -6,11 +6,11 @@ use mathlib.Core.Path.{◌∙◌}
 use native.Mathlib.Nat.{mul-le-mul}
 use native.Mathlib.Omega.{arith}
 use lib.ListN.{length, get_or}
-use Rattle.bits.specs.Bits.{longestLine, digits}
+use Rattle.bits.specs.Bits.{longest_line, digits}
 use Rattle.bits.proofs.Laws.{bits-digits}
 use Rattle.vt.specs.Ones.{ones}
 use Rattle.vt.specs.Sum.{total}
-use Rattle.lines.proofs.Lost.{few_bits, weighed, lost-adds, lost-number}
+use Rattle.lines.proofs.Lost.{few_bits, weighed, lost_adds, lost-number}
 use Rattle.lines.proofs.Parts.{total-own}
 use Rattle.lines.proofs.Turns.{Chunk, chunk_of, total-most}
 use Rattle.lines.proofs.mend_line.Statement.{statement}
@@ -26,13 +26,13 @@ stands s =
 -- what the bits at hand weigh is little, also behind the chunks before them
 small : (s : tie.Start) → let a = s.args in
     ((total 1 a.bits.now ≤ 7 * 8) × (ones a.bits.now ≤ 7))
-    × (a.hole * a.nc * ones a.bits.now ≤ longestLine * 7)
+    × (a.hole * a.nc * ones a.bits.now ≤ longest_line * 7)
 small s =
     let a = s.args in
     let i = s.requires.0.0 in
-    let few = few_bits a.bits.now s.requires.1.1.0.1 (omega (arith, s.requires.1.1.0.0, i.nc-high)) in
-    let before : a.hole * a.nc ≤ longestLine = omega (arith, (stands s).room, i.short) in
-    (few, mul-le-mul {n₂ = longestLine} {m₂ = 7} before few.1)
+    let few = few_bits a.bits.now s.requires.1.1.0.1 (omega (arith, s.requires.1.1.0.0, i.nc_high)) in
+    let before : a.hole * a.nc ≤ longest_line = omega (arith, (stands s).room, i.short) in
+    (few, mul-le-mul {n₂ = longest_line} {m₂ = 7} before few.1)
 
 mul_at : tie.Need-overflow-mul-at
 mul_at c = let s = c.before.before in omega (arith, (stands s).stands, s.requires.0.1)
@@ -63,7 +63,7 @@ chunk-total-requires : tie.Need-chunk-total-requires
 chunk-total-requires c κs =
     let s = entry c.before.before in
     let i = s.pre.0.0 in (
-      (c.before.before.before.before.weights.ensures, i.nc-high),
+      (c.before.before.before.before.weights.ensures, i.nc_high),
       (omega arith, omega (arith, (stands s).room, i.short)),
     )
 
@@ -77,7 +77,7 @@ start c = entry c.before.before.before.before
 -- what the chunk brings is part of the line's total, which is not large
 parts : (c : tie.After-weigh) → let a = (start c).args in
     (c.before.chunk-total.result ≤ c.before.before.before.before.line-total.result)
-    × (c.before.before.before.before.line-total.result ≤ longestLine * (1 + longestLine))
+    × (c.before.before.before.before.line-total.result ≤ longest_line * (1 + longest_line))
 parts c =
     let s = start c in
     let a = s.args in
@@ -119,7 +119,7 @@ mend-chunk-requires c κs =
     let i = s.pre.0.0 in
     let n = s.pre.1.1.0.0 in
     let g = c.lacking.ensures.0 in (
-      ((n, i.nc-high), s.pre.1.1.0.1),
+      ((n, i.nc_high), s.pre.1.1.0.1),
       ((omega arith, omega (arith, (stands s).room, i.short, n), omega (arith, g, i.short)), w.weigh.ensures),
     )
 
@@ -138,7 +138,7 @@ returns c us m =
     let e = w.weigh.ensures in
     let short = weighed rest before w.weigh.result.ones w.weigh.result.total y e.1 e.0 in
     let adds =
-    lost-adds a.nc a.start a.stride a.count a.hole a.sum y a.vs.now us p.0 p.1.0.0
+    lost_adds a.nc a.start a.stride a.count a.hole a.sum y a.vs.now us p.0 p.1.0.0
     p.1.0.1 m rest k.lacking.result (omega (arith, (parts w).0, whole.ensures, own.ensures.0))
     k.lacking.ensures.0
     (rw short at k.lacking.ensures.1) in

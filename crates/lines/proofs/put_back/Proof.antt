@@ -9,7 +9,7 @@ use lib.ListN.{take}
 use Rattle.bits.specs.Bits.{number}
 use Rattle.rows.specs.Order.{Row}
 use Rattle.vt.specs.Mend.{mended}
-use Rattle.lines.proofs.Lost.{front-mended, made_again}
+use Rattle.lines.proofs.Lost.{front_mended, made_again}
 use Rattle.lines.proofs.put_back.Statement.{statement}
 use Rattle.lines.proofs.put_back.Tie as tie
 
@@ -25,7 +25,7 @@ mended-bits : (c : tie.After-mend-bits) → let a = c.before.before.before.args 
 mended-bits c =
     let s = c.before.before.before in
     let a = s.args in
-    front-mended a.nc (a.whole % (a.nc + 1)) a.bits.now c.mend-bits.new.1.1.0 _ s.requires.1
+    front_mended a.nc (a.whole % (a.nc + 1)) a.bits.now c.mend-bits.new.1.1.0 _ s.requires.1
     s.requires.0.0
     (sum_low s) c.mend-bits.ensures
 

@@ -8,7 +8,7 @@ use native.Mathlib.Omega.{arith}
 use lib.ListN.{length, get_or, take, drop, length-set}
 use lib.Seq.{paste, paste-zero, take_all}
 use Rattle.bits.specs.Bits.{digits}
-use Rattle.bits.proofs.Copy.{paste-next}
+use Rattle.bits.proofs.Copy.{paste_next}
 use Rattle.bits.proofs.Laws.{digits-at, length_digits}
 use Rattle.lines.proofs.put_chunk.Statement.{statement}
 use Rattle.lines.proofs.put_chunk.Tie as tie
@@ -80,7 +80,7 @@ loop-again c =
       omega arith,
       (
         simp length-set p.invariant.1.0,
-        rw (p.invariant.1.1, bit) (paste-next a.out.now a.at (digits k a.v) p.i (omega arith) n),
+        rw (p.invariant.1.1, bit) (paste_next a.out.now a.at (digits k a.v) p.i (omega arith) n),
       ),
     )
 

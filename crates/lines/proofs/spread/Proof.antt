@@ -5,13 +5,13 @@ use Prim.Native.Nat.{◌+◌, ◌-◌, ◌*◌, ◌≤◌}
 use mathlib.Core.Path.{◌≡◌, ◌∙◌, ap}
 use native.Mathlib.Omega.{arith}
 use lib.ListN.{length}
-use Rattle.lines.proofs.Turns.{Chunk, chunk_of, spreadTo, spread_none, spread-next}
+use Rattle.lines.proofs.Turns.{Chunk, chunk_of, spread_to, spread_none, spread_next}
 use Rattle.lines.proofs.spread.Statement.{statement}
 use Rattle.lines.proofs.spread.Tie as tie
 
 abbrev invariant-loop : tie.invariant-loop
 invariant-loop nc start stride count vs out₀ at t₀ out t =
-    (t ≤ count) × ((length out ≡ length out₀) × (out ≡ spreadTo nc start stride vs at out₀ t))
+    (t ≤ count) × ((length out ≡ length out₀) × (out ≡ spread_to nc start stride vs at out₀ t))
 
 abbrev decreases-loop : tie.decreases-loop
 decreases-loop nc start stride count vs out₀ at t₀ out t = count - t
@@ -52,7 +52,7 @@ add-put-chunk-2 c = omega (arith, (turn c.before.before).room)
 put-chunk-requires : tie.Need-put-chunk-requires invariant-loop decreases-loop
 put-chunk-requires c κs =
     let s = entry c.before.before in (
-      s.pre.0.nc-high,
+      s.pre.0.nc_high,
       omega (arith, (turn c.before.before).room, s.pre.1, c.before.before.before.loop.invariant.1.0),
     )
 
@@ -72,7 +72,7 @@ loop-again c =
     omega (arith, (turn c.before.before.before.before.before).room, s.pre.1)
     in
     let e =
-    spread-next a.nc a.start a.stride a.at p.t a.vs.now a.out.now p.out put.new.1.1.0
+    spread_next a.nc a.start a.stride a.at p.t a.vs.now a.out.now p.out put.new.1.1.0
     room p.invariant.1.1
     put.ensures
     in
@@ -86,7 +86,7 @@ returns c =
     let a = c.before.before.before.before.args in
     let p = c.before.loop in
     let e : p.t ≡ a.count = omega arith in
-    p.invariant.1.1 ∙ ap (spreadTo a.nc a.start a.stride a.vs.now a.at a.out.now) e
+    p.invariant.1.1 ∙ ap (spread_to a.nc a.start a.stride a.vs.now a.at a.out.now) e
 
 pub spread-spec : {M : Type 1} → statement M
 spread-spec =

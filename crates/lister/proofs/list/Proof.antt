@@ -8,17 +8,17 @@ use lib.ListN.{length, take}
 use Rattle.refusal.specs.Refusal.{number_of}
 use Rattle.refusal.proofs.Laws.{numbered}
 use Rattle.bits.specs.Bits.{AllBytes}
-use Rattle.bits.proofs.Packing.{bytes-of-each}
-use Rattle.message.specs.Layout.{legal, rowBits}
-use Rattle.message.specs.Read.{layout_of, messageRefusal, numbersRead}
+use Rattle.bits.proofs.Packing.{bytes_of_each}
+use Rattle.message.specs.Layout.{legal, row_bits}
+use Rattle.message.specs.Read.{layout_of, message_refusal, numbers_read}
 use Rattle.message.specs.declared.Layout.{Layout}
-use Rattle.message.proofs.Answers.{found, fit-named}
-use Rattle.message.proofs.Legal.{legal-bounds, sizes, Sizes}
+use Rattle.message.proofs.Answers.{found, fit_named}
+use Rattle.message.proofs.Legal.{legal_bounds, sizes, Sizes}
 use Rattle.lister.specs.Answer.{listed_of}
-use Rattle.lister.specs.Rows.{rowRefusal}
-use Rattle.lister.proofs.Answers.{message-decides, row-decides, refused-listing, rows-listed}
+use Rattle.lister.specs.Rows.{row_refusal}
+use Rattle.lister.proofs.Answers.{message_decides, row_decides, refused_listing, rows-listed}
 use Rattle.lister.proofs.Read.{numbers-few, Numbers, numbers-read, message-number, given}
-use Rattle.lister.proofs.Row.{FitRow, row-passed, enough-bytes, row-refused, row-not-refused}
+use Rattle.lister.proofs.Row.{FitRow, row_passed, enough_bytes, row_refused, row_not_refused}
 use Rattle.lister.proofs.list.Statement.{statement}
 use Rattle.lister.proofs.list.Tie as tie
 
@@ -49,24 +49,24 @@ returns c =
     let a = (start k).args in
     let q = c.before.answer.given.0.0 in
     let n = message-number a.msg.now k.read.result q c.before.answer.given.1 (numbers k).answer in
-    let e = message-decides a.msg.now a.row.now a.m (λ z. omega (arith, numbered q)) in
-    refused-listing a.msg.now a.row.now a.m a.out.now (number_of q) (numbered q) (e ∙ n)
+    let e = message_decides a.msg.now a.row.now a.m (λ z. omega (arith, numbered q)) in
+    refused_listing a.msg.now a.row.now a.m a.out.now (number_of q) (numbered q) (e ∙ n)
 
 -- the layout that was answered; the message is fit, and its head names this layout
 abbrev named : tie.After-answer2 → Layout
 named c = c.answer2.given.0.0
 
 fit : (c : tie.After-answer2) → let s = (start c.before.before.before).args.msg.now in
-    (messageRefusal s ≡ 0) × (layout_of s ≡ named c)
+    (message_refusal s ≡ 0) × (layout_of s ≡ named c)
 fit c =
     let k = c.before.before.before in
     found (start k).args.msg.now k.read.result (named c) c.answer2.given.1 (numbers k).answer
 
-is-legal : (c : tie.After-answer2) → legal (named c) ≡ true
-is-legal c = (fit-named (start c.before.before.before).args.msg.now (named c) (fit c).0 (fit c).1).0
+is_legal : (c : tie.After-answer2) → legal (named c) ≡ true
+is_legal c = (fit_named (start c.before.before.before).args.msg.now (named c) (fit c).0 (fit c).1).0
 
 size : (c : tie.After-answer2) → Sizes (named c)
-size c = sizes (named c) (legal-bounds (named c) (is-legal c))
+size c = sizes (named c) (legal_bounds (named c) (is_legal c))
 
 mul-n : tie.Need-overflow-mul-n
 mul-n c = record { fits = omega (arith, (size c.before.before).chunks) }
@@ -75,10 +75,10 @@ mul-n-2 : tie.Need-overflow-mul-n-2
 mul-n-2 c = record { fits = omega (arith, (size c.before.before.before).row) }
 
 add-count : tie.Need-overflow-add-count
-add-count c = record { fits = omega (arith, numbers-few _ (is-legal c.before.before.before.before)) }
+add-count c = record { fits = omega (arith, numbers-few _ (is_legal c.before.before.before.before)) }
 
 add-count-2 : tie.Need-overflow-add-count-2
-add-count-2 c = record { fits = omega (arith, numbers-few _ (is-legal c.before.before.before.before.before)) }
+add-count-2 c = record { fits = omega (arith, numbers-few _ (is_legal c.before.before.before.before.before)) }
 
 check-row-requires : tie.Need-check-row-requires
 check-row-requires c κs = (size c.before.before.before.before.before).row
@@ -102,7 +102,7 @@ part-list-rows-start c = search rules
 part-list-rows-end : tie.Need-slice-bounds-list-rows-end
 part-list-rows-end c =
     let k = read_as c.before.before.before in
-    let h = numbers-few (named k) (is-legal k) in
+    let h = numbers-few (named k) (is_legal k) in
     search rules
 
 -- where the row is fit too
@@ -113,22 +113,22 @@ module _ (c : tie.After-enum-told2) where
   abbrev entry : tie.Start
   entry = start message.before.before.before
 
-  no-refusal : rowRefusal (rowBits (named message)) entry.args.row.now entry.args.m ≡ 0
+  no-refusal : row_refusal (row_bits (named message)) entry.args.row.now entry.args.m ≡ 0
   no-refusal =
       let r = c.before.before in
-      row-not-refused r.check-row.result c.enum-told2.given.0.0 _ c.enum-told2.given.1
+      row_not_refused r.check-row.result c.enum-told2.given.0.0 _ c.enum-told2.given.1
       r.check-row.ensures
 
-  fit_row : FitRow (rowBits (named message)) entry.args.row.now entry.args.m
-  fit_row = row-passed (rowBits (named message)) entry.args.row.now entry.args.m no-refusal
+  fit_row : FitRow (row_bits (named message)) entry.args.row.now entry.args.m
+  fit_row = row_passed (row_bits (named message)) entry.args.row.now entry.args.m no-refusal
 
   bytes : entry.args.m ≤ length entry.args.row.now * 8
-  bytes = enough-bytes (rowBits (named message)) entry.args.row.now entry.args.m fit_row.is-packed
+  bytes = enough_bytes (row_bits (named message)) entry.args.row.now entry.args.m fit_row.is_packed
 
   -- what is lent: the numbers of the message
   lent : let l = named message in
       take (l.l1 + l.l2 + l.r - 0) message.before.before.before.read.last.1.0
-      ≡ numbersRead entry.args.msg.now
+      ≡ numbers_read entry.args.msg.now
   lent = (numbers message.before.before.before).front (fit message).0 (named message) (fit message).1
 
 list-rows-requires : tie.Need-list-rows-requires
@@ -144,9 +144,9 @@ returns-2 c =
     let k = read_as r in
     let a = (start k.before.before.before).args in
     let q = c.enum_told.given.0.0 in
-    let n = row-refused r.check-row.result q _ c.enum_told.given.1 r.check-row.ensures in
-    let e = row-decides a.msg.now a.row.now a.m (fit k).0 (rowBits (named k)) (ap rowBits (fit k).1) in
-    let f = refused-listing a.msg.now a.row.now a.m a.out.now (number_of q) (numbered q) (e ∙ n) in
+    let n = row_refused r.check-row.result q _ c.enum_told.given.1 r.check-row.ensures in
+    let e = row_decides a.msg.now a.row.now a.m (fit k).0 (row_bits (named k)) (ap row_bits (fit k).1) in
+    let f = refused_listing a.msg.now a.row.now a.m a.out.now (number_of q) (numbered q) (e ∙ n) in
     (ap listed_of c.enum_told.given.1 ∙ f.0, f.1)
 
 same_length : tie.Need-same-length
@@ -161,8 +161,8 @@ returns-3 c =
     let s = a.msg.now in
     let r = w.before.before.before in
     let known = r.before.before.before.before.shared-slice-known.given in
-    let b : AllBytes s = bytes-of-each s (λ i. omega (arith, known i)) in
-    let e = row-decides s a.row.now a.m (fit w).0 (rowBits (named w)) (ap rowBits (fit w).1) ∙ no-refusal p in
+    let b : AllBytes s = bytes_of_each s (λ i. omega (arith, known i)) in
+    let e = row_decides s a.row.now a.m (fit w).0 (row_bits (named w)) (ap row_bits (fit w).1) ∙ no-refusal p in
     rows-listed s a.row.now a.m (named w) _ b (fit w).0 (fit w).1 (lent p) (bytes p) a.out.now e
     (listed_of k.list-rows.result) _ k.list-rows.ensures.0 k.list-rows.ensures.1
 

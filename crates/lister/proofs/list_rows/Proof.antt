@@ -5,13 +5,13 @@ use Prim.Native.Nat.{◌-◌, ◌*◌, ◌≤◌}
 use mathlib.Core.Path.{◌≡◌}
 use native.Mathlib.Omega.{arith}
 use lib.ListN.{length, take}
-use Rattle.bits.specs.Bits.{longest, bytesFor, unpack}
-use Rattle.message.specs.Layout.{rowBits}
-use Rattle.message.proofs.Legal.{legal-bounds, sizes}
+use Rattle.bits.specs.Bits.{longest, bytes_for, unpack}
+use Rattle.message.specs.Layout.{row_bits}
+use Rattle.message.proofs.Legal.{legal_bounds, sizes}
 use Rattle.found.specs.Found.{Listed}
 use Rattle.lister.specs.Rows.{room_for}
 use Rattle.lister.proofs.Answers.{more-found, all_found, slice-found, searched}
-use Rattle.lister.proofs.Lent.{row_low, row-high, few_bits, bits-lent, room_fits}
+use Rattle.lister.proofs.Lent.{row_low, row-high, few_bits, bits_lent, room_fits}
 use Rattle.lister.proofs.list_rows.Statement.{statement}
 use Rattle.lister.proofs.list_rows.Tie as tie
 
@@ -31,14 +31,14 @@ start c = c.before.before.before.before.before
 mul-n : tie.Need-overflow-mul-n
 mul-n c =
     let k = start c.before.before in
-    record { fits = omega (arith, (sizes k.args.l (legal-bounds k.args.l k.pre.0.is-legal)).chunks) }
+    record { fits = omega (arith, (sizes k.args.l (legal_bounds k.args.l k.pre.0.is_legal)).chunks) }
 
 -- a row has from 1 to 2,040 bits
-row-size : (c : tie.After-unpack) → let l = (start c).args.l in (1 ≤ rowBits l) × (rowBits l ≤ longest)
+row-size : (c : tie.After-unpack) → let l = (start c).args.l in (1 ≤ row_bits l) × (row_bits l ≤ longest)
 row-size c =
     let a = (start c).args in
     let p = (start c).requires in (
-      row_low a.l p.0.is-legal,
+      row_low a.l p.0.is_legal,
       row-high a.l a.numbers.now a.row.now a.m p.0 p.1,
     )
 
@@ -67,15 +67,15 @@ lent : (c : tie.After-unpack) → let a = (start c).args in
 lent c =
     let a = (start c).args in
     let p = (start c).requires in
-    bits-lent a.l a.numbers.now a.row.now a.m p.0 p.1 c.unpack.new.1.1.0 _
+    bits_lent a.l a.numbers.now a.row.now a.m p.0 p.1 c.unpack.new.1.1.0 _
     c.unpack.ensures
 
 -- there is room for the rows that are asked for
 fits : (c : tie.After-room) → let a = (start c.before.before.before.before).args in
-    c.room.result * bytesFor (rowBits a.l) ≤ length a.out.now
+    c.room.result * bytes_for (row_bits a.l) ≤ length a.out.now
 fits c =
     let a = (start c.before.before.before.before).args in
-    rw c.room.ensures (room_fits (rowBits a.l) (length a.out.now))
+    rw c.room.ensures (room_fits (row_bits a.l) (length a.out.now))
 
 search-requires : tie.Need-search-requires
 search-requires c κs =
@@ -89,7 +89,7 @@ abbrev entry : tie.After-search → tie.Start
 entry c = start c.before.before.before.before.before.before.before.before
 
 found : (c : tie.After-search) → let a = (entry c).args in
-    Listed a.l a.numbers.now (take a.m (unpack a.row.now)) (room_for (rowBits a.l) (length a.out.now))
+    Listed a.l a.numbers.now (take a.m (unpack a.row.now)) (room_for (row_bits a.l) (length a.out.now))
     a.out.now c.search.new.1.1.1.1.0 c.search.result.count c.search.result.more
 found c =
     let r = c.before.before.before.before in

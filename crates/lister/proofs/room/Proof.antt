@@ -3,8 +3,8 @@ use borrow.Author.Rules.{rules}
 use Prim.Native.Nat.{ℕ, ◌/◌, min}
 use mathlib.Core.Path.{◌≡◌, sym, ap}
 use native.Mathlib.Omega.{arith}
-use Rattle.bits.specs.Bits.{bytesFor}
-use Rattle.consistent.specs.List.{usedBytes}
+use Rattle.bits.specs.Bits.{bytes_for}
+use Rattle.consistent.specs.List.{used_bytes}
 use Rattle.lister.proofs.room.Statement.{statement}
 use Rattle.lister.proofs.room.Tie as tie
 
@@ -17,8 +17,8 @@ div-result c = search rules
 returns : tie.Need-returns
 returns c =
     let a = c.before.args in
-    let u : min a.slice usedBytes ≡ usedBytes = omega arith in
-    ap (λ (k : ℕ). k / bytesFor a.n) (sym u)
+    let u : min a.slice used_bytes ≡ used_bytes = omega arith in
+    ap (λ (k : ℕ). k / bytes_for a.n) (sym u)
 
 div-result-2 : tie.Need-nonzero-div-result-2
 div-result-2 c = search rules
@@ -26,8 +26,8 @@ div-result-2 c = search rules
 returns-2 : tie.Need-returns-2
 returns-2 c =
     let a = c.before.args in
-    let u : min a.slice usedBytes ≡ a.slice = omega arith in
-    ap (λ (k : ℕ). k / bytesFor a.n) (sym u)
+    let u : min a.slice used_bytes ≡ a.slice = omega arith in
+    ap (λ (k : ℕ). k / bytes_for a.n) (sym u)
 
 pub room-spec : {M : Type 1} → statement M
 room-spec = tie.close (tie.spec add-w div-result returns div-result-2 returns-2)

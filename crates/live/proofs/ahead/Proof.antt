@@ -10,28 +10,28 @@ use native.Mathlib.Omega.{arith}
 use borrow.Author.Rules.{rules}
 use borrow.Author.Tests.{lt-ltb}
 use lib.ListN.{length, get_or}
-use Rattle.bits.proofs.Laws.{lt-or-ge}
-use Rattle.message.proofs.Legal.{legal-bounds, sizes}
+use Rattle.bits.proofs.Laws.{lt_or_ge}
+use Rattle.message.proofs.Legal.{legal_bounds, sizes}
 use Rattle.states.specs.States.{each, state_of}
-use Rattle.column.specs.Column.{Light, apartIn}
-use Rattle.marks.specs.Marks.{Path, markAt, apartBefore, apartFrom, Through, Remade}
+use Rattle.column.specs.Column.{Light, apart_in}
+use Rattle.marks.specs.Marks.{Path, mark_at, apart_before, apart_from, Through, Remade}
 use Rattle.marks.specs.Digits.{Within}
-use Rattle.marks.proofs.Marks.{two-columns}
+use Rattle.marks.proofs.Marks.{two_columns}
 use Rattle.marks.proofs.Digits.{some-state}
-use Rattle.marks.proofs.Paths.{Lets, only-lets, through-lets, own_first, own-last, own-low, own-within, before-next}
+use Rattle.marks.proofs.Paths.{Lets, only_lets, through_lets, own_first, own-last, own-low, own-within, before-next}
 use Rattle.marks.proofs.Paths.{before-none}
-use Rattle.near.specs.Near.{mostAfter}
-use Rattle.near.proofs.Near.{after-covers}
+use Rattle.near.specs.Near.{most_after}
+use Rattle.near.proofs.Near.{after_covers}
 use Rattle.live.specs.Passes.{Regained}
-use Rattle.live.proofs.Passes.{Passing, passing-first, passing-next, passing-through, split-up}
+use Rattle.live.proofs.Passes.{Passing, passing_first, passing_next, passing_through, split_up}
 use Rattle.live.proofs.ahead.Statement.{statement}
 use Rattle.live.proofs.ahead.Tie as tie
 
 abbrev invariant-loop : tie.invariant-loop
 invariant-loop l y totals counts numbers heavy known z shape digits after room marks₀ states columns j₀ marks j =
     ((j ≤ l.l2) × (length marks ≡ length marks₀)) × ((row vs : List ℕ) (own : ℕ → ℕ → ℕ) → Light l heavy row known
-    → Path l y numbers heavy row (each shape.size) vs own → room ≤ apartFrom l heavy z vs 0 → Lets l shape marks₀ own
-    → Passing l shape marks own (apartBefore l heavy z vs) (λ i. i ≤ j))
+    → Path l y numbers heavy row (each shape.size) vs own → room ≤ apart_from l heavy z vs 0 → Lets l shape marks₀ own
+    → Passing l shape marks own (apart_before l heavy z vs) (λ i. i ≤ j))
 
 abbrev decreases-loop : tie.decreases-loop
 decreases-loop l y totals counts numbers heavy known z shape digits after room marks₀ states columns j₀ marks j = columns - j
@@ -56,7 +56,7 @@ places : (c : tie.In-loop invariant-loop decreases-loop)
     (c.before.loop.j + 1) * s.args.shape.states + s.args.shape.states ≤ length s.args.marks.now
 places c =
     let s = begin c.before in
-    two-columns s.args.shape.states c.before.loop.j s.args.l.l2 s.args.marks.now c.loop-test.true
+    two_columns s.args.shape.states c.before.loop.j s.args.l.l2 s.args.marks.now c.loop-test.true
     s.pre.1.1.1.1
 
 -- the marks keep their length
@@ -82,7 +82,7 @@ loop-holds c = (
   (omega arith, refl),
   λ row vs own light path far lets.
       let a = (start c.before.before.before.before).args in
-      passing-first a.l a.shape _ own (apartBefore a.l a.heavy a.z.now vs) (λ i. i ≤ 0)
+      passing_first a.l a.shape _ own (apart_before a.l a.heavy a.z.now vs) (λ i. i ≤ 0)
       (λ i h d. let e : i ≡ 0 = omega arith in
       rw e (before-none a.l a.heavy a.z.now vs)) lets,
 )
@@ -127,9 +127,9 @@ floor : (c : tie.After-floors-of invariant-loop decreases-loop) → let i = c.be
     let a = s.args in
     let j = i.loop.j in (row vs : List ℕ) (own : ℕ → ℕ → ℕ)
     → Path a.l a.y.now a.numbers.now a.heavy row (each a.shape.size) vs own
-    → a.room ≤ apartFrom a.l a.heavy a.z.now vs 0
+    → a.room ≤ apart_from a.l a.heavy a.z.now vs 0
     → get_or c.floors-of.result (state_of a.shape (own (j + 1))) 0
-    ≤ apartBefore a.l a.heavy a.z.now vs j + apartIn a.l a.heavy a.z.now vs j a.heavy.n
+    ≤ apart_before a.l a.heavy a.z.now vs j + apart_in a.l a.heavy a.z.now vs j a.heavy.n
 floor c row vs own path far =
     let t = c.before.before in
     let i = t.before in
@@ -139,21 +139,21 @@ floor c row vs own path far =
     let kept = s.pre.1.0 in
     let inside : j + 1 ≤ a.l.l2 = omega (arith, t.loop-test.true) in
     let next = before-next a.l a.heavy a.z.now vs j in
-    let some : a.room ≤ apartBefore a.l a.heavy a.z.now vs j + apartIn a.l a.heavy a.z.now vs j
+    let some : a.room ≤ apart_before a.l a.heavy a.z.now vs j + apart_in a.l a.heavy a.z.now vs j
     a.heavy.n
-    + mostAfter a.l.l2 a.after.now (own (j + 1)) (j + 1) a.shape.n =
+    + most_after a.l.l2 a.after.now (own (j + 1)) (j + 1) a.shape.n =
     ⊎_elim
     (λ far_some.
     omega (
       arith,
       far,
       next,
-      after-covers a.l a.y.now a.numbers.now a.heavy row a.shape vs own kept path a.z.now
+      after_covers a.l a.y.now a.numbers.now a.heavy row a.shape vs own kept path a.z.now
           a.after.now
           (s.pre.1.1.1.0.1 far_some) (j + 1) inside,
     ))
     (λ none. omega (arith, none))
-    (lt-or-ge 0 a.room)
+    (lt_or_ge 0 a.room)
     in
     c.floors-of.ensures.under (own (j + 1))
     (own-within a.l a.y.now a.numbers.now a.heavy row a.shape vs own kept path (j + 1) inside) _ some
@@ -170,9 +170,9 @@ turned : (c : tie.After-floors-of invariant-loop decreases-loop) (marks : List �
     (get_or marks ((j + 1) * a.shape.states + state_of a.shape left) 0))
     → (row vs : List ℕ) (own : ℕ → ℕ → ℕ) → Light a.l a.heavy row a.known.now
     → Path a.l a.y.now a.numbers.now a.heavy row (each a.shape.size) vs own
-    → a.room ≤ apartFrom a.l a.heavy a.z.now vs 0
-    → Passing a.l a.shape i.loop.marks own (apartBefore a.l a.heavy a.z.now vs) (λ t. t ≤ j)
-    → Passing a.l a.shape marks own (apartBefore a.l a.heavy a.z.now vs) (λ t. t ≤ j + 1)
+    → a.room ≤ apart_from a.l a.heavy a.z.now vs 0
+    → Passing a.l a.shape i.loop.marks own (apart_before a.l a.heavy a.z.now vs) (λ t. t ≤ j)
+    → Passing a.l a.shape marks own (apart_before a.l a.heavy a.z.now vs) (λ t. t ≤ j + 1)
 turned c marks remade regained row vs own light path far passing =
     let t = c.before.before in
     let i = t.before in
@@ -180,21 +180,21 @@ turned c marks remade regained row vs own light path far passing =
     let a = s.args in
     let k = t.loop-test.true in
     let j = i.loop.j in
-    passing-next a.l a.y.now a.numbers.now a.heavy row a.shape vs own s.pre.1.0 path
+    passing_next a.l a.y.now a.numbers.now a.heavy row a.shape vs own s.pre.1.0 path
     a.known.now a.z.now
-    j true (j + 1) j i.loop.marks marks c.floors-of.result (apartBefore a.l a.heavy a.z.now vs)
+    j true (j + 1) j i.loop.marks marks c.floors-of.result (apart_before a.l a.heavy a.z.now vs)
     (λ u. u ≤ j)
     (λ u. u ≤ j + 1) (omega (arith, k)) (omega (arith, k)) remade regained
     record { row = row; light = light; forth = λ e. path.crosses j k; back = λ e. absurd (true≢false e) }
     (omega (arith, before-next a.l a.heavy a.z.now vs j)) (floor c row vs own path far) (omega arith)
-    (split-up j) passing
+    (split_up j) passing
 
 -- the marks at entry let a row through, and so they do where the loop starts
 lets-in : (c : tie.At-loop invariant-loop decreases-loop) → let s = begin c in let a = s.args in
     (row vs : List ℕ) (own : ℕ → ℕ → ℕ) → Light a.l a.heavy row a.known.now
     → Path a.l a.y.now a.numbers.now a.heavy row (each a.shape.size) vs own
-    → a.room ≤ apartFrom a.l a.heavy a.z.now vs 0 → Through a.l a.shape a.marks.now own (λ j. 0)
-    → Passing a.l a.shape c.loop.marks own (apartBefore a.l a.heavy a.z.now vs) (λ t. t ≤ c.loop.j)
+    → a.room ≤ apart_from a.l a.heavy a.z.now vs 0 → Through a.l a.shape a.marks.now own (λ j. 0)
+    → Passing a.l a.shape c.loop.marks own (apart_before a.l a.heavy a.z.now vs) (λ t. t ≤ c.loop.j)
 lets-in c row vs own light path far through =
     let s = begin c in
     let a = s.args in
@@ -203,10 +203,10 @@ lets-in c row vs own light path far through =
     let first = own_first a.l a.y.now a.numbers.now a.heavy row a.shape vs own kept path in
     let q : state_of a.shape (own 0) ≡ a.shape.states - 1 = omega arith in
     let lets =
-    through-lets a.l a.y.now a.numbers.now a.heavy row a.shape vs own kept path a.marks.now
+    through_lets a.l a.y.now a.numbers.now a.heavy row a.shape vs own kept path a.marks.now
     s.pre.1.1.1.1 through in
     c.loop.invariant.1 row vs own light path far
-    (only-lets a.l a.y.now a.numbers.now a.heavy row a.shape vs own kept path 0 0 (a.shape.states - 1)
+    (only_lets a.l a.y.now a.numbers.now a.heavy row a.shape vs own kept path 0 0 (a.shape.states - 1)
     a.marks.now _ (sym (zero-mul a.shape.states)) o.0 (omega (arith, o.1)) q lets)
 
 same_length : tie.Need-same-length invariant-loop decreases-loop
@@ -219,7 +219,7 @@ none_left : (c : tie.Then1 invariant-loop decreases-loop) → let i = (turn c.be
     let s = begin i in let a = s.args in
     (row vs : List ℕ) (own : ℕ → ℕ → ℕ) → Light a.l a.heavy row a.known.now
     → Path a.l a.y.now a.numbers.now a.heavy row (each a.shape.size) vs own
-    → a.room ≤ apartFrom a.l a.heavy a.z.now vs 0 → Through a.l a.shape a.marks.now own (λ j. 0) → ⊥
+    → a.room ≤ apart_from a.l a.heavy a.z.now vs 0 → Through a.l a.shape a.marks.now own (λ j. 0) → ⊥
 none_left c row vs own light path far through =
     let r = c.before.before.before in
     let f = r.before.before in
@@ -258,7 +258,7 @@ add-j c =
       fits = omega (
         arith,
         t.loop-test.taken,
-        (sizes s.args.l (legal-bounds s.args.l s.pre.0.fit.allowed)).l2-high,
+        (sizes s.args.l (legal_bounds s.args.l s.pre.0.fit.allowed)).l2_high,
       );
     }
 
@@ -300,12 +300,12 @@ returns-2 c =
       record {
         long = long i;
         through = λ row vs own light path far through.
-            passing-through a.l a.shape _ own (apartBefore a.l a.heavy a.z.now vs) (λ t. t ≤ i.loop.j)
+            passing_through a.l a.shape _ own (apart_before a.l a.heavy a.z.now vs) (λ t. t ≤ i.loop.j)
             (λ t h. omega (arith, h, e)) (lets-in i row vs own light path far through);
       },
       λ row vs own light path far through.
           let last = own-last a.l a.y.now a.numbers.now a.heavy row a.shape vs own s.pre.1.0 path in
-          let at : markAt a.shape a.l.l2 (own a.l.l2) ≡ a.l.l2 * a.shape.states = omega (arith, last) in
+          let at : mark_at a.shape a.l.l2 (own a.l.l2) ≡ a.l.l2 * a.shape.states = omega (arith, last) in
           lt-ltb 0 _ (rw at at ((lets-in i row vs own light path far through).lets a.l.l2 (omega arith))),
     )
 

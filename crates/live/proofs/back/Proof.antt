@@ -7,14 +7,14 @@ use mathlib.Core.List.{List}
 use native.Mathlib.Omega.{arith}
 use borrow.Author.Rules.{rules}
 use lib.ListN.{length, replicate, get_or-replicate}
-use Rattle.states.specs.States.{mostStates, each, state_of}
+use Rattle.states.specs.States.{most_states, each, state_of}
 use Rattle.column.specs.Column.{Light}
-use Rattle.marks.specs.Marks.{Path, apartFrom}
-use Rattle.marks.proofs.Marks.{two-columns}
+use Rattle.marks.specs.Marks.{Path, apart_from}
+use Rattle.marks.proofs.Marks.{two_columns}
 use Rattle.marks.proofs.Digits.{some-state}
-use Rattle.marks.proofs.Paths.{Lets, only-lets, through-lets, own-last, own-low, before-next}
-use Rattle.live.proofs.Passes.{Passing, passing-first, passing-next, passing-through, split-down}
-use Rattle.live.proofs.Floors.{no-floors}
+use Rattle.marks.proofs.Paths.{Lets, only_lets, through_lets, own-last, own-low, before-next}
+use Rattle.live.proofs.Passes.{Passing, passing_first, passing_next, passing_through, split_down}
+use Rattle.live.proofs.Floors.{no_floors}
 use Rattle.live.proofs.back.Statement.{statement}
 use Rattle.live.proofs.back.Tie as tie
 
@@ -22,7 +22,7 @@ abbrev invariant-loop : tie.invariant-loop
 invariant-loop l y totals counts numbers heavy known z shape digits marks₀ states none j₀ marks j =
     ((j ≤ l.l2) × (length marks ≡ length marks₀)) × ((row vs : List ℕ) (own : ℕ → ℕ → ℕ) → Light l heavy row known
     → Path l y numbers heavy row (each shape.size) vs own → Lets l shape marks₀ own
-    → Passing l shape marks own (apartFrom l heavy z vs) (λ i. j ≤ i))
+    → Passing l shape marks own (apart_from l heavy z vs) (λ i. j ≤ i))
 
 abbrev decreases-loop : tie.decreases-loop
 decreases-loop l y totals counts numbers heavy known z shape digits marks₀ states none j₀ marks j = j
@@ -43,7 +43,7 @@ places : (c : tie.In-loop invariant-loop decreases-loop)
     (c.before.loop.j - 1 + 1) * s.args.shape.states + s.args.shape.states ≤ length s.args.marks.now
 places c =
     let s = begin c.before in
-    two-columns s.args.shape.states (c.before.loop.j - 1) s.args.l.l2 s.args.marks.now (omega (
+    two_columns s.args.shape.states (c.before.loop.j - 1) s.args.l.l2 s.args.marks.now (omega (
       arith,
       c.loop-test.true,
       c.before.loop.invariant.0.0,
@@ -69,7 +69,7 @@ loop-holds c = (
   (omega arith, refl),
   λ row vs own light path lets.
       let a = (start c.before.before.before.before).args in
-      passing-first a.l a.shape _ own (apartFrom a.l a.heavy a.z.now vs) (λ i. a.l.l2 ≤ i)
+      passing_first a.l a.shape _ own (apart_from a.l a.heavy a.z.now vs) (λ i. a.l.l2 ≤ i)
       (λ i h d. let e : i ≡ a.l.l2 = omega arith in
       rw e (omega arith)) lets,
 )
@@ -95,7 +95,7 @@ remake-requires c κs =
       p.0,
       (
         omega (arith, c.before.loop-test.true, i.loop.invariant.0.0),
-        (p.1.0, (p.1.1.0, (omega arith, (omega arith, no-floors)))),
+        (p.1.0, (p.1.1.0, (omega arith, (omega arith, no_floors)))),
       ),
     )
 
@@ -114,7 +114,7 @@ loop-again c =
     let e : j + 1 ≡ i.loop.j = omega (arith, k) in (
       (omega (arith, k, h), r.remake.ensures.0.long ∙ i.loop.invariant.0.1),
       λ row vs own light path lets.
-          let low : state_of a.shape (own j) < mostStates =
+          let low : state_of a.shape (own j) < most_states =
           omega (
             arith,
             s.pre.1.0.few,
@@ -122,9 +122,9 @@ loop-again c =
                 (omega (arith, k, h)),
           )
           in
-          passing-next a.l a.y.now a.numbers.now a.heavy row a.shape vs own s.pre.1.0 path
-          a.known.now a.z.now j false j (j + 1) i.loop.marks _ (replicate mostStates 0)
-          (apartFrom a.l a.heavy a.z.now vs)
+          passing_next a.l a.y.now a.numbers.now a.heavy row a.shape vs own s.pre.1.0 path
+          a.known.now a.z.now j false j (j + 1) i.loop.marks _ (replicate most_states 0)
+          (apart_from a.l a.heavy a.z.now vs)
           (λ t. j + 1 ≤ t) (λ t. j ≤
           t)
           (omega (arith, k, h)) (omega (arith, k, h)) r.remake.ensures.0 r.remake.ensures.1.1
@@ -136,8 +136,8 @@ loop-again c =
                 (arith, k, h));
           }
           (omega (arith, before-next a.l a.heavy a.z.now vs j))
-          (omega (arith, get_or-replicate {A = ℕ} mostStates (state_of a.shape (own j)) 0 0 (omega (arith, low))))
-          (omega arith) (split-down j) (rw e (i.loop.invariant.1 row vs own light path lets)),
+          (omega (arith, get_or-replicate {A = ℕ} most_states (state_of a.shape (own j)) 0 0 (omega (arith, low))))
+          (omega arith) (split_down j) (rw e (i.loop.invariant.1 row vs own light path lets)),
     )
 
 same_length : tie.Need-same-length invariant-loop decreases-loop
@@ -154,13 +154,13 @@ returns c =
       through = λ row vs own light path far through.
           let last = own-last a.l a.y.now a.numbers.now a.heavy row a.shape vs own s.pre.1.0 path
           in
-          let lets = through-lets a.l a.y.now a.numbers.now a.heavy row a.shape vs own s.pre.1.0
+          let lets = through_lets a.l a.y.now a.numbers.now a.heavy row a.shape vs own s.pre.1.0
           path a.marks.now
           s.pre.1.1.1 through in
-          passing-through a.l a.shape _ own (apartFrom a.l a.heavy a.z.now vs) (λ t. i.loop.j ≤ t)
+          passing_through a.l a.shape _ own (apart_from a.l a.heavy a.z.now vs) (λ t. i.loop.j ≤ t)
           (λ t h. omega (arith, c.loop-test.false))
           (i.loop.invariant.1 row vs own light path
-          (only-lets a.l a.y.now a.numbers.now a.heavy row a.shape vs own s.pre.1.0 path
+          (only_lets a.l a.y.now a.numbers.now a.heavy row a.shape vs own s.pre.1.0 path
           a.l.l2 (a.l.l2 * a.shape.states) 0 a.marks.now _ refl o.0 (omega (arith, o.1)) last lets));
     }
 

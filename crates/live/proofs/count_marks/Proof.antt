@@ -4,8 +4,8 @@ use mathlib.Core.Bool.{false≢true}
 use native.Mathlib.Omega.{arith}
 use borrow.Author.Rules.{rules}
 use borrow.Author.Tests.{not-true}
-use Rattle.marks.specs.Marks.{apartBefore, apartFrom}
-use Rattle.live.proofs.Passes.{pass-then}
+use Rattle.marks.specs.Marks.{apart_before, apart_from}
+use Rattle.live.proofs.Passes.{pass_then}
 use Rattle.live.proofs.count_marks.Statement.{statement}
 use Rattle.live.proofs.count_marks.Tie as tie
 
@@ -46,9 +46,9 @@ returns-2 c =
     let b = c.before.before in
     let h = b.before.before.before.before.before in
     let a = (begin h).args in
-    let p = pass-then a.l a.y.now a.numbers.now a.heavy a.known.now a.z.now a.shape a.room
-    (apartBefore a.l a.heavy a.z.now) a.marks.now _ h.ahead.ensures.0
-    (apartFrom a.l a.heavy a.z.now) _
+    let p = pass_then a.l a.y.now a.numbers.now a.heavy a.known.now a.z.now a.shape a.room
+    (apart_before a.l a.heavy a.z.now) a.marks.now _ h.ahead.ensures.0
+    (apart_from a.l a.heavy a.z.now) _
     b.back.ensures in (
       refl,
       λ row vs own light path far through. (

@@ -7,15 +7,15 @@ use native.Mathlib.Omega.{arith}
 use borrow.Author.Rules.{rules}
 use borrow.Author.Tests.{not-false}
 use lib.ListN.{get_or}
-use Rattle.bits.specs.Bits.{mostInLine}
-use Rattle.message.proofs.Legal.{legal-bounds, sizes}
+use Rattle.bits.specs.Bits.{most_in_line}
+use Rattle.message.proofs.Legal.{legal_bounds, sizes}
 use Rattle.states.specs.States.{lefts}
 use Rattle.live.proofs.fill_marks.Statement.{statement}
 use Rattle.live.proofs.fill_marks.Tie as tie
 
 -- a layout has few columns
-narrow : (s : tie.Start) → s.args.l.l2 ≤ mostInLine
-narrow s = (sizes s.args.l (legal-bounds s.args.l s.requires.0.fit.allowed)).l2-high
+narrow : (s : tie.Start) → s.args.l.l2 ≤ most_in_line
+narrow s = (sizes s.args.l (legal_bounds s.args.l s.requires.0.fit.allowed)).l2_high
 
 -- where the function starts, seen from where all slices are known, and from where the losses are few
 abbrev known-half : tie.After-slice-known → tie.After-shared-slice-known3
@@ -58,7 +58,7 @@ mul-if2-2 c =
     record {
       fits = omega (
         arith,
-        mul-le-mul {n₁ = s.args.shape.n} {m₁ = (s.args.l.l2 + 1) * 13} {n₂ = 6} {m₂ = (mostInLine + 1) * 13}
+        mul-le-mul {n₁ = s.args.shape.n} {m₁ = (s.args.l.l2 + 1) * 13} {n₂ = 6} {m₂ = (most_in_line + 1) * 13}
             (omega (arith, s.pre.0.fit.few, s.pre.1.0.blocks)) (omega (arith, narrow s)),
       );
     }

@@ -4,7 +4,7 @@ use Prim.Native.Nat.{◌-◌, ◌<◌, ◌≤◌}
 use native.Mathlib.Omega.{arith}
 use borrow.Author.Rules.{rules}
 use Rattle.marks.proofs.Digits.{entry-low}
-use Rattle.live.proofs.Floors.{Flooring, flooring-starts, flooring-next, flooring-all}
+use Rattle.live.proofs.Floors.{Flooring, flooring_starts, flooring_next, flooring_all}
 use Rattle.live.proofs.floors_of.Statement.{statement}
 use Rattle.live.proofs.floors_of.Tie as tie
 
@@ -20,7 +20,7 @@ abbrev start : tie.At-loop invariant-loop decreases-loop → tie.Start invariant
 start c = c.before.before.before.before
 
 loop-holds : tie.Need-loop-init invariant-loop decreases-loop
-loop-holds c = (omega arith, flooring-starts _ _ _ _ _ _)
+loop-holds c = (omega arith, flooring_starts _ _ _ _ _ _)
 
 add-floor-of : tie.Need-overflow-add-floor-of invariant-loop decreases-loop
 add-floor-of c = search rules
@@ -66,14 +66,14 @@ loop-again c =
     let i = t.before.loop in
     let v = c.floor-of in (
       omega (arith, t.loop-test.true),
-      flooring-next _ _ _ _ _ _ i.floors i.q v.result (low c) v.ensures.0 v.ensures.1 i.invariant.1,
+      flooring_next _ _ _ _ _ _ i.floors i.q v.result (low c) v.ensures.0 v.ensures.1 i.invariant.1,
     )
 
 returns : tie.Need-returns invariant-loop decreases-loop
 returns c =
     let p = (start c.before).pre.1.1 in
     let i = c.before.loop in
-    flooring-all _ _ _ _ _ _ p.0 p.1.0.0.all i.floors i.q (omega (arith, c.loop-test.false)) i.invariant.1
+    flooring_all _ _ _ _ _ _ p.0 p.1.0.0.all i.floors i.q (omega (arith, c.loop-test.false)) i.invariant.1
 
 pub floors-of-spec : {M : Type 1} → statement M
 floors-of-spec =

@@ -7,11 +7,11 @@ use mathlib.Core.Logic.{⊎_elim}
 use native.Mathlib.Omega.{arith}
 use borrow.Author.Rules.{rules}
 use borrow.Author.Tests.{not-true}
-use Rattle.bits.proofs.Laws.{lt-or-ge}
+use Rattle.bits.proofs.Laws.{lt_or_ge}
 use Rattle.states.specs.States.{each}
-use Rattle.marks.specs.Marks.{Path, apartFrom}
+use Rattle.marks.specs.Marks.{Path, apart_from}
 use Rattle.near.specs.Near.{most}
-use Rattle.near.proofs.Near.{most-covers}
+use Rattle.near.proofs.Near.{most_covers}
 use Rattle.live.proofs.make_marks.Statement.{statement}
 use Rattle.live.proofs.make_marks.Tie as tie
 
@@ -29,7 +29,7 @@ begin c = start c.before.before
 wide : (s : tie.Start) → let a = s.args in
     (row vs : List ℕ) (own : ℕ → ℕ → ℕ)
     → Path a.l a.y.now a.numbers.now a.heavy row (each a.shape.size) vs own
-    → a.room ≤ apartFrom a.l a.heavy a.z.now vs 0 → (i : ℕ) → i ≤ a.l.l2
+    → a.room ≤ apart_from a.l a.heavy a.z.now vs 0 → (i : ℕ) → i ≤ a.l.l2
     → a.room ≤ most a.l.l2 a.before.now a.after.now (each a.shape.size) (own i) i a.shape.n
 wide s row vs own path far i h =
     let a = s.args in
@@ -38,11 +38,11 @@ wide s row vs own path far i h =
     omega (
       arith,
       far,
-      most-covers a.l a.y.now a.numbers.now a.heavy row a.shape vs own s.requires.1.0 path a.z.now
+      most_covers a.l a.y.now a.numbers.now a.heavy row a.shape vs own s.requires.1.0 path a.z.now
           a.before.now a.after.now (s.requires.1.1.1.0 some) i h,
     ))
     (λ none. omega (arith, none))
-    (lt-or-ge 0 a.room)
+    (lt_or_ge 0 a.room)
 
 slice-aggregate-fill-digits : tie.Need-slice-aggregate-fill-digits
 slice-aggregate-fill-digits c = search rules

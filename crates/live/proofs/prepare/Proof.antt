@@ -5,8 +5,8 @@ use mathlib.Core.Bool.{false≢true}
 use native.Mathlib.Nat.{mul-le-mul}
 use native.Mathlib.Omega.{arith}
 use borrow.Author.Rules.{rules}
-use Rattle.bits.specs.Bits.{mostInLine}
-use Rattle.message.proofs.Legal.{legal-bounds, sizes}
+use Rattle.bits.specs.Bits.{most_in_line}
+use Rattle.message.proofs.Legal.{legal_bounds, sizes}
 use Rattle.states.specs.declared.Shape.{Shape}
 use Rattle.live.proofs.prepare.Statement.{statement}
 use Rattle.live.proofs.prepare.Tie as tie
@@ -45,8 +45,8 @@ mul-if3 c =
     record {
       fits = omega (
         arith,
-        mul-le-mul {n₁ = s.args.l.l2 + 1} {m₁ = h.shape_of.result.states} {n₂ = mostInLine + 1} {m₂ = 729}
-            (omega (arith, (sizes s.args.l (legal-bounds s.args.l s.pre.0.allowed)).l2-high))
+        mul-le-mul {n₁ = s.args.l.l2 + 1} {m₁ = h.shape_of.result.states} {n₂ = most_in_line + 1} {m₂ = 729}
+            (omega (arith, (sizes s.args.l (legal_bounds s.args.l s.pre.0.allowed)).l2_high))
             c.before.before.if2.false,
       );
     }

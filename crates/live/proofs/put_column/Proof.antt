@@ -8,7 +8,7 @@ use borrow.Author.Rules.{rules}
 use lib.ListN.{length, get_or, set}
 use lib.Seq.{get_or-set_same, get_or-set_other}
 use Rattle.marks.specs.Marks.{Remade}
-use Rattle.marks.proofs.Marks.{remade-none, remade-set}
+use Rattle.marks.proofs.Marks.{remade_none, remade_set}
 use Rattle.live.proofs.put_column.Statement.{statement}
 use Rattle.live.proofs.put_column.Tie as tie
 
@@ -22,7 +22,7 @@ abbrev decreases-loop : tie.decreases-loop
 decreases-loop states at floors fresh marks₀ highest₀ p₀ marks highest p = states - p
 
 loop-holds : tie.Need-loop-init invariant-loop decreases-loop
-loop-holds c = ((omega arith, remade-none _ _ _), (λ t h. absurd (omega arith), λ t h. absurd (omega arith)))
+loop-holds c = ((omega arith, remade_none _ _ _), (λ t h. absurd (omega arith), λ t h. absurd (omega arith)))
 
 shared-slice-read-above-floor : tie.Need-shared-slice-read-above-floor invariant-loop decreases-loop
 shared-slice-read-above-floor c = search rules
@@ -61,7 +61,7 @@ loop-again c =
     → get_or (set p.marks (a.at + p.p) v) (a.at + t) 0 ≡ get_or p.marks (a.at + t) 0 =
     λ t h. get_or-set_other p.marks (a.at + p.p) (a.at + t) v 0 (λ e. omega arith)
     in (
-      (omega arith, remade-set _ _ _ _ p.invariant.0.1 p.p v (omega arith)),
+      (omega arith, remade_set _ _ _ _ p.invariant.0.1 p.p v (omega arith)),
       (
         below_more _ _ (λ t h. rw (other t h) (omega (arith, p.invariant.1.0 t h, c.higher.ensures.0)))
             (rw here c.higher.ensures.1),

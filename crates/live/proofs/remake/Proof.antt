@@ -5,16 +5,16 @@ use mathlib.Core.Path.{◌≡◌, sym, ◌∙◌}
 use native.Mathlib.Omega.{arith}
 use borrow.Author.Rules.{rules}
 use lib.ListN.{length}
-use Rattle.states.specs.States.{mostStates}
+use Rattle.states.specs.States.{most_states}
 use Rattle.marks.proofs.Marks.{covers_kept}
 use Rattle.marks.proofs.Digits.{number-low}
-use Rattle.live.proofs.Columns.{Remaking, remaking-starts, remaking-next}
+use Rattle.live.proofs.Columns.{Remaking, remaking_starts, remaking_next}
 use Rattle.live.proofs.remake.Statement.{statement}
 use Rattle.live.proofs.remake.Tie as tie
 
 abbrev invariant-loop : tie.invariant-loop
 invariant-loop l y totals counts numbers heavy known z shape digits j ahead at base marks floors states fresh₀ some p₀ fresh p =
-    ((p ≤ states) × (length fresh ≡ mostStates)) × Remaking l y numbers heavy known z shape j ahead at base marks fresh p
+    ((p ≤ states) × (length fresh ≡ most_states)) × Remaking l y numbers heavy known z shape j ahead at base marks fresh p
 
 abbrev decreases-loop : tie.decreases-loop
 decreases-loop l y totals counts numbers heavy known z shape digits j ahead at base marks floors states fresh₀ some p₀ fresh p =
@@ -31,7 +31,7 @@ abbrev begin : tie.At-loop invariant-loop decreases-loop → tie.Start invariant
 begin c = (lent (counted c).before).before.before.before.before.before
 
 -- there are floors for all states
-long : (s : tie.Start invariant-loop decreases-loop) → length s.args.t15 ≡ mostStates
+long : (s : tie.Start invariant-loop decreases-loop) → length s.args.t15 ≡ most_states
 long s = search rules
 
 slice-aggregate-count-marked : tie.Need-slice-aggregate-count-marked invariant-loop decreases-loop
@@ -45,7 +45,7 @@ count-marked-requires c κs =
 loop-holds : tie.Need-loop-init invariant-loop decreases-loop
 loop-holds c = (
   (omega arith, long (lent c.before.before).before.before.before.before.before),
-  remaking-starts _ _ _ _ _ _ _ _ _ _ _ _ _,
+  remaking_starts _ _ _ _ _ _ _ _ _ _ _ _ _,
 )
 
 add-spread : tie.Need-overflow-add-spread invariant-loop decreases-loop
@@ -108,7 +108,7 @@ loop-again c =
     let a = s.args in
     let f = r.spread.ensures in (
       (omega (arith, t.loop-test.true), f.long ∙ i.loop.invariant.0.1),
-      remaking-next a.l a.y.now a.numbers.now a.heavy a.known.now a.z.now a.shape a.j
+      remaking_next a.l a.y.now a.numbers.now a.heavy a.known.now a.z.now a.shape a.j
           a.ahead a.at
           a.base a.marks.now s.pre.1.1.0 a.digits.now s.pre.1.1.1.0 i.loop.fresh _
           i.loop.p f

@@ -6,12 +6,12 @@ use mathlib.Core.Bool.{Bool, false}
 use native.Mathlib.Omega.{arith}
 use lib.ListN.{get_or}
 use Rattle.states.specs.States.{each, state_of}
-use Rattle.column.specs.Column.{apartIn}
+use Rattle.column.specs.Column.{apart_in}
 use Rattle.marks.specs.Digits.{entry_of}
-use Rattle.marks.proofs.Digits.{entry-is, entry-low, number-low}
+use Rattle.marks.proofs.Digits.{entry_is, entry-low, number-low}
 use Rattle.marks.proofs.Paths.{crosses-same}
 use Rattle.live.specs.Passes.{Gains}
-use Rattle.live.proofs.Steps.{gains-same, above-covers}
+use Rattle.live.proofs.Steps.{gains-same, above_covers}
 use Rattle.live.proofs.spread.Statement.{statement}
 use Rattle.live.proofs.spread.Tie as tie
 
@@ -26,9 +26,9 @@ abbrev begin : tie.After-digits-of → tie.Start
 begin c = start c.before
 
 -- what is left in the state p
-other-is : (c : tie.After-digits-of) → let a = (begin c).args in (t : ℕ) → t < a.heavy.n
+other_is : (c : tie.After-digits-of) → let a = (begin c).args in (t : ℕ) → t < a.heavy.n
     → entry_of a.digits.now a.p t ≡ each c.digits_of.result t
-other-is c t h =
+other_is c t h =
     let few = (begin c).requires.0.fit.few in
     sym (c.digits_of.ensures t (omega arith))
 
@@ -90,8 +90,8 @@ returns-2 c =
           let x =
           crosses-same a.l a.y.now a.numbers.now a.heavy k.row a.j vs
           (entry_of a.digits.now a.p)
-          (each d.digits_of.result) own own (other-is d) (λ t h. refl) (k.forth r.before.before.if2.true) in
-          above-covers a.there (apartIn a.l a.heavy a.z.now vs a.j a.heavy.n) _ n
+          (each d.digits_of.result) own own (other_is d) (λ t h. refl) (k.forth r.before.before.if2.true) in
+          above_covers a.there (apart_in a.l a.heavy a.z.now vs a.j a.heavy.n) _ n
           (e.1 k.row vs own k.light x m) v;
     }
 
@@ -125,7 +125,7 @@ returns-3 c =
           (sym back)
           (gains-same a.l a.y.now a.numbers.now a.heavy a.known.now a.z.now a.j false
           (entry_of a.digits.now q) own (each d.digits_of.result) (entry_of a.digits.now a.p) a.there _
-          (entry-is kept s.pre.1.1.0.1 own w q refl) (other-is d)
+          (entry_is kept s.pre.1.1.0.1 own w q refl) (other_is d)
           (e.gains q (down back) (number-low kept own w) m));
     }
 

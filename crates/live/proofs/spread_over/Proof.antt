@@ -8,7 +8,7 @@ use Rattle.states.specs.States.{each}
 use Rattle.marks.specs.Digits.{entry_of}
 use Rattle.live.specs.Passes.{Spread}
 use Rattle.live.proofs.Steps.{gains-more}
-use Rattle.live.proofs.Columns.{spread_none, spread-next}
+use Rattle.live.proofs.Columns.{spread_none, spread_next}
 use Rattle.live.proofs.spread_over.Statement.{statement}
 use Rattle.live.proofs.spread_over.Tie as tie
 
@@ -91,7 +91,7 @@ loop-again c =
     let q = i.loop.q in
     let h = c.higher.ensures in (
       (omega (arith, i.loop.invariant.0.0), omega (arith, t)),
-      spread-next a.l a.y.now a.numbers.now a.heavy a.known.now a.z.now a.digits.now a.j
+      spread_next a.l a.y.now a.numbers.now a.heavy a.known.now a.z.now a.digits.now a.j
           (each a.other) a.there a.marks.now a.at a.low _ q c.higher.result i.loop.fresh
           (omega (arith, i.loop.invariant.1.long, p.0.1, p.1.1, t)) h.0
           (λ m. gains-more a.l a.y.now a.numbers.now a.heavy a.known.now a.z.now a.j false

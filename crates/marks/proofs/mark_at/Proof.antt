@@ -4,7 +4,7 @@ use mathlib.Core.Logic.{inl, inr}
 use native.Mathlib.Nat.{mul-le-mul}
 use native.Mathlib.Omega.{arith}
 use borrow.Author.Rules.{rules}
-use Rattle.bits.specs.Bits.{mostInLine}
+use Rattle.bits.specs.Bits.{most_in_line}
 use Rattle.marks.proofs.mark_at.Statement.{statement}
 use Rattle.marks.proofs.mark_at.Tie as tie
 
@@ -20,7 +20,7 @@ mul_at c =
     record {
       fits = omega (
         arith,
-        mul-le-mul {n₁ = s.args.j} {m₁ = s.args.shape.states} {n₂ = mostInLine} {m₂ = 4294967295}
+        mul-le-mul {n₁ = s.args.j} {m₁ = s.args.shape.states} {n₂ = most_in_line} {m₂ = 4294967295}
             s.requires c.before.before.if1.false,
       );
     }

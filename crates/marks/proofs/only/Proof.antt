@@ -7,7 +7,7 @@ use borrow.Author.Rules.{rules}
 use lib.ListN.{length-set}
 use lib.Seq.{get_or-set_same}
 use Rattle.marks.specs.Marks.{Remade}
-use Rattle.marks.proofs.Marks.{remade-none, remade-set}
+use Rattle.marks.proofs.Marks.{remade_none, remade_set}
 use Rattle.marks.proofs.only.Statement.{statement}
 use Rattle.marks.proofs.only.Tie as tie
 
@@ -18,7 +18,7 @@ abbrev decreases-loop : tie.decreases-loop
 decreases-loop states at q mark marks₀ p₀ marks p = states - p
 
 loop-holds : tie.Need-loop-init invariant-loop decreases-loop
-loop-holds c = (omega arith, remade-none _ _ _)
+loop-holds c = (omega arith, remade_none _ _ _)
 
 add-marks : tie.Need-overflow-add-marks invariant-loop decreases-loop
 add-marks c = search rules
@@ -35,7 +35,7 @@ loop-less c = search rules
 loop-again : tie.Need-loop-preserved invariant-loop decreases-loop
 loop-again c =
     let p = c.before.loop in
-    (omega arith, remade-set _ _ _ _ p.invariant.1 p.p 0 (omega arith))
+    (omega arith, remade_set _ _ _ _ p.invariant.1 p.p 0 (omega arith))
 
 add-marks-2 : tie.Need-overflow-add-marks-2 invariant-loop decreases-loop
 add-marks-2 c = search rules
@@ -53,7 +53,7 @@ returns c =
     let a = c.before.before.args in
     let p = c.before.loop in
     let k = p.invariant.1.long in (
-      remade-set _ _ _ _ p.invariant.1 a.q a.mark (omega arith),
+      remade_set _ _ _ _ p.invariant.1 a.q a.mark (omega arith),
       get_or-set_same p.marks (a.at + a.q) a.mark 0
           (omega arith),
     )

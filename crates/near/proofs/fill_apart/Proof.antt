@@ -9,7 +9,7 @@ use borrow.Author.Rules.{rules}
 use lib.ListN.{length}
 use Rattle.states.specs.States.{each, entry_at}
 use Rattle.near.specs.Near.{SaysIn}
-use Rattle.near.proofs.Near.{next-block, most-added}
+use Rattle.near.proofs.Near.{next_block, most_added}
 use Rattle.near.proofs.fill_apart.Statement.{statement}
 use Rattle.near.proofs.fill_apart.Tie as tie
 
@@ -41,7 +41,7 @@ fill-block-requires c κs =
     let s = start i in
     let f = s.pre.0 in
     let h = t.loop-test.true in
-    let k = next-block s.args.columns i.loop.s s.args.shape.n h in
+    let k = next_block s.args.columns i.loop.s s.args.shape.n h in
     let few = f.0.0.few in (
       (f.0.0.narrow, (omega (arith, few, h), (f.1, f.0.0.small i.loop.s h))),
       (
@@ -109,7 +109,7 @@ returns c =
       w.add-up.ensures.0,
       λ left within.
           w.add-up.ensures.1 left within
-          ∙ most-added a.columns a.before.now a.after.now e.before.loop.values (each a.shape.size) left
+          ∙ most_added a.columns a.before.now a.after.now e.before.loop.values (each a.shape.size) left
           a.j a.shape.n (all_say e) within,
     )
 

@@ -8,14 +8,14 @@ use native.Mathlib.Omega.{arith}
 use borrow.Author.Rules.{rules}
 use lib.ListN.{length, get_or}
 use Rattle.states.specs.States.{each, firsts}
-use Rattle.near.specs.Near.{mostAfter}
-use Rattle.near.proofs.Near.{next-block}
+use Rattle.near.specs.Near.{most_after}
+use Rattle.near.proofs.Near.{next_block}
 use Rattle.near.proofs.most_after.Statement.{statement}
 use Rattle.near.proofs.most_after.Tie as tie
 
 abbrev invariant-loop : tie.invariant-loop
 invariant-loop columns after j left n stride from most₀ s₀ most s =
-    ((s ≤ n) × (most ≤ s * 255)) × (most ≡ mostAfter columns after (each left) j s)
+    ((s ≤ n) × (most ≤ s * 255)) × (most ≡ most_after columns after (each left) j s)
 
 abbrev decreases-loop : tie.decreases-loop
 decreases-loop columns after j left n stride from most₀ s₀ most s = n - s
@@ -47,7 +47,7 @@ stands c =
     let b = c.before.loop.s in
     let f = s.requires.0 in
     let h = c.loop-test.true in
-    let k = next-block a.columns b a.shape.n h in
+    let k = next_block a.columns b a.shape.n h in
     let m = mul-le-mul_right {m = b} {n = 6} ((a.columns + 1) * 13) (omega (arith, f.few, h)) in
     omega (arith, k, m, s.requires.1.1 b h, f.long, f.narrow)
 
@@ -114,7 +114,7 @@ returns c =
     let p = c.before.loop in
     let a = c.before.before.before.args in
     let e : p.s ≡ a.shape.n = omega (arith, p.invariant.0.0, c.loop-test.false) in
-    p.invariant.1 ∙ ap (λ (k : ℕ). mostAfter a.columns a.after.now (each a.t5) a.j k) e
+    p.invariant.1 ∙ ap (λ (k : ℕ). most_after a.columns a.after.now (each a.t5) a.j k) e
 
 pub most-after-spec : {M : Type 1} → statement M
 most-after-spec =

@@ -1,4 +1,4 @@
--- `pieces::count_at` answers `countAt`, by the two ways of the test. Assumes nothing.
+-- `pieces::count_at` answers `count_at`, by the two ways of the test. Assumes nothing.
 use borrow.Author.Rules.{rules}
 use mathlib.Core.Path.{refl}
 use Rattle.pieces.proofs.count_at.Statement.{statement}

@@ -4,7 +4,7 @@ use Prim.Native.Nat.{ℕ}
 use mathlib.Core.Path.{ap, ◌∙◌}
 use native.Mathlib.Omega.{arith}
 use lib.Dec.{eqb}
-use Rattle.pieces.proofs.Blocks.{sum-short, sum-decides}
+use Rattle.pieces.proofs.Blocks.{sum-short, sum_decides}
 use Rattle.pieces.proofs.has_sum.Statement.{statement}
 use Rattle.pieces.proofs.has_sum.Tie as tie
 
@@ -21,7 +21,7 @@ window-sum-requires c κs =
 returns-2 : tie.Need-returns-2
 returns-2 c =
     let a = c.before.before.before.before.before.args in
-    ap (λ (v : ℕ). eqb v a.s) c.window-sum.ensures ∙ sum-decides a.nb a.s a.rest.now (omega arith)
+    ap (λ (v : ℕ). eqb v a.s) c.window-sum.ensures ∙ sum_decides a.nb a.s a.rest.now (omega arith)
 
 pub has-sum-spec : {M : Type 1} → statement M
 has-sum-spec =

@@ -9,13 +9,13 @@ use lib.ListN.{length, take}
 use Rattle.bits.proofs.Laws.{bits-take}
 use Rattle.vt.specs.Mend.{mended as mendedBits}
 use Rattle.message.specs.Layout.{block_bits}
-use Rattle.message.proofs.Legal.{Bounds, Sizes, legal-bounds, sizes}
-use Rattle.pieces.proofs.Blocks.{one-not, one-put, too_short, MendedNext, mended-next, starts-mended}
+use Rattle.message.proofs.Legal.{Bounds, Sizes, legal_bounds, sizes}
+use Rattle.pieces.proofs.Blocks.{one_not, one-put, too_short, MendedNext, mended-next, starts-mended}
 use Rattle.pieces.proofs.mended_block.Statement.{statement}
 use Rattle.pieces.proofs.mended_block.Tie as tie
 
 bounds : (c : tie.Start) → Bounds c.args.l
-bounds c = legal-bounds c.args.l c.requires.0
+bounds c = legal_bounds c.args.l c.requires.0
 
 high : (c : tie.Start) → Sizes c.args.l
 high c = sizes c.args.l (bounds c)
@@ -24,7 +24,7 @@ high c = sizes c.args.l (bounds c)
 low : (c : tie.Start) → 1 ≤ block_bits c.args.l
 low c =
     let b = bounds c in
-    let p : 1 * 3 ≤ c.args.l.l2 * c.args.l.nc = mul-le-mul b.l2-low b.nc-low in
+    let p : 1 * 3 ≤ c.args.l.l2 * c.args.l.nc = mul-le-mul b.l2_low b.nc_low in
     omega arith
 
 -- where the function starts, seen from the first test
@@ -50,7 +50,7 @@ returns-2 c =
     let h = c.before in
     let s = start h.before.before in
     let a = s.args in
-    one-not a.l a.s a.i a.rest.now a.row.now s.pre.1.0 (sym h.has-sum.ensures ∙ c.if2.true)
+    one_not a.l a.s a.i a.rest.now a.row.now s.pre.1.0 (sym h.has_sum.ensures ∙ c.if2.true)
 
 sub-mend-bits : tie.Need-overflow-sub-mend-bits
 sub-mend-bits c = search rules
@@ -116,7 +116,7 @@ put-block-requires c κs =
     let m = c.before.before.before.before in
     let e = enough m in
     let s = start e.before in
-    (rw (block m) (mended e).bits, ((bounds s).nc-high, (rw (block m) (mended e).size, s.pre.1.1.1.1)))
+    (rw (block m) (mended e).bits, ((bounds s).nc_high, (rw (block m) (mended e).size, s.pre.1.1.1.1)))
 
 same_length : tie.Need-same-length
 same_length c = search rules

@@ -7,7 +7,7 @@ use mathlib.Core.List.{List, ◌++◌}
 use native.Mathlib.Omega.{arith}
 use lib.ListN.{length, get_or, take, drop, length-set}
 use lib.Seq.{paste, paste-zero}
-use Rattle.bits.proofs.Copy.{paste-next, paste-whole}
+use Rattle.bits.proofs.Copy.{paste_next, paste_whole}
 use Rattle.message.specs.Read.{fields}
 use Rattle.message.proofs.Fields.{fields_at, length_fields, field_room}
 use Rattle.pieces.proofs.put_block.Statement.{statement}
@@ -65,7 +65,7 @@ loop-again c =
     let v : c.number_at.result ≡ get_or f p.j 0 =
     c.number_at.ensures ∙ sym (fields_at a.l2 a.nc p.j a.bits.now h) in
     let n : length f ≡ a.l2 = length_fields a.l2 a.nc a.bits.now in
-    let next = paste-next a.row.now (a.i * a.l2) f p.j (omega arith) (omega arith) in
+    let next = paste_next a.row.now (a.i * a.l2) f p.j (omega arith) (omega arith) in
     (omega arith, (simp length-set p.invariant.1.0, rw (p.invariant.1.1, v) next))
 
 same_length : tie.Need-same-length invariant-loop decreases-loop
@@ -78,7 +78,7 @@ returns c =
     let f : List ℕ = fields a.l2 a.nc a.bits.now in
     let n : length f ≡ a.l2 = length_fields a.l2 a.nc a.bits.now in
     p.invariant.1.1
-    ∙ paste-whole a.row.now (a.i * a.l2) f p.j (omega arith)
+    ∙ paste_whole a.row.now (a.i * a.l2) f p.j (omega arith)
     ∙ ap (λ (m : ℕ). take (a.i * a.l2) a.row.now ++ f ++ drop (a.i * a.l2 + m) a.row.now) n
 
 pub put-block-spec : {M : Type 1} → statement M

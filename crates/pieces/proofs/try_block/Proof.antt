@@ -2,8 +2,8 @@
 -- bits remain. Assumes nothing.
 use borrow.Author.Rules.{rules}
 use native.Mathlib.Omega.{arith}
-use Rattle.message.proofs.Legal.{legal-bounds, sizes}
-use Rattle.pieces.proofs.Blocks.{too_many, too_short, tried-more}
+use Rattle.message.proofs.Legal.{legal_bounds, sizes}
+use Rattle.pieces.proofs.Blocks.{too_many, too_short, tried_more}
 use Rattle.pieces.proofs.try_block.Statement.{statement}
 use Rattle.pieces.proofs.try_block.Tie as tie
 
@@ -42,7 +42,7 @@ returns-2 c = rw c.before.before.before.before.if2.true c.before.before.mended-b
 mul-nb : tie.Need-overflow-mul-nb
 mul-nb c =
     let s = start c.before.before.before in
-    omega (arith, (sizes s.args.l (legal-bounds s.args.l s.pre.0)).block)
+    omega (arith, (sizes s.args.l (legal_bounds s.args.l s.pre.0)).block)
 
 returns-3 : tie.Need-returns-3
 returns-3 c =
@@ -57,7 +57,7 @@ returns-4 c =
 returns-5 : tie.Need-returns-5
 returns-5 c =
     let a = (start c.before.before.before.before.before).args in
-    tried-more a.l _ a.i a.a a.rest.now a.row.now (omega arith) (omega arith) c.if4.false
+    tried_more a.l _ a.i a.a a.rest.now a.row.now (omega arith) (omega arith) c.if4.false
 
 pub try-block-spec : {M : Type 1} → statement M
 try-block-spec =

@@ -9,13 +9,13 @@ use lib.ListN.{length, take}
 use lib.Seq.{length-take-le}
 use Rattle.bits.proofs.Laws.{bits-take}
 use Rattle.message.specs.Layout.{block_bits}
-use Rattle.message.proofs.Legal.{Bounds, Sizes, legal-bounds, sizes}
-use Rattle.pieces.proofs.Blocks.{sum-within, whole-not, whole-put}
+use Rattle.message.proofs.Legal.{Bounds, Sizes, legal_bounds, sizes}
+use Rattle.pieces.proofs.Blocks.{sum-within, whole_not, whole-put}
 use Rattle.pieces.proofs.whole_block.Statement.{statement}
 use Rattle.pieces.proofs.whole_block.Tie as tie
 
 bounds : (c : tie.Start) → Bounds c.args.l
-bounds c = legal-bounds c.args.l c.requires.0
+bounds c = legal_bounds c.args.l c.requires.0
 
 high : (c : tie.Start) → Sizes c.args.l
 high c = sizes c.args.l (bounds c)
@@ -34,8 +34,8 @@ returns : tie.Need-returns
 returns c =
     let h = c.before in
     let a = (start h).args in
-    whole-not a.l a.s a.i a.rest.now a.row.now
-    (sym h.has-sum.ensures ∙ not-true h.has-sum.result c.if1.true)
+    whole_not a.l a.s a.i a.rest.now a.row.now
+    (sym h.has_sum.ensures ∙ not-true h.has_sum.result c.if1.true)
 
 sub-put-block : tie.Need-overflow-sub-put-block
 sub-put-block c = search rules
@@ -49,7 +49,7 @@ within c =
     let h = c.before in
     let a = (start h).args in
     sum-within (block_bits a.l) a.s a.rest.now
-    (sym h.has-sum.ensures ∙ not-false h.has-sum.result c.if1.false)
+    (sym h.has_sum.ensures ∙ not-false h.has_sum.result c.if1.false)
 
 part-put-block-end : tie.Need-slice-bounds-put-block-end
 part-put-block-end c = within c
@@ -62,7 +62,7 @@ put-block-requires c κs =
     let n = block_bits a.l in
     let size : length (take (n - 0) a.rest.now) ≡ n =
     length-take-le (n - 0) a.rest.now (omega (arith, within e)) ∙ omega arith in
-    (bits-take (n - 0) a.rest.now s.pre.1.0, ((bounds s).nc-high, (size, s.pre.1.1.1)))
+    (bits-take (n - 0) a.rest.now s.pre.1.0, ((bounds s).nc_high, (size, s.pre.1.1.1)))
 
 same_length : tie.Need-same-length
 same_length c = search rules
@@ -75,7 +75,7 @@ returns-2 c =
     let s = start h in
     let a = s.args in
     let z : block_bits a.l - 0 ≡ block_bits a.l = omega arith in
-    let has = sym h.has-sum.ensures ∙ not-false h.has-sum.result e.if1.false in
+    let has = sym h.has_sum.ensures ∙ not-false h.has_sum.result e.if1.false in
     whole-put a.l a.s a.i a.rest.now a.row.now p.put-block.new.1.1.1.0 has s.pre.1.1.1
     (rw z at p.put-block.ensures)
 

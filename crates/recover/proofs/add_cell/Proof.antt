@@ -6,9 +6,9 @@ use mathlib.Core.Path.{◌≡◌}
 use native.Mathlib.Omega.{arith}
 use lib.ListN.{length, get_or}
 use Rattle.field.proofs.Double.{size-high}
-use Rattle.message.proofs.Legal.{legal-bounds}
+use Rattle.message.proofs.Legal.{legal_bounds}
 use Rattle.cells.specs.Cells.{Open}
-use Rattle.recover.proofs.Spots.{few-chunks, collected-same, collected-new}
+use Rattle.recover.proofs.Spots.{few-chunks, collected_same, collected_new}
 use Rattle.recover.proofs.add_cell.Statement.{statement}
 use Rattle.recover.proofs.add_cell.Tie as tie
 
@@ -27,8 +27,8 @@ byte : (c : tie.After-chunk-of) → c.chunk_of.result < 256
 byte c =
     let s = c.before.before.before in
     let l = s.args.l in
-    let b = legal-bounds l s.requires.0.0 in
-    omega (arith, c.chunk_of.ensures.1, few-chunks l s.requires.0.0 s.requires.0.1, size-high l.nc b.nc-high)
+    let b = legal_bounds l s.requires.0.0 in
+    omega (arith, c.chunk_of.ensures.1, few-chunks l s.requires.0.0 s.requires.0.1, size-high l.nc b.nc_high)
 
 element-copy-out-a : tie.Need-element-copy-out-a
 element-copy-out-a c = search rules
@@ -37,7 +37,7 @@ returns : tie.Need-returns
 returns c =
     let s = c.before.before in
     let a = s.args in
-    collected-same a.l a.t2 a.z a.e.n a.e.places
+    collected_same a.l a.t2 a.z a.e.n a.e.places
     (omega (arith, (long s).1, s.requires.1.1.0)) (λ o. absurd (omega (arith, o.1, c.if1.true))) s.requires.1.1.1
 
 chunk-of-requires : tie.Need-chunk-of-requires
@@ -56,7 +56,7 @@ returns-2 c =
     let k = c.before.before.before in
     let s = k.before.before.before in
     let a = s.args in
-    collected-same a.l a.t2 a.z a.e.n a.e.places
+    collected_same a.l a.t2 a.z a.e.n a.e.places
     (omega (arith, (long s).1, s.requires.1.1.0))
     (λ o. rw k.chunk_of.ensures.0 at (c.before.among.ensures.0 c.if2.true)) s.requires.1.1.1
 
@@ -73,7 +73,7 @@ returns-3 c =
     let a = s.args in
     let room : a.e.n < length a.e.places = omega (arith, (long s).0, s.requires.1.1.0, s.requires.1.1.1.few) in
     let unfound : Open a.t2 a.z = (s.requires.1.1.0, omega (arith, k.before.if1.false)) in
-    collected-new a.l a.t2 a.z a.e.n k.chunk_of.result a.e.places
+    collected_new a.l a.t2 a.z a.e.n k.chunk_of.result a.e.places
     (omega (arith, (long s).1, s.requires.1.1.0)) unfound room k.chunk_of.ensures.0 k.chunk_of.ensures.1
     (c.before.among.ensures.1 c.if2.false) s.requires.1.1.1
 

@@ -3,8 +3,8 @@ use borrow.Author.Rules.{rules}
 use Prim.Native.Nat.{◌+◌, ◌*◌, ◌<◌, ◌≤◌}
 use mathlib.Core.Path.{◌≡◌, refl}
 use native.Mathlib.Omega.{arith}
-use Rattle.bits.specs.Bits.{mostChunks}
-use Rattle.message.proofs.Legal.{legal-bounds, sizes}
+use Rattle.bits.specs.Bits.{most_chunks}
+use Rattle.message.proofs.Legal.{legal_bounds, sizes}
 use Rattle.cells.specs.Cells.{chunk_of}
 use Rattle.cells.proofs.State.{chunk_inside}
 use Rattle.recover.proofs.chunk_of.Statement.{statement}
@@ -14,13 +14,13 @@ use Rattle.recover.proofs.chunk_of.Tie as tie
 stands : (c : tie.After-wide2) →
     let a = c.before.before.before.before.args in
     (c.before.before.wide.result * a.l.l2 + c.wide2.result ≡ chunk_of a.l a.t2 a.z)
-    × ((chunk_of a.l a.t2 a.z < a.l.l1 * a.l.l2) × (a.l.l1 * a.l.l2 ≤ mostChunks))
+    × ((chunk_of a.l a.t2 a.z < a.l.l1 * a.l.l2) × (a.l.l1 * a.l.l2 ≤ most_chunks))
 stands c =
     let s = c.before.before.before.before in
     let q = s.requires.1.1 in
     let l = s.args.l in (
       rw (c.before.before.wide.ensures, c.wide2.ensures) refl,
-      (chunk_inside l _ _ q.0 q.1, (sizes l (legal-bounds l s.requires.0)).chunks),
+      (chunk_inside l _ _ q.0 q.1, (sizes l (legal_bounds l s.requires.0)).chunks),
     )
 
 element-copy-out-wide : tie.Need-element-copy-out-wide

@@ -4,7 +4,7 @@ use Prim.Native.Nat.{◌-◌, ◌≤◌}
 use mathlib.Core.Path.{◌≡◌}
 use native.Mathlib.Omega.{arith}
 use Rattle.recover.specs.Recover.{Collected}
-use Rattle.recover.proofs.Spots.{collected-none}
+use Rattle.recover.proofs.Spots.{collected_none}
 use Rattle.recover.proofs.collect.Statement.{statement}
 use Rattle.recover.proofs.collect.Tie as tie
 
@@ -15,7 +15,7 @@ abbrev decreases-loop : tie.decreases-loop
 decreases-loop l cells e₀ z₀ e z = 12 - z
 
 loop-holds : tie.Need-loop-init invariant-loop decreases-loop
-loop-holds c = (search rules, collected-none c.args.l c.args.cells _)
+loop-holds c = (search rules, collected_none c.args.l c.args.cells _)
 
 add-cell-requires : tie.Need-add-cell-requires invariant-loop decreases-loop
 add-cell-requires c κs = search rules

@@ -10,8 +10,8 @@ use lib.Bits.{bit_xor, xor_lt}
 use lib.ListN.{length, get_or, length-set}
 use Rattle.field.specs.Field.{Element}
 use Rattle.field.proofs.Double.{size_low, size-high}
-use Rattle.field.proofs.Linear.{check-element}
-use Rattle.message.proofs.Legal.{Bounds, legal-bounds}
+use Rattle.field.proofs.Linear.{check_element}
+use Rattle.message.proofs.Legal.{Bounds, legal_bounds}
 use Rattle.bits.proofs.Laws.{bit_at}
 use Rattle.erasures.proofs.Erasures.{set-each}
 use Rattle.recover.proofs.missing.Statement.{statement}
@@ -26,7 +26,7 @@ abbrev decreases-loop : tie.decreases-loop
 decreases-loop n t logs numbers chunks size first own out₀ i₀ out i = n - i
 
 bounds : (s : tie.Start invariant-loop decreases-loop) → Bounds s.args.l
-bounds s = legal-bounds s.args.l s.requires.0.0
+bounds s = legal_bounds s.args.l s.requires.0.0
 
 -- where the function starts, seen from where `order` has answered
 abbrev entry : tie.After-order invariant-loop decreases-loop → tie.Start invariant-loop decreases-loop
@@ -42,12 +42,12 @@ is-size c =
     omega (
       arith,
       c.before.before.before.before.order.ensures,
-      size_low (start c).args.l.nc (bounds (start c)).nc-low,
+      size_low (start c).args.l.nc (bounds (start c)).nc_low,
     )
 
 -- there are at most 16 checks
 few : (c : tie.After-own2 invariant-loop decreases-loop) → (start c).args.n ≤ 16
-few c = omega (arith, (start c).requires.0.1, (bounds (start c)).r-high)
+few c = omega (arith, (start c).requires.0.1, (bounds (start c)).r_high)
 
 -- where a turn of the loop has read its number: where the checks of the chunks are in hand, and the number
 abbrev turn : tie.After-shared-slice-known4 invariant-loop decreases-loop → tie.After-own2 invariant-loop decreases-loop
@@ -59,13 +59,13 @@ number c =
     get_or a.numbers.now (a.l.l1 + a.l.l2 + c.before.before.loop.i) 0
 
 order-requires : tie.Need-order-requires invariant-loop decreases-loop
-order-requires c κs = let b = bounds c.before.before.before in (b.nc-low, b.nc-high)
+order-requires c κs = let b = bounds c.before.before.before in (b.nc_low, b.nc_high)
 
 add-size : tie.Need-overflow-add-size invariant-loop decreases-loop
-add-size c = let s = entry c in omega (arith, size-high s.args.l.nc (bounds s).nc-high)
+add-size c = let s = entry c in omega (arith, size-high s.args.l.nc (bounds s).nc_high)
 
 add-first : tie.Need-overflow-add-first invariant-loop decreases-loop
-add-first c = let s = entry c.before in omega (arith, legal-bounds s.args.l s.pre.0.0)
+add-first c = let s = entry c.before in omega (arith, legal_bounds s.args.l s.pre.0.0)
 
 slice-aggregate-checks : tie.Need-slice-aggregate-checks invariant-loop decreases-loop
 slice-aggregate-checks c = search rules
@@ -75,12 +75,12 @@ checks-requires c κs =
     let s = entry c.before.before in
     let b = bounds s in
     let p = s.pre.1 in
-    ((p.0.0, b.nc-low, b.nc-high, p.0.1, p.1.0), (p.1.1, omega (arith, s.pre.0.1, b.r-high)))
+    ((p.0.0, b.nc_low, b.nc_high, p.0.1, p.1.0), (p.1.1, omega (arith, s.pre.0.1, b.r_high)))
 
 loop-holds : tie.Need-loop-init invariant-loop decreases-loop
 loop-holds c =
     let z : List ℕ = 0 ∷ 0 ∷ 0 ∷ 0 ∷ 0 ∷ 0 ∷ 0 ∷ 0 ∷ 0 ∷ 0 ∷ 0 ∷ 0 ∷ 0 ∷ 0 ∷ 0 ∷ 0 ∷ [] in
-    let low = size_low (start c).args.l.nc (bounds (start c)).nc-low in
+    let low = size_low (start c).args.l.nc (bounds (start c)).nc_low in
     ((omega arith, refl), (λ k. omega (arith, bit_at z (omega arith) k, low, is-size c), λ k h. absurd (omega arith)))
 
 add-out : tie.Need-overflow-add-out invariant-loop decreases-loop
@@ -106,7 +106,7 @@ cast-out-2 : tie.Need-overflow-cast-out-2 invariant-loop decreases-loop
 cast-out-2 c =
     let s = start (turn c) in
     let size : ℕ = (turn c).before.before.before.before.order.result + 1 in
-    let high = size-high s.args.l.nc (bounds s).nc-high in
+    let high = size-high s.args.l.nc (bounds s).nc_high in
     record { fits = omega (arith, mod-lt (number c) {m = size} (omega arith), is-size (turn c), high) }
 
 array-read-out : tie.Need-array-read-out invariant-loop decreases-loop
@@ -134,7 +134,7 @@ loop-again c =
     let b = bounds s in
     let sum : Element l.nc (get_or own o.i 0) =
     rw (k.checks.ensures o.i c.before.loop-test.true)
-    (check-element l.nc b.nc-low b.nc-high o.i s.args.chunks.now s.pre.1.1.0)
+    (check_element l.nc b.nc_low b.nc_high o.i s.args.chunks.now s.pre.1.1.0)
     in
     let e = is-size (turn c) in
     let rest : Element l.nc (number c % size) = omega (arith, mod-lt (number c) {m = size} (omega arith), e) in

@@ -10,16 +10,16 @@ use lib.ListN.{length, get_or, take, length-take, replicate}
 use lib.Pow.{pow_pos}
 use Rattle.bits.proofs.Laws.{zeros-at}
 use Rattle.field.proofs.Double.{size-high}
-use Rattle.message.proofs.Legal.{Bounds, legal-bounds}
+use Rattle.message.proofs.Legal.{Bounds, legal_bounds}
 use Rattle.erasures.specs.Erasures.{Places}
 use Rattle.recover.specs.Recover.{Spots}
-use Rattle.recover.proofs.Recovered.{reduced-at, reduced-elements, solved}
+use Rattle.recover.proofs.Recovered.{reduced_at, reduced_elements, solved}
 use Rattle.recover.proofs.Spots.{few-chunks, put_same}
 use Rattle.recover.proofs.recover.Statement.{statement}
 use Rattle.recover.proofs.recover.Tie as tie
 
 bounds : (s : tie.Start) → Bounds s.args.l
-bounds s = legal-bounds s.args.l s.requires.0
+bounds s = legal_bounds s.args.l s.requires.0
 
 -- there are checks, so the chunks are no more than the places of the field
 few : (s : tie.Start) → let l = s.args.l in (l.l1 * l.l2 + 1 ≤ 2 ^ l.nc) × (2 ^ l.nc ≤ 256)
@@ -27,7 +27,7 @@ few s =
     let l = s.args.l in
     let n = s.requires.1.1.0.1 in
     let low = few-chunks l s.requires.0 (omega (arith, n)) in
-    (omega (arith, low, pow_pos l.nc), size-high l.nc (bounds s).nc-high)
+    (omega (arith, low, pow_pos l.nc), size-high l.nc (bounds s).nc_high)
 
 places : (s : tie.Start) → Places s.args.l.nc s.args.e.n (λ w. get_or s.args.e.places w 0)
 places s =
@@ -101,7 +101,7 @@ fill-logs-requires c κs =
     let t = c.before.before in
     let s = t.before.before.before in
     let b = bounds s in
-    (t.table.ensures, b.nc-low, b.nc-high, (few s).1)
+    (t.table.ensures, b.nc_low, b.nc_high, (few s).1)
 
 put-requires : tie.Need-put-requires
 put-requires c κs =
@@ -133,7 +133,7 @@ reduce-requires c κs =
     let s = entry (logged k) in
     let b = bounds s in
     let l = s.args.l in
-    ((b.nc-low, b.nc-high), omega (arith, length-take (l.l1 * l.l2 - 0) (cleared k), few s))
+    ((b.nc_low, b.nc_high), omega (arith, length-take (l.l1 * l.l2 - 0) (cleared k), few s))
 
 slice-aggregate-missing : tie.Need-slice-aggregate-missing
 slice-aggregate-missing c = search rules
@@ -160,7 +160,7 @@ missing-requires c κs =
       (s.pre.0, s.pre.1.1.0.1.1),
       (
         ((tabled f).table.ensures, f.fill-logs.ensures.1, s.pre.1.0),
-        rw all (reduced-elements l.nc (l.l1 * l.l2) (cleared (emptied k)) (base k) (enough k) (by-chunk k), omega (arith, low, few s)),
+        rw all (reduced_elements l.nc (l.l1 * l.l2) (cleared (emptied k)) (base k) (enough k) (by-chunk k), omega (arith, low, few s)),
       ),
     )
 
@@ -178,7 +178,7 @@ solve-requires c κs =
     let f = logged (emptied k) in
     let s = start k in
     let b = bounds s in (
-      ((tabled f).table.ensures, b.nc-low, b.nc-high, f.fill-logs.ensures.1),
+      ((tabled f).table.ensures, b.nc_low, b.nc_high, f.fill-logs.ensures.1),
       (omega arith, s.pre.1.1.0.0, places s, m.missing.ensures.0),
     )
 
@@ -206,7 +206,7 @@ returns c =
       λ cells collected y x given sent under.
           solved a.l a.numbers.now y x a.row.now cells a.e.n a.e.places given sent under collected
           (replicate 12 0) (cleared e) (base k) low (zeros-at 12) e.put.ensures
-          (reduced-at a.l.nc (a.l.l1 * a.l.l2) (cleared e) (base k) (enough k) (by-chunk k))
+          (reduced_at a.l.nc (a.l.l1 * a.l.l2) (cleared e) (base k) (enough k) (by-chunk k))
           m.missing.result v.solve.result p.put2.new.0 s.pre.1.1.0.1.1
           (rw all at m.missing.ensures.1) v.solve.ensures.1 p.put2.ensures,
     )

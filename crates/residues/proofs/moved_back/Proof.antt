@@ -4,7 +4,7 @@ use mathlib.Core.Path.{◌≡◌, subst}
 use native.Mathlib.Nat.{mod-lt}
 use native.Mathlib.Omega.{arith}
 use borrow.Author.Rules.{rules}
-use Rattle.residues.proofs.Words.{back-again}
+use Rattle.residues.proofs.Words.{back_again}
 use Rattle.residues.proofs.moved_back.Statement.{statement}
 use Rattle.residues.proofs.moved_back.Tie as tie
 
@@ -20,7 +20,7 @@ moved-on-requires c κs = search rules
 returns : tie.Need-returns
 returns c n h =
     let a = c.before.args in
-    subst (λ (v : ℕ). c.moved_on.result / 2 ^ v % 2 ≡ 1) (back-again a.m n a.by c.before.requires.0)
+    subst (λ (v : ℕ). c.moved_on.result / 2 ^ v % 2 ≡ 1) (back_again a.m n a.by c.before.requires.0)
     (c.moved_on.ensures (n + a.by) h)
 
 pub moved-back-spec : {M : Type 1} → statement M

@@ -5,7 +5,7 @@ use native.Mathlib.Nat.{mod-lt}
 use native.Mathlib.Omega.{arith}
 use borrow.Author.Rules.{rules}
 use lib.Pow.{pow_pos}
-use Rattle.residues.proofs.Words.{turned-has, one_bit}
+use Rattle.residues.proofs.Words.{turned_has, one_bit}
 use Rattle.residues.proofs.moved_on.Statement.{statement}
 use Rattle.residues.proofs.moved_on.Tie as tie
 
@@ -30,7 +30,7 @@ rem-result c = rw (one_bit c.args.m c.requires.1) (pow_pos c.args.m)
 returns : tie.Need-returns
 returns c n h =
     let a = c.args in
-    rw (one_bit a.m c.requires.1) (turned-has a.m a.set n a.by c.requires.0 c.requires.1 h)
+    rw (one_bit a.m c.requires.1) (turned_has a.m a.set n a.by c.requires.0 c.requires.1 h)
 
 pub moved-on-spec : {M : Type 1} → statement M
 moved-on-spec = tie.close (tie.spec rem-up shl-turned sub-turned shr-turned shl-result rem-result returns)

@@ -7,8 +7,8 @@ use borrow.Author.Rules.{rules}
 use borrow.Author.Tests.{not-false}
 use lib.ListN.{length}
 use Rattle.sums.specs.Sums.{Short}
-use Rattle.rests.proofs.Rests.{short-columns}
-use Rattle.rests.proofs.Leaving.{Leaves, leaves-next, leaves-done, all-marked}
+use Rattle.rests.proofs.Rests.{short_columns}
+use Rattle.rests.proofs.Leaving.{Leaves, leaves_next, leaves_done, all-marked}
 use Rattle.rests.proofs.exits.Statement.{statement}
 use Rattle.rests.proofs.exits.Tie as tie
 
@@ -27,8 +27,8 @@ abbrev start : tie.At-loop invariant-loop decreases-loop → tie.Start invariant
 start c = begin c.before.before
 
 -- there the layout is short
-is-short : (c : tie.Else1 invariant-loop decreases-loop) → Short (begin c).args.l
-is-short c = c.before.is-short.ensures.0 (not-false _ c.if1.false)
+is_short : (c : tie.Else1 invariant-loop decreases-loop) → Short (begin c).args.l
+is_short c = c.before.is_short.ensures.0 (not-false _ c.if1.false)
 
 is-short-requires : tie.Need-is-short-requires invariant-loop decreases-loop
 is-short-requires c κs = search rules
@@ -68,12 +68,12 @@ mark-block-requires c κs =
     let p = (start i).requires in
     let f = p.0 in
     let h = t.loop-test.true in
-    let short = is-short i.before.before in
-    let columns = short-columns (start i).args.l f.allowed short in (
+    let short = is_short i.before.before in
+    let columns = short_columns (start i).args.l f.allowed short in (
       (
         record {
           allowed = f.allowed;
-          is-short = short;
+          is_short = short;
           received = f.short;
           inside = f.inside i.loop.s h;
           column = p.1.0;
@@ -96,15 +96,15 @@ loop-again c =
     let a = (start i).args in
     let m = c.mark-block.ensures in (
       (omega (arith, t.loop-test.true), m.long ∙ i.loop.invariant.0.1),
-      leaves-next _ _ a.t4 _ a.t6 a.t7 a.rests.now i.loop.s i.loop.can _ i.loop.invariant.1 m,
+      leaves_next _ _ a.t4 _ a.t6 a.t7 a.rests.now i.loop.s i.loop.can _ i.loop.invariant.1 m,
     )
 
 returns-3 : tie.Need-returns-3 invariant-loop decreases-loop
 returns-3 c row vs next x holds behind s h =
     let i = c.before in
     let a = (start i).args in
-    let short = is-short i.before.before in
-    leaves-done _ _ _ _ row _ a.t6 next vs a.t7 a.rests.now i.loop.can (start i).requires.1.0
+    let short = is_short i.before.before in
+    leaves_done _ _ _ _ row _ a.t6 next vs a.t7 a.rests.now i.loop.can (start i).requires.1.0
     (λ t k. i.loop.invariant.1 t (omega (arith, k, c.loop-test.false))) x s h (holds short s h) (behind short s h)
 
 pub exits-spec : {M : Type 1} → statement M

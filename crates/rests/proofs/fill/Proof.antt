@@ -15,15 +15,15 @@ use lib.Seq.{get_or-set_same, get_or-set_other}
 use Rattle.residues.specs.Residues.{Has}
 use Rattle.states.specs.States.{each}
 use Rattle.marks.specs.Marks.{Path}
-use Rattle.sums.specs.Sums.{Short, blockModulus, rest_at, HoldsFrom}
-use Rattle.rests.proofs.Rests.{short-columns, end-holds, column-holds}
+use Rattle.sums.specs.Sums.{Short, block_modulus, rest_at, HoldsFrom}
+use Rattle.rests.proofs.Rests.{short_columns, end-holds, column-holds}
 use Rattle.rests.proofs.fill.Statement.{statement}
 use Rattle.rests.proofs.fill.Tie as tie
 
 abbrev invariant-loop : tie.invariant-loop
 invariant-loop l y numbers heavy size rests₀ end n s₀ rests s =
     ((s ≤ n) × (length rests ≡ length rests₀))
-    × ((t : ℕ) → t < s → Has (blockModulus l) (get_or rests (rest_at l.l2 t 0) 0) 0)
+    × ((t : ℕ) → t < s → Has (block_modulus l) (get_or rests (rest_at l.l2 t 0) 0) 0)
 
 abbrev decreases-loop : tie.decreases-loop
 decreases-loop l y numbers heavy size rests₀ end n s₀ rests s = n - s
@@ -48,18 +48,18 @@ abbrev start2 : tie.At-loop2 invariant-loop decreases-loop invariant-loop2 decre
 start2 c = start c.before.before
 
 -- there the layout is short
-is-short : (c : tie.After-struct-known invariant-loop decreases-loop invariant-loop2 decreases-loop2) → Short (begin c).args.l
-is-short c = c.before.before.is-short.ensures.0 (not-false _ c.before.if1.false)
+is_short : (c : tie.After-struct-known invariant-loop decreases-loop invariant-loop2 decreases-loop2) → Short (begin c).args.l
+is_short c = c.before.before.is_short.ensures.0 (not-false _ c.before.if1.false)
 
 columns : (c : tie.After-struct-known invariant-loop decreases-loop invariant-loop2 decreases-loop2) → (begin c).args.l.l2 ≤ 20
-columns c = short-columns (begin c).args.l (begin c).requires.0.allowed (is-short c)
+columns c = short_columns (begin c).args.l (begin c).requires.0.allowed (is_short c)
 
 is-short-requires : tie.Need-is-short-requires invariant-loop decreases-loop invariant-loop2 decreases-loop2
 is-short-requires c κs = c.before.before.before.requires.0.allowed
 
 returns : tie.Need-returns invariant-loop decreases-loop invariant-loop2 decreases-loop2
 returns c =
-    let shown = c.before.is-short.ensures.1 in
+    let shown = c.before.is_short.ensures.1 in
     (λ row vs own path short. absurd (false≢true (sym (not-true _ c.if1.true) ∙ shown short)), refl)
 
 mul-end : tie.Need-overflow-mul-end invariant-loop decreases-loop invariant-loop2 decreases-loop2
@@ -108,7 +108,7 @@ loop-again c =
     let rests = i.loop.rests in
     let at = l.l2 * 78 + i.loop.s * 13 in
     let v = c.only.result in
-    let m = blockModulus l in
+    let m = block_modulus l in
     let is : rest_at l.l2 i.loop.s 0 ≡ at = omega arith in
     let none = c.only.ensures m 0 (mod-eq_of_lt (omega arith)) in (
       (omega (arith, t.loop-test.true), length-set rests at v ∙ i.loop.invariant.0.1),
@@ -139,7 +139,7 @@ fill-column-requires c κs =
     let turn = c.before.loop2-test.true in
     let first = i.before.before in
     let low = i.loop2.invariant.0 in (
-      (p.0, (is-short first.before, omega (arith, turn, low.0))),
+      (p.0, (is_short first.before, omega (arith, turn, low.0))),
       (
         p.1.0,
         omega (arith, turn, low.0, low.1, first.loop.invariant.0.1, columns first.before, p.1.1),

@@ -41,7 +41,7 @@ fill-block-requires c κs =
     let h = t.loop-test.true in (
       record {
         allowed = f.allowed;
-        is-short = p.0.1.0;
+        is_short = p.0.1.0;
         received = f.short;
         inside = f.inside i.loop.s h;
         column = p.0.1.1;

@@ -8,10 +8,10 @@ use native.Mathlib.Omega.{arith}
 use borrow.Author.Rules.{rules}
 use lib.ListN.{length, get_or}
 use Rattle.residues.specs.Residues.{Has}
-use Rattle.sums.specs.Sums.{blockModulus, rest_at}
+use Rattle.sums.specs.Sums.{block_modulus, rest_at}
 use Rattle.rests.specs.Rests.{Marked}
 use Rattle.rests.proofs.Rests.{short-low}
-use Rattle.rests.proofs.Leaving.{marked-starts, marked_next, marked-passes}
+use Rattle.rests.proofs.Leaving.{marked-starts, marked_next, marked_passes}
 use Rattle.rests.proofs.mark_block.Statement.{statement}
 use Rattle.rests.proofs.mark_block.Tie as tie
 
@@ -110,11 +110,11 @@ loop-again c =
     (marked_next _ _ _ _ _ _ _ _ _ _ i.loop.next i.loop.can m _ (omega (arith, t.wide.ensures))
     (omega (arith, k.0.1, (start i).pre.1, m.long))))
     (λ w. rw w.1
-    (marked-passes _ _ _ _ _ _ _ _ _ _ i.loop.next i.loop.can m
+    (marked_passes _ _ _ _ _ _ _ _ _ _ i.loop.next i.loop.can m
     (λ v n can b among.
-    false≢true (sym w.0.left ∙ d.meet.ensures (blockModulus a.l) _ among
+    false≢true (sym w.0.left ∙ d.meet.ensures (block_modulus a.l) _ among
     (d.before.with-chunk.ensures v n can
-    (subst (λ (j : ℕ). Has (blockModulus a.l) (get_or a.rests.now j 0) n) place b))))))
+    (subst (λ (j : ℕ). Has (block_modulus a.l) (get_or a.rests.now j 0) n) place b))))))
     c.if1.branch
 
 returns : tie.Need-returns invariant-loop decreases-loop

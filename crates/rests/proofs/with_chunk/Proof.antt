@@ -43,7 +43,7 @@ slice-aggregate-contents c = search rules
 contents-requires : tie.Need-contents-requires
 contents-requires c κs =
     let s = begin c.before.before.before.before.before in
-    ((short-low s.pre.0).nc-high, (omega (arith, c.before.if2.false), omega arith))
+    ((short-low s.pre.0).nc_high, (omega (arith, c.before.if2.false), omega arith))
 
 mul-with-each : tie.Need-overflow-mul-with-each
 mul-with-each c =
@@ -73,7 +73,7 @@ with-each-requires c κs =
     let d = c.before.before.before in
     let k = short-low (begin (placed d)).requires.0 in
     let long : length d.contents.new.1.1.1.1.0 ≡ 256 = search rules in (
-      (k.nc-high, ((omega arith, omega (arith, k.modulus)), (omega arith, omega (arith, k.first)))),
+      (k.nc_high, ((omega arith, omega (arith, k.modulus)), (omega arith, omega (arith, k.first)))),
       omega (arith, long, d.contents.ensures.0),
     )
 
@@ -85,8 +85,8 @@ returns-3 c v n can h =
     let ok : o.place_of.result.ok ≡ true = not-false _ d.before.before.before.before.if1.false in
     let a = (begin o).args in
     let loses =
-    ap (λ (i : ℕ). losses (digits a.l.nc v) (drop i a.y.now)) (place.at-just ok) ∙ can.loses
-    ∙ sym (place.lost-just ok) in
+    ap (λ (i : ℕ). losses (digits a.l.nc v) (drop i a.y.now)) (place.at_just ok) ∙ can.loses
+    ∙ sym (place.lost_just ok) in
     c.with_Each.ensures v n (d.contents.ensures.1 v can.small loses) h
 
 pub with-chunk-spec : {M : Type 1} → statement M

@@ -9,7 +9,7 @@ use lib.ListN.{get_or}
 use Rattle.bits.specs.Bits.{digits}
 use Rattle.vt.specs.Sum.{total}
 use Rattle.residues.specs.Residues.{Has}
-use Rattle.sums.specs.Sums.{blockModulus}
+use Rattle.sums.specs.Sums.{block_modulus}
 use Rattle.rests.specs.Rests.{Brings}
 use Rattle.rests.proofs.with_chunks.Statement.{statement}
 use Rattle.rests.proofs.with_chunks.Tie as tie
@@ -56,7 +56,7 @@ loop-again : tie.Need-loop-preserved invariant-loop decreases-loop
 loop-again c =
     let i = c.before.before.before.before.before in
     let a = (start i).args in
-    let m = blockModulus a.l in
+    let m = block_modulus a.l in
     let wide = c.before.before.before.wide.ensures in
     let more : ℕ → ℕ → ℕ = λ v n. n + total (a.c * a.l.nc + 1) (digits a.l.nc v) in
     below_more _ _

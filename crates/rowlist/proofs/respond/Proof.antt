@@ -7,9 +7,9 @@ use mathlib.Core.List.{List}
 use native.Mathlib.Omega.{arith}
 use lib.ListN.{length}
 use lib.Seq.{length-take-le}
-use Rattle.bits.specs.Bits.{bytesFor}
+use Rattle.bits.specs.Bits.{bytes_for}
 use Rattle.consistent.specs.Consistent.{bits_of}
-use Rattle.rowtext.specs.Input.{messageIn}
+use Rattle.rowtext.specs.Input.{message_in}
 use Rattle.rowtext.proofs.Put.{put-within}
 use Rattle.rowlist.proofs.Printed.{Answers, answers, number_short}
 use Rattle.rowlist.proofs.respond.Statement.{statement}
@@ -87,8 +87,8 @@ split_at c = parted c.before.before.before
 
 -- the bytes of a row
 width : (c : tie.After-row-bytes) → let s = (start (split_at (counted c))).args.input.now in
-    c.row-bytes.result ≡ bytesFor (bits_of (messageIn s))
-width c = c.row-bytes.ensures ∙ ap (λ (t : List ℕ). bytesFor (bits_of t)) (split_at (counted c)).split.ensures.message
+    c.row-bytes.result ≡ bytes_for (bits_of (message_in s))
+width c = c.row-bytes.ensures ∙ ap (λ (t : List ℕ). bytes_for (bits_of t)) (split_at (counted c)).split.ensures.message
 
 put-count-requires : tie.Need-put-count-requires
 put-count-requires c κs =

@@ -7,8 +7,8 @@ use native.Mathlib.Omega.{arith}
 use lib.ListN.{length}
 use mir.Syntax.{w64}
 use mir.Val.{Fits}
-use Rattle.rows.proofs.Slice.{rows-le, row_fits, place-count}
-use Rattle.rows.proofs.Written.{Absent, present, absent-other, absent-end, written-repeat, written-room, written-full, written_after}
+use Rattle.rows.proofs.Slice.{rows_le, row_fits, place-count}
+use Rattle.rows.proofs.Written.{Absent, present, absent_other, absent_end, written_repeat, written-room, written-full, written_after}
 use Rattle.rows.proofs.insert.Statement.{statement}
 use Rattle.rows.proofs.insert.Tie as tie
 
@@ -27,7 +27,7 @@ before-fits : (c : tie.After-place) (i : ℕ) → i ≤ (start c).args.cap
     → i * length (start c).args.x.now ≤ length (start c).args.list.now
 before-fits c i h =
     let a = (start c).args in
-    omega (arith, rows-le i a.cap (length a.x.now) h, (start c).requires.1.0)
+    omega (arith, rows_le i a.cap (length a.x.now) h, (start c).requires.1.0)
 
 -- the byte where x's place begins can be computed
 place-fits : (c : tie.After-place) → Fits w64 (c.place.result * length (start c).args.x.now)
@@ -45,7 +45,7 @@ place-requires c κs =
     let s = c.before.before.before in (
       omega (
         arith,
-        rows-le s.args.kept.count s.args.cap (length s.args.x.now) s.requires.1.1.0,
+        rows_le s.args.kept.count s.args.cap (length s.args.x.now) s.requires.1.1.0,
         s.requires.1.0,
       ),
       s.requires.1.1.1,
@@ -67,9 +67,9 @@ absent c =
     let a = (start c.before).args in
     let p : ℕ = c.before.place.result in
     ⊎_elim
-    (λ k. absent-other a.list.now a.kept.count a.x.now p k.2.result k.0.taken k.2.ensures
+    (λ k. absent_other a.list.now a.kept.count a.x.now p k.2.result k.0.taken k.2.ensures
     (λ e. omega (arith, k.3.left)))
-    (λ k. absent-end a.list.now a.kept.count a.x.now p k.left)
+    (λ k. absent_end a.list.now a.kept.count a.x.now p k.left)
     c.if1.branch
 
 same_length : tie.Need-same-length
@@ -85,7 +85,7 @@ returns c =
     let e =
     present a.list.now a.kept.count a.x.now p c.before.compare.result h c.before.compare.ensures
     (omega arith) in
-    written-repeat a.list.now a.kept.count a.kept.more a.cap a.x.now s.pre.1.1.0
+    written_repeat a.list.now a.kept.count a.kept.more a.cap a.x.now s.pre.1.1.0
     p f.place.ensures s.pre.1.1.1 h e
 
 mul-put-row : tie.Need-overflow-mul-put-row
@@ -100,7 +100,7 @@ put-row-requires : tie.Need-put-row-requires
 put-row-requires c κs =
     let f = c.before.before.before in
     let a = (start f).args in (
-      rows-le f.place.result a.kept.count (length a.x.now) (low f),
+      rows_le f.place.result a.kept.count (length a.x.now) (low f),
       (row_in f a.kept.count (omega arith), (start f).requires.0),
     )
 
@@ -135,7 +135,7 @@ put-row-requires-2 : tie.Need-put-row-requires-2
 put-row-requires-2 c κs =
     let f = c.before.before.before.before in
     let a = (start f).args in (
-      rows-le f.place.result (a.cap - 1) (length a.x.now) (omega arith),
+      rows_le f.place.result (a.cap - 1) (length a.x.now) (omega arith),
       (row_in f (a.cap - 1) (omega arith), (start f).requires.0),
     )
 

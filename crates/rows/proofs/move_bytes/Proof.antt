@@ -4,7 +4,7 @@ use Prim.Native.Nat.{ℕ, ◌+◌, ◌-◌, ◌≤◌}
 use mathlib.Core.Path.{◌≡◌, ◌∙◌, ap, sym}
 use native.Mathlib.Omega.{arith}
 use lib.ListN.{length, length-set}
-use Rattle.rows.proofs.Slice.{Moved, moved-start, moved-read, moved-next}
+use Rattle.rows.proofs.Slice.{Moved, moved_start, moved_read, moved_next}
 use Rattle.rows.proofs.move_bytes.Statement.{statement}
 use Rattle.rows.proofs.move_bytes.Tie as tie
 
@@ -16,7 +16,7 @@ abbrev decreases-loop : tie.decreases-loop
 decreases-loop list₀ from to w i₀ list i = i - from
 
 loop-holds : tie.Need-loop-init invariant-loop decreases-loop
-loop-holds c = (search rules, (search rules, (search rules, moved-start c.args.list.now c.args.to c.args.w)))
+loop-holds c = (search rules, (search rules, (search rules, moved_start c.args.list.now c.args.to c.args.w)))
 
 sub-i : tie.Need-overflow-sub-i invariant-loop decreases-loop
 sub-i c = search rules
@@ -41,13 +41,13 @@ loop-again c =
     let e : i + 1 ≡ p.loop.i = omega arith in
     let l : p.loop.list ≡ Moved a.list.now a.to a.w (i + 1) =
     p.loop.invariant.1.1.1 ∙ ap (Moved a.list.now a.to a.w) (sym e) in
-    let r = moved-read a.list.now a.to a.w i (omega arith) (omega arith) (omega arith) in (
+    let r = moved_read a.list.now a.to a.w i (omega arith) (omega arith) (omega arith) in (
       omega arith,
       (
         omega arith,
         (
           simp length-set p.loop.invariant.1.1.0,
-          rw (l, r) (moved-next a.list.now a.to a.w i (omega arith) (omega arith)),
+          rw (l, r) (moved_next a.list.now a.to a.w i (omega arith) (omega arith)),
         ),
       ),
     )

@@ -5,7 +5,7 @@ use mathlib.Core.Path.{◌≡◌, ◌∙◌, ap, sym}
 use native.Mathlib.Omega.{arith}
 use mathlib.Core.List.{List, ◌++◌}
 use lib.ListN.{length, take, drop}
-use Rattle.rows.proofs.Slice.{Moved, moved-start, moved-part, length_moved}
+use Rattle.rows.proofs.Slice.{Moved, moved_start, moved_part, length_moved}
 use Rattle.rows.proofs.move_up.Statement.{statement}
 use Rattle.rows.proofs.move_up.Tie as tie
 
@@ -19,7 +19,7 @@ decreases-loop list₀ from to w i₀ list i = i - from
 loop-holds : tie.Need-loop-init invariant-loop decreases-loop
 loop-holds c = (
   search rules,
-  (search rules, (search rules, moved-start c.before.args.list.now c.before.args.to c.before.args.w)),
+  (search rules, (search rules, moved_start c.before.args.list.now c.before.args.to c.before.args.w)),
 )
 
 sub-loop : tie.Need-overflow-sub-loop invariant-loop decreases-loop
@@ -55,7 +55,7 @@ loop-again c =
     in
     let all : m.move-piece.new.0 ≡ Moved a.list.now a.to a.w i =
     one ∙ ap (λ (u : List ℕ). Moved u p.loop.i a.w i) p.loop.invariant.1.1.1
-    ∙ moved-part a.list.now a.to a.w p.loop.i i room high p.loop.invariant.1.0
+    ∙ moved_part a.list.now a.to a.w p.loop.i i room high p.loop.invariant.1.0
     in (
       low,
       (
@@ -79,7 +79,7 @@ moved_all c =
     let p = m.before.before.before in
     let a = (start c).args in
     m.move-bytes.ensures ∙ ap (λ (u : List ℕ). Moved u p.loop.i a.w a.from) p.loop.invariant.1.1.1
-    ∙ moved-part a.list.now a.to a.w p.loop.i a.from (start c).requires.1.0 p.loop.invariant.0
+    ∙ moved_part a.list.now a.to a.w p.loop.i a.from (start c).requires.1.0 p.loop.invariant.0
     p.loop.invariant.1.0
 
 move-bytes-requires : tie.Need-move-bytes-requires invariant-loop decreases-loop

@@ -5,7 +5,7 @@ use mathlib.Core.Path.{◌∙◌, ap}
 use mathlib.Core.List.{List, ◌++◌, append_assoc}
 use native.Mathlib.Omega.{arith}
 use lib.ListN.{length, take, drop}
-use Rattle.rows.proofs.Slice.{moved-written}
+use Rattle.rows.proofs.Slice.{moved_written}
 use Rattle.rows.proofs.put_row.Statement.{statement}
 use Rattle.rows.proofs.put_row.Tie as tie
 
@@ -27,7 +27,7 @@ returns c =
     ∙ append_assoc (take a.at moved.move_up.new.0) a.x.now
     (drop (a.at + length a.x.now) moved.move_up.new.0)
     ∙ ap (λ (l : List ℕ). take a.at l ++ (a.x.now ++ drop (a.at + length a.x.now) l)) moved.move_up.ensures
-    ∙ moved-written a.list.now a.x.now a.at a.to (omega arith) (omega arith)
+    ∙ moved_written a.list.now a.x.now a.at a.to (omega arith) (omega arith)
 
 pub put-row-spec : {M : Type 1} → statement M
 put-row-spec = tie.close (tie.spec move-up-requires copy-to-requires same_length returns)

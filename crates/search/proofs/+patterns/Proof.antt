@@ -12,25 +12,25 @@ use borrow.Fn.Kinds.{In}
 use borrow.Fn.PlainCycle.{Measures, is, falls, and}
 use borrow.Author.Rules.{part_to_end}
 use lib.ListN.{length}
-use Rattle.bits.specs.Bits.{mostInLine}
+use Rattle.bits.specs.Bits.{most_in_line}
 use Rattle.bits.proofs.Laws.{bits-drop}
-use Rattle.rows.specs.Slice.{rowsIn}
-use Rattle.message.specs.Layout.{rowBits, block_bits}
+use Rattle.rows.specs.Slice.{rows_of_slice}
+use Rattle.message.specs.Layout.{row_bits, block_bits}
 use Rattle.message.proofs.Fields.{field_room}
-use Rattle.message.proofs.Legal.{Sizes, legal-bounds, sizes}
-use Rattle.found.proofs.Found.{grown-holding, grown-length, grown-none}
+use Rattle.message.proofs.Legal.{Sizes, legal_bounds, sizes}
+use Rattle.found.proofs.Found.{grown_holding, grown_length, grown_none}
 use Rattle.anchor.specs.Anchor.{Anchored}
-use Rattle.anchor.proofs.Anchor.{anchored-stays}
+use Rattle.anchor.proofs.Anchor.{anchored_stays}
 use Rattle.search.proofs.Counts.{
   Next,
   Tries,
   count-inside,
-  begun-next,
-  tabled-next,
-  tries-start,
-  tries-none,
-  tries-next,
-  tries-all,
+  begun_next,
+  tabled_next,
+  tries_start,
+  tries_none,
+  tries_next,
+  tries_all,
 }
 use Rattle.search.proofs.patterns.Reads as patterns
 use Rattle.search.proofs.patterns.Kinds as patterns-kinds
@@ -60,7 +60,7 @@ patterns-Inv-loop l y ytotals ycounts numbers rest totals counts later pattern r
     ((first ≤ turn) × (turn ≤ most))
     × (Tries l numbers y cap pattern.counts i pattern.total first most down row₀ list₀ k₀.count k₀.more
     row list k.count k.more turn
-    × ((length desk ≡ length desk₀) × Anchored l numbers y (rowsIn (rowBits l) list k.count k.more) desk))
+    × ((length desk ≡ length desk₀) × Anchored l numbers y (rows_of_slice (row_bits l) list k.count k.more) desk))
 
 abbrev patterns-μ-loop : patterns-lts.decreases-loop
 patterns-μ-loop l y ytotals ycounts numbers rest totals counts later pattern row₀ desk₀ cap list₀ i nb p most first down
@@ -182,24 +182,24 @@ abbrev count : (t : ℕ) → Can t → ℕ
 count t c = (counting t c).count_at.result
 
 high : (t : ℕ) (s : Start t) → Sizes s.args.l
-high t s = sizes s.args.l (legal-bounds s.args.l s.requires.1.0.0.is-legal)
+high t s = sizes s.args.l (legal_bounds s.args.l s.requires.1.0.0.is_legal)
 
-length-counts : (t : ℕ) (s : Start t) → length s.args.pattern.counts ≡ mostInLine
+length-counts : (t : ℕ) (s : Start t) → length s.args.pattern.counts ≡ most_in_line
 length-counts t s = search rules
 
 counts-fit : (t : ℕ) (s : Start t) → s.args.l.l1 ≤ length s.args.pattern.counts
-counts-fit t s = omega (arith, length-counts t s, (high t s).l1-high)
+counts-fit t s = omega (arith, length-counts t s, (high t s).l1_high)
 
 -- the most that block i can lose is what is left of all losses, at most twelve
 abbrev most_of : (t : ℕ) → Start t → ℕ
 most_of t s = let a = s.args in a.l.l1 * block_bits a.l - length a.y.now - a.pattern.total
 
 left_over : (t : ℕ) (s : Start t) → let a = s.args in
-    (a.pattern.total + most_of t s ≡ rowBits a.l - length a.y.now) × (rowBits a.l - length a.y.now ≤ 12)
+    (a.pattern.total + most_of t s ≡ row_bits a.l - length a.y.now) × (row_bits a.l - length a.y.now ≤ 12)
 left_over t s =
     let few = s.requires.1.0.0.few in
     let most = s.requires.1.1.1.0.most in
-    let all = (high t s).l1-block in
+    let all = (high t s).l1_block in
     (omega arith, omega arith)
 
 -- the first count that is tried is 0, but for the last block the most
@@ -219,7 +219,7 @@ next t c =
     record {
       given = s.pre.1.0.0;
       inside = omega arith;
-      room = omega (arith, (high t s).l1-high);
+      room = omega (arith, (high t s).l1_high);
       sums = s.pre.1.1.1.0.sums;
       all = (left_over t s).0;
       from = λ z. let w = first-last t c z in (omega arith, w.1);
@@ -243,7 +243,7 @@ tabled-within : (t : ℕ) (c : Can t) → let p = loop t c in let a = (start t p
 tabled-within t c =
     let w = (start t (loop t c).before).pre.1.1.1.1.0.1.tables in
     let h = (within t c).1 in
-    (omega (arith, w.totals-long), omega (arith, w.counts-long))
+    (omega (arith, w.totals_long), omega (arith, w.counts-long))
 
 patterns-sub-i : (t : ℕ)
     → patterns-lts.Need-overflow-sub-i (called t) (patterns-at t) patterns.Post patterns-Inv-loop patterns-μ-loop
@@ -277,7 +277,7 @@ patterns-returns : (t : ℕ)
 patterns-returns t c =
     let s = first t c.before in
     let known = c.before.near-anchor.ensures c.if1.true _ in (
-      grown-none s.pre.1.0.1 (λ x r u. known x s.pre.1.1.1.1.1 r u.own u.light),
+      grown_none s.pre.1.0.1 (λ x r u. known x s.pre.1.1.1.1.1 r u.own u.light),
       (refl, s.pre.1.1.1.1.1),
     )
 
@@ -312,7 +312,7 @@ patterns-returns-2 : (t : ℕ)
 patterns-returns-2 t c =
     let s = entry t c.before in
     let known = c.before.above.ensures c.if2.true in
-    (grown-none s.pre.1.0.1 (λ x r u. known x r u.own u.light), (refl, s.pre.1.1.1.1.1))
+    (grown_none s.pre.1.0.1 (λ x r u. known x r u.own u.light), (refl, s.pre.1.1.1.1.1))
 
 patterns-one-pattern-requires : (t : ℕ)
     → patterns-lts.Need-one-pattern-requires (called t) (patterns-at t) patterns.Post patterns-Inv-loop patterns-μ-loop
@@ -347,7 +347,7 @@ patterns-returns-3 t c =
     let last = all.if3.true in
     let e : s.args.l.l1 - s.args.later ≡ s.args.l.l1 = omega arith in
     let g = o.one-pattern.ensures in
-    (rw e g, (refl, anchored-stays s.pre.1.0.1 g s.pre.1.1.1.1.1))
+    (rw e g, (refl, anchored_stays s.pre.1.0.1 g s.pre.1.1.1.1.1))
 
 patterns-mul-nb : (t : ℕ)
     → patterns-lts.Need-overflow-mul-nb (called t) (patterns-at t) patterns.Post patterns-Inv-loop patterns-μ-loop
@@ -359,7 +359,7 @@ patterns-mul-p t c =
     let s = entry t c.before.before.before in
     let l = s.args.l in
     let h : l.l1 - s.args.later ≤ l.l1 = omega arith in
-    omega (arith, mul-le-mul_right (block_bits l) h, (high t s).l1-block, (high t s).row)
+    omega (arith, mul-le-mul_right (block_bits l) h, (high t s).l1_block, (high t s).row)
 
 patterns-sub-p : (t : ℕ)
     → patterns-lts.Need-overflow-sub-p (called t) (patterns-at t) patterns.Post patterns-Inv-loop patterns-μ-loop
@@ -369,19 +369,19 @@ patterns-mul-most : (t : ℕ)
     → patterns-lts.Need-overflow-mul-most (called t) (patterns-at t) patterns.Post patterns-Inv-loop patterns-μ-loop
 patterns-mul-most t c =
     let z = high t (entry t c.before.before.before.before.before) in
-    omega (arith, z.l1-block, z.row)
+    omega (arith, z.l1_block, z.row)
 
 patterns-sub-most : (t : ℕ)
     → patterns-lts.Need-overflow-sub-most (called t) (patterns-at t) patterns.Post patterns-Inv-loop patterns-μ-loop
 patterns-sub-most t c =
     let s = entry t c.before.before.before.before.before in
-    omega (arith, (high t s).l1-block, s.pre.1.0.0.short)
+    omega (arith, (high t s).l1_block, s.pre.1.0.0.short)
 
 patterns-sub-most-2 : (t : ℕ)
     → patterns-lts.Need-overflow-sub-most-2 (called t) (patterns-at t) patterns.Post patterns-Inv-loop patterns-μ-loop
 patterns-sub-most-2 t c =
     let s = entry t c.before.before.before.before.before.before in
-    omega (arith, (high t s).l1-block, s.pre.1.1.1.0.most)
+    omega (arith, (high t s).l1_block, s.pre.1.1.1.0.most)
 
 patterns-down-pays-requires : (t : ℕ)
     → patterns-lts.Need-down-pays-requires (called t) (patterns-at t) patterns.Post patterns-Inv-loop patterns-μ-loop
@@ -395,7 +395,7 @@ patterns-loop-holds : (t : ℕ)
     → patterns-lts.Need-loop-init (called t) (patterns-at t) patterns.Post patterns-Inv-loop patterns-μ-loop
 patterns-loop-holds t c =
     let s = start t c in
-    ((omega arith, first-most t c), (tries-start (next t c) s.pre.1.0.1, (refl, s.pre.1.1.1.1.1)))
+    ((omega arith, first-most t c), (tries_start (next t c) s.pre.1.0.1, (refl, s.pre.1.1.1.1.1)))
 
 patterns-count-at-requires : (t : ℕ)
     → patterns-lts.Need-count-at-requires (called t) (patterns-at t) patterns.Post patterns-Inv-loop patterns-μ-loop
@@ -415,7 +415,7 @@ patterns-try-block-requires t c κs =
     let hand : i * a.l.l2 + a.l.l2 ≤ length p.loop.row =
     omega (arith, (high t s).chunks, b.hand, p.loop.inv.1.0.places) in
     let bits = bits-drop (i * block_bits a.l - a.pattern.total) a.y.now g.bits in
-    (g.is-legal, (rw b.reads bits, (s.pre.1.1.1.1.0.1, (omega (arith, g.count), (g.blocks i h, hand)))))
+    (g.is_legal, (rw b.reads bits, (s.pre.1.1.1.1.0.1, (omega (arith, g.count), (g.blocks i h, hand)))))
 
 patterns-cast-next : (t : ℕ)
     → patterns-lts.Need-overflow-cast-next (called t) (patterns-at t) patterns.Post patterns-Inv-loop patterns-μ-loop
@@ -427,7 +427,7 @@ patterns-element-write-next : (t : ℕ)
     → patterns-lts.Need-element-write-next (called t) (patterns-at t) patterns.Post patterns-Inv-loop patterns-μ-loop
 patterns-element-write-next t c =
     let r = (loop t c).before in
-    omega (arith, (next t r).inside, (high t (start t r)).l1-high)
+    omega (arith, (next t r).inside, (high t (start t r)).l1_high)
 
 patterns-add-next : (t : ℕ)
     → patterns-lts.Need-overflow-add-next (called t) (patterns-at t) patterns.Post patterns-Inv-loop patterns-μ-loop
@@ -500,18 +500,18 @@ patterns-patterns-requires t c κs =
     let n = next t p.before in
     let h = n.inside in
     let o = left_over t s in
-    let most : a.pattern.total + count t e + length a.y.now ≤ rowBits a.l =
+    let most : a.pattern.total + count t e + length a.y.now ≤ row_bits a.l =
     omega (arith, count_most t (counting t e), s.pre.1.0.0.short) in
     let row : List ℕ = q.try-block.last.1.1.1.1.1.1.1.1.0 in
     let same : length row ≡ length a.row.now =
     omega (arith, q.try-block.kept.1.1.1.1.1.1.1.1.0, p.loop.inv.1.0.places) in
     let w = within t e in
     let j : ℕ = a.l.l1 - (a.later - 1) in
-    let b = begun-next n s.pre.1.1.1.0 (count t e) most w.0 row same j (omega arith) in
+    let b = begun_next n s.pre.1.1.1.0 (count t e) most w.0 row same j (omega arith) in
     let tabled =
-    tabled-next n s.pre.1.1.1.0 (count t e) w.0 w.1 s.pre.1.1.1.1.0.1 j (omega arith) in
+    tabled_next n s.pre.1.1.1.0 (count t e) w.0 w.1 s.pre.1.1.1.1.0.1 j (omega arith) in
     let d : ℕ = block_bits a.l - count t e in
-    let held = grown-holding s.pre.1.0.1 p.loop.inv.1.0.known in
+    let held = grown_holding s.pre.1.0.1 p.loop.inv.1.0.known in
     let falls : a.later - 1 < t = omega (arith, s.pre.0) in (
       falls,
       (
@@ -532,8 +532,8 @@ patterns-set-anchor-requires t c κs =
     let p = loop t (can t f.before.before.before.before.before) in
     let s = start t p.before in
     let g = f.patterns.ensures in
-    let held = grown-holding s.pre.1.0.1 p.loop.inv.1.0.known in
-    (s.pre.1.0.0, (grown-holding held g.0, g.1.1))
+    let held = grown_holding s.pre.1.0.1 p.loop.inv.1.0.known in
+    (s.pre.1.0.0, (grown_holding held g.0, g.1.1))
 
 patterns-add-turn : (t : ℕ)
     → patterns-lts.Need-overflow-add-turn (called t) (patterns-at t) patterns.Post patterns-Inv-loop patterns-μ-loop
@@ -557,7 +557,7 @@ after_turn : (t : ℕ) (c : Turned t) → let p = turn t c in let a = (start t p
     c.if5.k.more (p.loop.turn + 1)
     × ((length c.if5.desk ≡ length a.desk.now)
     × Anchored a.l a.numbers.now a.y.now
-    (rowsIn (rowBits a.l) c.if5.list c.if5.k.count c.if5.k.more) c.if5.desk)
+    (rows_of_slice (row_bits a.l) c.if5.list c.if5.k.count c.if5.k.more) c.if5.desk)
 after_turn t c =
     let q = c.before.before.before in
     let p = tried t q in
@@ -572,12 +572,12 @@ after_turn t c =
     let now = q.before.before.count_at.ensures in
     ⊎_elim
     (λ w. rw (w.20, w.21, w.22, w.23) (
-      tries-next n s.pre.1.0.1 p.loop.turn tries.0 now q.try-block.ensures reads same j after
+      tries_next n s.pre.1.0.1 p.loop.turn tries.0 now q.try-block.ensures reads same j after
           w.8.ensures.0 w.8.ensures.1.0 w.8.kept.1.1.1.1.1.1.1.1.1.1.0,
       (w.17.kept.1.1.1.1.1.1.0 ∙ w.8.kept.1.1.1.1.1.1.1.1.1.1.1.0 ∙ tries.1.0, w.17.ensures),
     ))
     (λ w. rw (w.1, w.2, w.3, w.4)
-    (tries-none n s.pre.1.0.1 p.loop.turn tries.0 now q.try-block.ensures reads same w.0.left, tries.1))
+    (tries_none n s.pre.1.0.1 p.loop.turn tries.0 now q.try-block.ensures reads same w.0.left, tries.1))
     c.if5.branch
 
 patterns-loop-again : (t : ℕ)
@@ -598,7 +598,7 @@ patterns-same-length-10 t c = c.before.loop.invariant.1.1.0
 
 patterns-same-length-11 : (t : ℕ)
     → patterns-lts.Need-same-length-11 (called t) (patterns-at t) patterns.Post patterns-Inv-loop patterns-μ-loop
-patterns-same-length-11 t c = grown-length (start t c.before.before).pre.1.0.1 c.before.loop.invariant.1.0.known
+patterns-same-length-11 t c = grown_length (start t c.before.before).pre.1.0.1 c.before.loop.invariant.1.0.known
 
 patterns-returns-4 : (t : ℕ)
     → patterns-lts.Need-returns-4 (called t) (patterns-at t) patterns.Post patterns-Inv-loop patterns-μ-loop
@@ -606,7 +606,7 @@ patterns-returns-4 t c =
     let p = c.before in
     let past = c.loop-test.false in
     let w = p.loop.invariant.1 in
-    (tries-all (next t p.before) (start t p.before).pre.1.0.1 p.loop.turn (omega arith) w.0, (w.0.stays, w.1.1))
+    (tries_all (next t p.before) (start t p.before).pre.1.0.1 p.loop.turn (omega arith) w.0, (w.0.stays, w.1.1))
 
 patterns-same-length-12 : (t : ℕ)
     → patterns-lts.Need-same-length-12 (called t) (patterns-at t) patterns.Post patterns-Inv-loop patterns-μ-loop
@@ -620,7 +620,7 @@ patterns-same-length-14 : (t : ℕ)
     → patterns-lts.Need-same-length-14 (called t) (patterns-at t) patterns.Post patterns-Inv-loop patterns-μ-loop
 patterns-same-length-14 t c =
     let s = start t (turn t c.before).before in
-    grown-length s.pre.1.0.1 (after_turn t c.before).0.known
+    grown_length s.pre.1.0.1 (after_turn t c.before).0.known
 
 patterns-returns-5 : (t : ℕ)
     → patterns-lts.Need-returns-5 (called t) (patterns-at t) patterns.Post patterns-Inv-loop patterns-μ-loop
@@ -628,7 +628,7 @@ patterns-returns-5 t c =
     let p = turn t c.before in
     let w = after_turn t c.before in
     let last = c.if6.false in
-    (tries-all (next t p.before) (start t p.before).pre.1.0.1 (p.loop.turn + 1) (omega arith) w.0, (w.0.stays, w.1.1))
+    (tries_all (next t p.before) (start t p.before).pre.1.0.1 (p.loop.turn + 1) (omega arith) w.0, (w.0.stays, w.1.1))
 
 pub +patterns-spec : {M : Type 1} → statement M
 +patterns-spec = close μ-patterns λ t. patterns-lts.spec (called t)

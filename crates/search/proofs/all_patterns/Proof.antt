@@ -7,8 +7,8 @@ use mathlib.Core.Bool.{false}
 use mathlib.Core.Logic.{inr}
 use native.Mathlib.Omega.{arith}
 use Rattle.found.specs.Found.{Holding}
-use Rattle.found.proofs.Found.{holding-none, grown-holding, grown-then, grown-weaken, grown-all}
-use Rattle.search.proofs.Counts.{received-short, under-start, begun-start, tabled_start}
+use Rattle.found.proofs.Found.{holding_none, grown_holding, grown_then, grown_weaken, grown_all}
+use Rattle.search.proofs.Counts.{received-short, under-start, begun_start, tabled_start}
 use Rattle.search.proofs.all_patterns.Statement.{statement}
 use Rattle.search.proofs.all_patterns.Tie as tie
 
@@ -25,7 +25,7 @@ nothing : (e : tie.After-early-anchor) → let a = (start e).args in
     Holding a.l a.numbers.now a.y.now a.cap a.list.now 0 false
 nothing e =
     let a = (start e).args in
-    holding-none a.l a.numbers.now a.y.now a.cap a.list.now (start e).requires.1.0
+    holding_none a.l a.numbers.now a.y.now a.cap a.list.now (start e).requires.1.0
 
 early-anchor-requires : tie.Need-early-anchor-requires
 early-anchor-requires c κs = (entry c.before).requires
@@ -75,8 +75,8 @@ patterns-requires c κs =
     let z = a.l.l1 - a.l.l1 in
     let k = e.early-anchor.ensures in
     let tabled = tabled_start s.pre.0 f.fill.ensures z (omega arith) in (
-      (s.pre.0, grown-holding (nothing e) k.0),
-      (omega arith, (begun-start s.pre.0 _ _ refl z (omega arith), ((f.fill.ensures, tabled), k.1))),
+      (s.pre.0, grown_holding (nothing e) k.0),
+      (omega arith, (begun_start s.pre.0 _ _ refl z (omega arith), ((f.fill.ensures, tabled), k.1))),
     )
 
 same_length : tie.Need-same-length
@@ -91,9 +91,9 @@ returns c =
     let f = filled p.before.before.before.before.before in
     let e = anchored f.before.before in
     let a = (start e).args in
-    let both = grown-then (nothing e) e.early-anchor.ensures.0 p.patterns.ensures.0 in
-    grown-all (start e).pre.1.0
-    (grown-weaken (λ x k u. inr (under-start a.l a.y.now _ _ x (a.l.l1 - a.l.l1) (omega arith))) both)
+    let both = grown_then (nothing e) e.early-anchor.ensures.0 p.patterns.ensures.0 in
+    grown_all (start e).pre.1.0
+    (grown_weaken (λ x k u. inr (under-start a.l a.y.now _ _ x (a.l.l1 - a.l.l1) (omega arith))) both)
 
 pub all-patterns-spec : {M : Type 1} → statement M
 all-patterns-spec =

@@ -3,20 +3,20 @@
 use borrow.Author.Rules.{rules}
 use mathlib.Core.Bool.{false}
 use Rattle.found.specs.Found.{Holding}
-use Rattle.found.proofs.Found.{holding-none, grown-nothing, grown-holding}
-use Rattle.anchor.proofs.Anchor.{anchored-none}
+use Rattle.found.proofs.Found.{holding_none, grown_nothing, grown_holding}
+use Rattle.anchor.proofs.Anchor.{anchored_none}
 use Rattle.search.proofs.early_anchor.Statement.{statement}
 use Rattle.search.proofs.early_anchor.Tie as tie
 
 -- nothing is held at the start
 nothing : (s : tie.Start) → let a = s.args in
     Holding a.l a.numbers.now a.y.now a.cap a.list.now 0 false
-nothing s = let a = s.args in holding-none a.l a.numbers.now a.y.now a.cap a.list.now s.requires.1.0
+nothing s = let a = s.args in holding_none a.l a.numbers.now a.y.now a.cap a.list.now s.requires.1.0
 
 returns : tie.Need-returns
 returns c =
     let s = c.before.before.before.before.before in
-    (grown-nothing (nothing s) (λ x k u. u), anchored-none s.args.desk.now s.requires.1.1)
+    (grown_nothing (nothing s) (λ x k u. u), anchored_none s.args.desk.now s.requires.1.1)
 
 -- where the function starts, seen from where the test does not hold
 abbrev start : tie.Else1 → tie.Start
@@ -29,7 +29,7 @@ set-anchor-requires : tie.Need-set-anchor-requires
 set-anchor-requires c κs =
     let g = c.before.before.before.before in
     let s = start g.before.before in
-    (s.pre.0, (grown-holding (nothing s) g.guess.ensures, anchored-none s.args.desk.now s.pre.1.1))
+    (s.pre.0, (grown_holding (nothing s) g.guess.ensures, anchored_none s.args.desk.now s.pre.1.1))
 
 same_length : tie.Need-same-length
 same_length c = search rules

@@ -8,30 +8,30 @@ use mathlib.Core.List.{List}
 use native.Mathlib.Omega.{arith}
 use lib.ListN.{length, get_or, take, drop, length-drop}
 use lib.Seq.{length-take-le, get_or-take, get_or-drop}
-use Rattle.bits.specs.Bits.{mostChunks, mostInLine}
+use Rattle.bits.specs.Bits.{most_chunks, most_in_line}
 use Rattle.bits.proofs.Laws.{zeros-at}
 use Rattle.rows.specs.Held.{Held}
 use Rattle.message.specs.declared.Layout.{Layout}
-use Rattle.message.proofs.Legal.{legal-bounds, sizes}
+use Rattle.message.proofs.Legal.{legal_bounds, sizes}
 use Rattle.found.specs.Found.{Given}
-use Rattle.found.proofs.Found.{grown-weaken}
-use Rattle.anchor.specs.Anchor.{isSet, Anchored}
+use Rattle.found.proofs.Found.{grown_weaken}
+use Rattle.anchor.specs.Anchor.{is_set, Anchored}
 use Rattle.anchor.proofs.Anchor.{set_long, near-known}
 use Rattle.tables.specs.Tables.{NearKnown}
-use Rattle.search.proofs.Leaves.{all-in-hand, starts-sound, starts-under}
+use Rattle.search.proofs.Leaves.{all_in_hand, starts-sound, starts-under}
 use Rattle.search.proofs.finish.Statement.{statement}
 use Rattle.search.proofs.finish.Tie as tie
 
 -- there is a count for each block
-few : (s : tie.Start) → s.args.l.l1 ≤ mostInLine
-few s = (sizes s.args.l (legal-bounds s.args.l s.requires.0.is-legal)).l1-high
+few : (s : tie.Start) → s.args.l.l1 ≤ most_in_line
+few s = (sizes s.args.l (legal_bounds s.args.l s.requires.0.is_legal)).l1_high
 
 -- a place for each chunk
-chunks : (s : tie.Start) → s.args.l.l1 * s.args.l.l2 ≤ mostChunks
-chunks s = (sizes s.args.l (legal-bounds s.args.l s.requires.0.is-legal)).chunks
+chunks : (s : tie.Start) → s.args.l.l1 * s.args.l.l2 ≤ most_chunks
+chunks s = (sizes s.args.l (legal_bounds s.args.l s.requires.0.is_legal)).chunks
 
 counted : (s : tie.Start) → s.args.l.l1 ≤ length s.args.pattern.counts
-counted s = let n : length s.args.pattern.counts ≡ mostInLine = search rules in omega (arith, few s)
+counted s = let n : length s.args.pattern.counts ≡ most_in_line = search rules in omega (arith, few s)
 
 -- where the function starts, seen from the call of `heavy_of`
 abbrev entry : tie.After-slice-known2 → tie.Start
@@ -42,14 +42,14 @@ abbrev start : tie.After-heavy-of → tie.Start
 start h = entry h.before
 
 -- the anchor's chunks on the desk, and that rows near them are known
-anchor-part : (desk : List ℕ) → isSet desk ≡ true → length (take mostChunks (drop 1 desk)) ≡ mostChunks
-anchor-part desk e = length-take-le mostChunks (drop 1 desk) (omega (arith, length-drop 1 desk, set_long desk e))
+anchor-part : (desk : List ℕ) → is_set desk ≡ true → length (take most_chunks (drop 1 desk)) ≡ most_chunks
+anchor-part desk e = length-take-le most_chunks (drop 1 desk) (omega (arith, length-drop 1 desk, set_long desk e))
 
-anchor-near : (l : Layout) (numbers y : List ℕ) (held : Held) (desk : List ℕ) → Given l numbers y → l.l1 * l.l2 ≤ mostChunks
-    → Anchored l numbers y held desk → isSet desk ≡ true → NearKnown l numbers y held (take mostChunks (drop 1 desk)) (l.r + 1)
+anchor-near : (l : Layout) (numbers y : List ℕ) (held : Held) (desk : List ℕ) → Given l numbers y → l.l1 * l.l2 ≤ most_chunks
+    → Anchored l numbers y held desk → is_set desk ≡ true → NearKnown l numbers y held (take most_chunks (drop 1 desk)) (l.r + 1)
 anchor-near l numbers y held desk given small a e x sent near =
-    near-known given (a e) (take mostChunks (drop 1 desk))
-    (λ c h. get_or-take mostChunks (drop 1 desk) c 0 (omega arith) ∙ get_or-drop 1 desk c 0) x sent (omega (arith, near))
+    near-known given (a e) (take most_chunks (drop 1 desk))
+    (λ c h. get_or-take most_chunks (drop 1 desk) c 0 (omega arith) ∙ get_or-drop 1 desk c 0) x sent (omega (arith, near))
 
 heavy-of-requires : tie.Need-heavy-of-requires
 heavy-of-requires c κs = let s = entry c in (few s, s.pre.1.1.0.0)
@@ -71,10 +71,10 @@ returns c =
     let h = r.before.before.before.before.before.before in
     let s = start h in
     let a = s.args in
-    let low = (legal-bounds a.l s.pre.0.is-legal).l2-low in
+    let low = (legal_bounds a.l s.pre.0.is_legal).l2_low in
     let f = h.heavy-of in
-    grown-weaken
-    (λ x k u. all-in-hand a.l a.y.now a.pattern.counts f.result.heavy f.result.left f.ensures low
+    grown_weaken
+    (λ x k u. all_in_hand a.l a.y.now a.pattern.counts f.result.heavy f.result.left f.ensures low
     r.before.before.before.if1.true _ x u)
     r.add_row.ensures
 
@@ -88,7 +88,7 @@ at-heavy c = c.before.before.before.before.before
 add-near : tie.Need-overflow-add-near
 add-near c =
     let s = start (at-heavy c.before.before) in
-    omega (arith, (legal-bounds s.args.l s.pre.0.is-legal).r-high)
+    omega (arith, (legal_bounds s.args.l s.pre.0.is_legal).r_high)
 
 add-behind : tie.Need-overflow-add-behind
 add-behind c = search rules
@@ -100,7 +100,7 @@ part-tables-start : tie.Need-slice-bounds-tables-start
 part-tables-start c = search rules
 
 -- the desk has an anchor
-is-anchored : (c : tie.Then2) → isSet (start (at-heavy c.before)).args.desk.now ≡ true
+is-anchored : (c : tie.Then2) → is_set (start (at-heavy c.before)).args.desk.now ≡ true
 is-anchored c = sym c.before.is_set.ensures ∙ c.if2.true
 
 part-tables-end : tie.Need-slice-bounds-tables-end
@@ -146,7 +146,7 @@ returns-2 c =
     let s = start h in
     let a = s.args in
     let f = h.heavy-of in
-    grown-weaken
+    grown_weaken
     (λ x k u. starts-under a.l a.pattern.counts f.result.heavy _ f.ensures refl (zeros-at 12) a.y.now
     (counted s) a.row.now x u)
     q.tables.ensures.0
@@ -183,7 +183,7 @@ returns-3 c =
     let s = start h in
     let a = s.args in
     let f = h.heavy-of in
-    grown-weaken
+    grown_weaken
     (λ x k u. starts-under a.l a.pattern.counts f.result.heavy _ f.ensures refl (zeros-at 12) a.y.now
     (counted s) a.row.now x u)
     q.tables2.ensures.0

@@ -6,25 +6,25 @@ use mathlib.Core.Path.{◌≡◌, refl}
 use mathlib.Core.Logic.{⊎_elim}
 use native.Mathlib.Omega.{arith}
 use lib.ListN.{length, take}
-use Rattle.bits.specs.Bits.{mostInLine}
+use Rattle.bits.specs.Bits.{most_in_line}
 use Rattle.bits.proofs.Laws.{zeros-at}
-use Rattle.consistent.specs.Greedy.{inAll}
+use Rattle.consistent.specs.Greedy.{in_all}
 use Rattle.search.specs.Patterns.{HeavyIn}
 use Rattle.anchor.proofs.Totals.{total-next, total-grows}
-use Rattle.search.proofs.HeavyBlocks.{heavy-none, heavy-light, heavy-more}
+use Rattle.search.proofs.HeavyBlocks.{heavy_none, heavy_light, heavy_more}
 use Rattle.search.proofs.heavy_of.Statement.{statement}
 use Rattle.search.proofs.heavy_of.Tie as tie
 
 abbrev invariant-loop : tie.invariant-loop
 invariant-loop l1 pattern hs₀ end₀ i₀ hs end i =
-    (i ≤ l1) × ((end ≡ inAll (take i pattern.counts)) × HeavyIn pattern.counts i hs.heavy hs.left)
+    (i ≤ l1) × ((end ≡ in_all (take i pattern.counts)) × HeavyIn pattern.counts i hs.heavy hs.left)
 
 abbrev decreases-loop : tie.decreases-loop
 decreases-loop l1 pattern hs₀ end₀ i₀ hs end i = l1 - i
 
 loop-holds : tie.Need-loop-init invariant-loop decreases-loop
-unfolding inAll
-loop-holds c = (search rules, (refl, heavy-none c.args.t2.counts _ _ refl refl (zeros-at 6)))
+unfolding in_all
+loop-holds c = (search rules, (refl, heavy_none c.args.t2.counts _ _ refl refl (zeros-at 6)))
 
 element-copy-out-a : tie.Need-element-copy-out-a invariant-loop decreases-loop
 element-copy-out-a c = search rules
@@ -34,11 +34,11 @@ wide-requires c κs = search rules
 
 -- the total up to the end of block i, and that it is small
 total : (c : tie.After-wide invariant-loop decreases-loop) → let p = c.before.before.before in let k = p.before.args.t2.counts in
-    (p.loop.end + c.wide.result ≡ inAll (take (p.loop.i + 1) k)) × (inAll (take (p.loop.i + 1) k) ≤ 12)
+    (p.loop.end + c.wide.result ≡ in_all (take (p.loop.i + 1) k)) × (in_all (take (p.loop.i + 1) k) ≤ 12)
 total c =
     let p = c.before.before.before in
     let a = p.before.args in
-    let n : length a.t2.counts ≡ mostInLine = search rules in
+    let n : length a.t2.counts ≡ most_in_line = search rules in
     let e = total-next a.t2.counts p.loop.i (omega arith) in
     let g = total-grows a.t2.counts (p.loop.i + 1) a.l1 (omega arith) in
     (omega (arith, c.wide.ensures, p.loop.invariant.1.0), omega arith)
@@ -50,7 +50,7 @@ with-block-requires : tie.Need-with-block-requires invariant-loop decreases-loop
 with-block-requires c κs =
     let p = c.before.before.before.before in
     let a = p.before.args in
-    let n : length a.t2.counts ≡ mostInLine = search rules in
+    let n : length a.t2.counts ≡ most_in_line = search rules in
     let e = total-next a.t2.counts p.loop.i (omega arith) in
     let z = total c.before in
     (omega (arith, p.loop.invariant.1.1.few), (omega arith, omega arith))
@@ -68,7 +68,7 @@ gathered c =
     let p = c.before.before.before.before in
     let hs = p.loop.hs in
     let k = p.before.args.t2.counts in
-    let n : length k ≡ mostInLine = search rules in
+    let n : length k ≡ most_in_line = search rules in
     let h : p.loop.i < length k = omega arith in
     let q = p.loop.invariant.1.1 in
     let e = total-next k p.loop.i h in
@@ -76,8 +76,8 @@ gathered c =
     ⊎_elim
     (λ w.
     let room : hs.heavy.n < 6 = omega (arith, q.few, w.0.taken) in
-    rw w.2 (heavy-more k p.loop.i hs.heavy hs.left q h _ _ _ w.1.ensures room z.0 w.0.taken))
-    (λ w. rw w.1 (heavy-light k p.loop.i hs.heavy hs.left q h w.0.left))
+    rw w.2 (heavy_more k p.loop.i hs.heavy hs.left q h _ _ _ w.1.ensures room z.0 w.0.taken))
+    (λ w. rw w.1 (heavy_light k p.loop.i hs.heavy hs.left q h w.0.left))
     c.if1.branch
 
 loop-again : tie.Need-loop-preserved invariant-loop decreases-loop

@@ -4,15 +4,15 @@ use borrow.Author.Rules.{rules}
 use mathlib.Core.Path.{◌∙◌}
 use native.Mathlib.Omega.{arith}
 use lib.ListN.{replicate}
-use Rattle.bits.specs.Bits.{mostChunks}
-use Rattle.message.proofs.Legal.{Sizes, legal-bounds, sizes}
-use Rattle.found.proofs.Found.{grown-nothing}
+use Rattle.bits.specs.Bits.{most_chunks}
+use Rattle.message.proofs.Legal.{Sizes, legal_bounds, sizes}
+use Rattle.found.proofs.Found.{grown_nothing}
 use Rattle.search.proofs.Leaves.{all-counts, copied}
 use Rattle.search.proofs.one_pattern.Statement.{statement}
 use Rattle.search.proofs.one_pattern.Tie as tie
 
 high : (s : tie.Start) → Sizes s.args.l
-high s = sizes s.args.l (legal-bounds s.args.l s.requires.0.is-legal)
+high s = sizes s.args.l (legal_bounds s.args.l s.requires.0.is_legal)
 
 -- where the function starts, seen from where the slices that it reads are known
 abbrev entry : tie.After-shared-slice-known6 → tie.Start
@@ -35,7 +35,7 @@ returns : tie.Need-returns
 returns c =
     let s = start c.before in
     let a = s.args in
-    grown-nothing s.pre.1.0
+    grown_nothing s.pre.1.0
     (λ x k u. c.if1.true (s.pre.1.1.0.1 ∙ all-counts s.pre.0 a.pattern.counts a.row.now x k u))
 
 slice-aggregate-copy-to : tie.Need-slice-aggregate-copy-to
@@ -72,7 +72,7 @@ returns-2 c =
     let s = start k.before.before.before in
     let a = s.args in
     let n = s.pre.1.1.0.0 in
-    let hand = copied a.row.now (replicate mostChunks 0) k.copy-to.new.1.0 (omega arith) k.copy-to.ensures in
+    let hand = copied a.row.now (replicate most_chunks 0) k.copy-to.new.1.0 (omega arith) k.copy-to.ensures in
     rw hand at c.before.before.before.finish.ensures
 
 pub one-pattern-spec : {M : Type 1} → statement M

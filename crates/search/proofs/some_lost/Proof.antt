@@ -2,12 +2,12 @@
 use borrow.Author.Rules.{rules}
 use native.Mathlib.Omega.{arith}
 use mathlib.Core.Path.{refl}
-use Rattle.message.proofs.Legal.{Sizes, legal-bounds, sizes}
+use Rattle.message.proofs.Legal.{Sizes, legal_bounds, sizes}
 use Rattle.search.proofs.some_lost.Statement.{statement}
 use Rattle.search.proofs.some_lost.Tie as tie
 
 size : (s : tie.Start) → Sizes s.args.l
-size s = sizes s.args.l (legal-bounds s.args.l s.requires.0.is-legal)
+size s = sizes s.args.l (legal_bounds s.args.l s.requires.0.is_legal)
 
 mul-lost : tie.Need-overflow-mul-lost
 mul-lost c = omega (arith, (size c.before.before.before.before).chunks)

@@ -1,6 +1,6 @@
 -- `sets::add_word` meets its contract. Assumes nothing.
 use borrow.Author.Rules.{rules}
-use Rattle.sets.proofs.Sets.{word-grows, word-put}
+use Rattle.sets.proofs.Sets.{word_grows, word_put}
 use Rattle.sets.proofs.add_word.Statement.{statement}
 use Rattle.sets.proofs.add_word.Tie as tie
 
@@ -23,7 +23,7 @@ returns : tie.Need-returns
 returns c =
     let a = c.before.args in
     let h = c.before.requires in
-    (word-grows a.set.now a.i a.w h, word-put a.set.now a.i a.w h)
+    (word_grows a.set.now a.i a.w h, word_put a.set.now a.i a.w h)
 
 pub add-word-spec : {M : Type 1} → statement M
 add-word-spec =

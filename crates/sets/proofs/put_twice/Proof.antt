@@ -1,6 +1,6 @@
 -- `sets::put_twice` meets its contract. Assumes nothing.
 use borrow.Author.Rules.{rules}
-use Rattle.sets.proofs.Sets.{second-in}
+use Rattle.sets.proofs.Sets.{second_in}
 use Rattle.sets.proofs.put_twice.Statement.{statement}
 use Rattle.sets.proofs.put_twice.Tie as tie
 
@@ -46,7 +46,7 @@ returns c =
       λ r x. three.0 r (two.0 r (one.0 r x)),
       λ b h x. (
         three.0 _ (two.0 _ (one.1 b h x)),
-        second-in a.m a.i a.v third.add-word3.new.0 (λ k g z. three.0 _ (two.1 k g z)) three.1 b h x,
+        second_in a.m a.i a.v third.add-word3.new.0 (λ k g z. three.0 _ (two.1 k g z)) three.1 b h x,
       ),
     )
 

@@ -7,7 +7,7 @@ use borrow.Author.Rules.{rules}
 use lib.ListN.{length}
 use mir.Syntax.{w64}
 use mir.Val.{Fits}
-use Rattle.states.proofs.Sums.{DownTo, down-none, down-more, down-all, down-room, down-apart, own}
+use Rattle.states.proofs.Sums.{DownTo, down_none, down_more, down_all, down_room, down_apart, own}
 use Rattle.states.proofs.add_block.Statement.{statement}
 use Rattle.states.proofs.add_block.Tie as tie
 
@@ -35,7 +35,7 @@ room : (c : tie.In-loop invariant-loop decreases-loop) → let p = c.before in l
 room c =
     let p = c.before in
     let s = p.before.before.before.before in
-    down-room s.args.len s.args.size (p.loop.d - 1) (length p.loop.sums)
+    down_room s.args.len s.args.size (p.loop.d - 1) (length p.loop.sums)
     (omega (arith, p.loop.invariant.0.1, s.requires.0.0)) (own-low c)
 
 wide-requires : tie.Need-wide-requires invariant-loop decreases-loop
@@ -48,7 +48,7 @@ loop-holds : tie.Need-loop-init invariant-loop decreases-loop
 loop-holds c =
     let a = c.before.before.before.args in
     let e : c.wide.result ≡ a.size = c.wide.ensures in
-    rw e ((omega arith, refl), down-none a.len a.size a.at a.values.now a.sums.now)
+    rw e ((omega arith, refl), down_none a.len a.size a.at a.values.now a.sums.now)
 
 sub-d : tie.Need-overflow-sub-d invariant-loop decreases-loop
 sub-d c = search rules
@@ -75,7 +75,7 @@ put-raised-requires c κs =
     let s = p.before.before.before.before in
     let a = s.args in
     let d : ℕ = p.loop.d - 1 in (
-      (room i, down-apart a.len d),
+      (room i, down_apart a.len d),
       λ k h.
           omega (
             arith,
@@ -95,7 +95,7 @@ loop-again c =
     let a = p.before.before.before.before.args in
     let e = f.put-raised.ensures in (
       (omega (arith, own-low i), e.0 ∙ p.loop.invariant.0.1),
-      down-more a.len a.size a.at a.values.now a.sums.now (p.loop.d - 1) p.loop.sums (above i)
+      down_more a.len a.size a.at a.values.now a.sums.now (p.loop.d - 1) p.loop.sums (above i)
           f.put-raised.new.0 e.1,
     )
 
@@ -108,7 +108,7 @@ returns c =
     let p = c.before.loop in
     let end : p.d ≡ 0 = omega (arith, c.loop-test.false) in (
       p.invariant.0.1,
-      down-all a.len a.size a.at a.values.now a.sums.now p.sums (rw end at p.invariant.1),
+      down_all a.len a.size a.at a.values.now a.sums.now p.sums (rw end at p.invariant.1),
     )
 
 pub add-block-spec : {M : Type 1} → statement M

@@ -7,7 +7,7 @@ use borrow.Author.Rules.{rules}
 use lib.ListN.{length, get_or, set, length-set}
 use lib.Seq.{get_or-set_same}
 use Rattle.states.specs.States.{stride, each}
-use Rattle.states.proofs.States.{stride-pos, stride_up}
+use Rattle.states.proofs.States.{stride_pos, stride_up}
 use Rattle.states.proofs.Sums.{Sums, sums_none, sums-more, sums-low}
 use Rattle.states.proofs.add_up.Statement.{statement}
 use Rattle.states.proofs.add_up.Tie as tie
@@ -23,7 +23,7 @@ decreases-loop values sums₀ shape s₀ sums s = shape.n - s
 some : (c : tie.Start invariant-loop decreases-loop) → 0 < length c.args.sums.now
 some c =
     let shape = c.args.t1 in
-    omega (arith, stride-pos (each shape.size) shape.n, c.requires.0.1.all, c.requires.1.0)
+    omega (arith, stride_pos (each shape.size) shape.n, c.requires.0.1.all, c.requires.1.0)
 
 -- the block come to has its stride, and there is room for it
 own : (c : tie.In-loop invariant-loop decreases-loop) → let shape = c.before.before.before.before.args.t1 in

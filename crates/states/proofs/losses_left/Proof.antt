@@ -10,7 +10,7 @@ use mir.Syntax.{w8}
 use mir.Val.{Fits}
 use Rattle.states.specs.States.{stride, each}
 use Rattle.states.proofs.Entries.{one_more}
-use Rattle.states.proofs.States.{digit, stride-pos}
+use Rattle.states.proofs.States.{digit, stride_pos}
 use Rattle.states.proofs.losses_left.Statement.{statement}
 use Rattle.states.proofs.losses_left.Tie as tie
 
@@ -36,7 +36,7 @@ div-left c =
     let a = c.before.before.before.args in
     let s = c.before.before.loop.s in
     let e = c.before.before.before.requires.1.counts s (omega arith) in
-    omega (arith, e, stride-pos (each a.t1.size) s)
+    omega (arith, e, stride_pos (each a.t1.size) s)
 
 element-copy-out-wide : tie.Need-element-copy-out-wide invariant-loop decreases-loop
 element-copy-out-wide c = search rules

@@ -13,7 +13,7 @@ use lib.Seq.{get_or-set_same, get_or-set_other}
 use mir.Syntax.{w8}
 use mir.Val.{Fits}
 use Rattle.states.specs.States.{stride, state, each}
-use Rattle.states.proofs.States.{state-but}
+use Rattle.states.proofs.States.{state_but}
 use Rattle.states.proofs.next_left.Statement.{statement}
 use Rattle.states.proofs.next_left.Tie as tie
 use Rattle.states.proofs.next_left.Reads as reads
@@ -25,7 +25,7 @@ module _ (size xs : List ℕ) (n s v : ℕ) (h : s < n) (long : s < length xs) w
       ≡ state (each size) (each xs) n + v * stride (each size) s
   set-number =
       rw (get_or-set_same xs s v 0 long) at
-      (state-but (each size) (each (set xs s v)) (each xs) n s h (λ t k d. get_or-set_other xs s t v 0 d))
+      (state_but (each size) (each (set xs s v)) (each xs) n s h (λ t k d. get_or-set_other xs s t v 0 d))
 
   set-within : ((t : ℕ) → t < n → get_or xs t 0 ≤ each size t) → v ≤ each size s
       → (t : ℕ) → t < n → get_or (set xs s v) t 0 ≤ each size t

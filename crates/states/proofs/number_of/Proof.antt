@@ -10,7 +10,7 @@ use lib.ListN.{get_or}
 use mir.Syntax.{w8}
 use mir.Val.{Fits}
 use Rattle.states.specs.States.{state, stride, each}
-use Rattle.states.proofs.States.{byte-strides}
+use Rattle.states.proofs.States.{byte_strides}
 use Rattle.states.proofs.number_of.Statement.{statement}
 use Rattle.states.proofs.number_of.Tie as tie
 
@@ -34,7 +34,7 @@ term-low c =
     let g = p.before.requires.1 in
     let b : Fits w8 (get_or a.t2 p.loop.s 0) = search rules in
     let byte : (t : ℕ) → t < p.loop.s → Fits w8 (get_or a.t1.size t 0) = λ t h. search rules in
-    let few = byte-strides a.t1.size p.loop.s (omega arith) (λ t h. omega (arith, byte t h)) in
+    let few = byte_strides a.t1.size p.loop.s (omega arith) (λ t h. omega (arith, byte t h)) in
     mul-le-mul {n₁ = c.before.wide.result} {m₁ = get_or a.t1.stride p.loop.s 0} {n₂ = 255} {m₂ = most}
     (omega (arith, c.before.wide.ensures))
     (omega (arith, g.counts p.loop.s (omega arith), few))

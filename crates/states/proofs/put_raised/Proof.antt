@@ -7,7 +7,7 @@ use native.Mathlib.Omega.{arith}
 use borrow.Author.Rules.{rules}
 use lib.ListN.{length, length-set}
 use Rattle.states.specs.States.{Raised}
-use Rattle.states.proofs.Sums.{raised-none, raised-more, unraised}
+use Rattle.states.proofs.Sums.{raised_none, raised_more, unraised}
 use Rattle.states.proofs.put_raised.Statement.{statement}
 use Rattle.states.proofs.put_raised.Tie as tie
 
@@ -24,7 +24,7 @@ apart c =
     ⊎_elim (λ e. inl e) (λ h. inr (omega (arith, h, c.loop-test.true))) c.before.before.requires.0.1
 
 loop-holds : tie.Need-loop-init invariant-loop decreases-loop
-loop-holds c = ((omega arith, refl), raised-none c.args.to c.args.v c.args.sums.now)
+loop-holds c = ((omega arith, refl), raised_none c.args.to c.args.v c.args.sums.now)
 
 mul-sums : tie.Need-overflow-mul-sums invariant-loop decreases-loop
 mul-sums c = search rules
@@ -62,7 +62,7 @@ loop-again c =
     let a = p.before.args in
     let inv = p.loop.invariant in (
       (omega arith, simp length-set inv.0.1),
-      raised-more a.to a.v a.sums.now p.loop.sums p.loop.p inv.1 (apart i)
+      raised_more a.to a.v a.sums.now p.loop.sums p.loop.p inv.1 (apart i)
           (omega (arith, i.loop-test.true, inv.0.1, p.before.requires.0.0)),
     )
 

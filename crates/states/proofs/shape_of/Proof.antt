@@ -12,7 +12,7 @@ use mir.Syntax.{w8}
 use mir.Val.{Fits}
 use Rattle.states.specs.States.{stride, each}
 use Rattle.states.proofs.Entries.{one_more}
-use Rattle.states.proofs.States.{byte-strides}
+use Rattle.states.proofs.States.{byte_strides}
 use Rattle.states.proofs.shape_of.Statement.{statement}
 use Rattle.states.proofs.shape_of.Tie as tie
 
@@ -54,7 +54,7 @@ mul-states c =
     let b : Fits w8 (get_or a.t2 p.s 0) = search rules in
     let w : c.wide.result + 1 ≤ 256 = omega (arith, c.wide.ensures) in
     let m = mul-le-mul {n₁ = p.states} {m₁ = c.wide.result + 1} {n₂ = 281474976710656} {m₂ = 256}
-    (omega (arith, p.invariant.1.0, byte-strides a.t2 p.s (omega arith) bytes)) w in
+    (omega (arith, p.invariant.1.0, byte_strides a.t2 p.s (omega arith) bytes)) w in
     record { fits = omega (arith, m) }
 
 add-s : tie.Need-overflow-add-s invariant-loop decreases-loop

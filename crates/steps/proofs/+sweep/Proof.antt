@@ -9,12 +9,12 @@ use borrow.Author.Tests.{not-false}
 use borrow.Fn.Kinds.{In}
 use borrow.Fn.PlainCycle.{Measures, is, falls, and}
 use lib.ListN.{get_or, length}
-use Rattle.bits.proofs.Laws.{lt-or-ge}
+use Rattle.bits.proofs.Laws.{lt_or_ge}
 use Rattle.states.specs.States.{stride, each}
 use Rattle.choices.specs.Choices.{Small}
 use Rattle.steps.specs.Steps.{Raises, Picks, Stands, Gains}
-use Rattle.steps.proofs.Sweeping.{raises-same, raises-then, ground-stays, stands-low, stands-inside, stands-with}
-use Rattle.steps.proofs.Sweeping.{gains-none, gains-more, gains-end, gains-pick}
+use Rattle.steps.proofs.Sweeping.{raises_same, raises_then, ground_stays, stands_low, stands_inside, stands_with}
+use Rattle.steps.proofs.Sweeping.{gains-none, gains-more, gains-end, gains_pick}
 use Rattle.steps.proofs.sweep.Reads as sweep
 use Rattle.steps.proofs.sweep.Kinds as sweep-kinds
 use Rattle.steps.proofs.+sweep.Lts-sweep as sweep-lts
@@ -117,7 +117,7 @@ stands : (t : ℕ) (c : With-at t) → let a = (begin t c.before).args in
 stands t c =
     let k = c.before in
     let s = begin t k in
-    stands-with s.pre.1.0 (s.args.s - 1) k.before.loop.t k.before.loop.invariant.0.1 (below_next t k)
+    stands_with s.pre.1.0 (s.args.s - 1) k.before.loop.t k.before.loop.invariant.0.1 (below_next t k)
     (upper t (left t k)) c.with-choice.ensures
 
 -- what a turn does for the picks of its choice: nothing is to be done where no state is marked, with no block left the mark
@@ -134,14 +134,14 @@ turned t c =
     let s = begin t k in
     let a = s.args in
     let l = k.before.loop in
-    let g = ground-stays s.pre.1.0 l.fresh l.invariant.0.0.long in
+    let g = ground_stays s.pre.1.0 l.fresh l.invariant.0.0.long in
     ⊎_elim
     (λ u. rw u.6 (u.3.ensures.0, λ pick p. gains-end pick (omega (arith, u.1.taken)) u.3.ensures.1))
     (⊎_elim (λ u. rw u.6 (u.3.ensures.0, λ pick p. u.3.ensures.1 pick p))
     (λ u.
     let same = rw (one-is t (left t k)) at (c.before.none-marked.ensures (not-false _ u.0.left)) in
     rw u.1
-    (raises-same _, λ pick p. gains-none g a.there (a.s - 1) w.with-choice.result pick (stands t w) same p)))
+    (raises_same _, λ pick p. gains-none g a.there (a.s - 1) w.with-choice.result pick (stands t w) same p)))
     c.if2.branch
 
 sweep-raise-one-requires : (t : ℕ)
@@ -150,10 +150,10 @@ sweep-raise-one-requires t c κs =
     let s = c.before.before.before.before.before.before in
     let g = s.requires.1.0 in
     let k = s.requires.1.1 in
-    let q = stands-inside g k in (
+    let q = stands_inside g k in (
       (g.below, g.high),
       (
-        (stands-low g k).least-low,
+        (stands_low g k).least-low,
         (omega (arith, q, g.counted.marked), omega (arith, q, g.long-fresh)),
       ),
     )
@@ -205,7 +205,7 @@ sweep-loop-holds : (t : ℕ)
     → sweep-lts.Need-loop-init (called t) (sweep-at t) sweep.Post sweep-Inv-loop sweep-μ-loop
 sweep-loop-holds t c =
     let k = c.before.before.before in (
-      (raises-same _, omega arith),
+      (raises_same _, omega arith),
       λ pick p less. absurd (omega (arith, less, (p ((start t k).args.s - 1) (omega (arith, k.if1.false))).0)),
     )
 
@@ -214,7 +214,7 @@ sweep-with-choice-requires : (t : ℕ)
 sweep-with-choice-requires t c κs =
     let s = begin t c in
     let l = listed t c in
-    (l.0, (stands-low s.pre.1.0 s.pre.1.1, l.1.other-small))
+    (l.0, (stands_low s.pre.1.0 s.pre.1.1, l.1.other-small))
 
 sweep-add-none-marked : (t : ℕ)
     → sweep-lts.Need-overflow-add-none-marked (called t) (sweep-at t) sweep.Post sweep-Inv-loop sweep-μ-loop
@@ -236,10 +236,10 @@ sweep-raise-one-requires-2 t c κs =
     let w = c.before.before.before.before in
     let k = w.before in
     let g = (begin t k).requires.1.0 in
-    let q = stands-inside g (stands t w) in (
+    let q = stands_inside g (stands t w) in (
       (g.below, g.high),
       (
-        (stands-low g (stands t w)).least-low,
+        (stands_low g (stands t w)).least-low,
         (omega (arith, q, g.counted.marked), omega (arith, q, g.long-fresh, k.before.loop.invariant.0.0.long)),
       ),
     )
@@ -252,7 +252,7 @@ sweep-sweep-requires t c κs =
     let s = begin t k in
     let l = k.before.loop in (
       omega (arith, s.pre.0, (left t k).if1.false),
-      (ground-stays s.pre.1.0 l.fresh l.invariant.0.0.long, stands t w),
+      (ground_stays s.pre.1.0 l.fresh l.invariant.0.0.long, stands t w),
     )
 
 sweep-add-t : (t : ℕ)
@@ -276,7 +276,7 @@ sweep-loop-again t c =
     let a = (begin t k).args in
     let l = k.before.loop in
     let x = turned t c in (
-      (raises-then l.invariant.0.0 x.0, omega (arith, l.invariant.0.1)),
+      (raises_then l.invariant.0.0 x.0, omega (arith, l.invariant.0.1)),
       λ pick p less.
           ⊎_elim (λ (u : pick (a.s - 1) < l.t). gains-more x.0 (l.invariant.1 pick p u))
           (λ (u : l.t ≤ pick (a.s - 1)).
@@ -284,8 +284,8 @@ sweep-loop-again t c =
           let few : Picks a.from.now pick (a.s - 1) = λ d h. p d (omega (arith, h)) in
           subst (λ (v : ℕ). Gains a.choices.now a.modulus a.need a.there a.marks.now a.at v a.stand
           c.if2.fresh pick) (sym (up t (left t k)))
-          (gains-pick (a.s - 1) l.t pick is c.before.before.with-choice.ensures (x.1 pick few)))
-          (lt-or-ge (pick (a.s - 1)) l.t),
+          (gains_pick (a.s - 1) l.t pick is c.before.before.with-choice.ensures (x.1 pick few)))
+          (lt_or_ge (pick (a.s - 1)) l.t),
     )
 
 sweep-same-length-2 : (t : ℕ)

@@ -6,7 +6,7 @@ use mathlib.Core.Path.{◌≡◌, refl, ◌∙◌}
 use native.Mathlib.Omega.{arith}
 use lib.ListN.{length, get_or, set, length-set}
 use lib.Seq.{get_or-set_same}
-use Rattle.steps.specs.Steps.{Counts, markedBelow}
+use Rattle.steps.specs.Steps.{Counts, marked_below}
 use Rattle.steps.proofs.Sweeping.{marked-most, counts-next}
 use Rattle.steps.proofs.count_marked.Statement.{statement}
 use Rattle.steps.proofs.count_marked.Tie as tie
@@ -22,7 +22,7 @@ slice-write-some : tie.Need-slice-write-some invariant-loop decreases-loop
 slice-write-some c = omega (arith, c.before.before.requires.1.0)
 
 loop-holds : tie.Need-loop-init invariant-loop decreases-loop
-unfolding markedBelow
+unfolding marked_below
 loop-holds c =
     let s = c.before.before in
     let some = s.args.some.now in
@@ -50,7 +50,7 @@ one-if-requires : tie.Need-one-if-requires invariant-loop decreases-loop
 one-if-requires c κs = search rules
 
 add-some : tie.Need-overflow-add-some invariant-loop decreases-loop
-unfolding markedBelow
+unfolding marked_below
 add-some c =
     let t = c.before.before.before in
     let s = t.before.before.before.before in

@@ -7,10 +7,10 @@ use native.Mathlib.Nat.{mul-le-mul_right}
 use native.Mathlib.Omega.{arith}
 use lib.ListN.{get_or}
 use Rattle.states.specs.States.{state, stride, each}
-use Rattle.column.proofs.Rows.{StringLow, string-low, known-low, crosses-brings}
+use Rattle.column.proofs.Rows.{StringLow, string_low, known-low, crosses-brings}
 use Rattle.choices.specs.Choices.{Seeable, Offers}
-use Rattle.steps.specs.Steps.{broughtIn}
-use Rattle.steps.proofs.Sweeping.{its, its-picks, its-above}
+use Rattle.steps.specs.Steps.{brought_in}
+use Rattle.steps.proofs.Sweeping.{its, its_picks, its_above}
 use Rattle.steps.proofs.raise.Statement.{statement}
 use Rattle.steps.proofs.raise.Tie as tie
 
@@ -23,7 +23,7 @@ start c = half c.before.before.before.before.before
 
 -- the sum of its chunk-string is small
 low : (s : tie.Start) → StringLow s.args.l s.args.numbers.now s.args.j
-low s = string-low s.requires.0.0 s.args.j s.requires.0.1.1.0
+low s = string_low s.requires.0.0 s.args.j s.requires.0.1.1.0
 
 mul-modulus : tie.Need-overflow-mul-modulus
 mul-modulus c = record { fits = omega (arith, (low (start c)).modulus) }
@@ -122,7 +122,7 @@ sweep-requires c κs =
             let top = mul-le-mul_right (stride (each a.shape.size) b) (f.within b h) in (
               omega (arith, last, own.0, e.1.0, e.0),
               record {
-                adds-small = omega (arith, small.adds-small, top);
+                adds_small = omega (arith, small.adds_small, top);
                 least-small = small.least-small;
                 most-small = small.most-small;
                 other-small = small.other-small;
@@ -158,14 +158,14 @@ returns c =
           let known = known-low a.l a.heavy row a.known.now a.j light j in
           let brings = crosses-brings x p.0.0 j a.known.now light a.heavy.n a.heavy.block refl refl in
           let is =
-          k.before.before.missing.ensures.1 (broughtIn a.l a.heavy vs a.j a.heavy.n) known brings in
+          k.before.before.missing.ensures.1 (brought_in a.l a.heavy vs a.j a.heavy.n) known brings in
           let offers : (b : ℕ) → b < a.heavy.n
           → Offers a.l a.heavy a.z.now vs a.j b _ (next b * stride size b) (get_or from b 0)
           (get_or from (b + 1) 0) =
           λ b h. (e.1.1 b h).1.offers a.numbers.now row vs (each a.left) next refl x (x.falls b h) in
-          let gains = w.sweep.ensures.1 (its from size next offers) (its-picks from size next offers) in
+          let gains = w.sweep.ensures.1 (its from size next offers) (its_picks from size next offers) in
           let same = ap (state size next) f.blocks in
-          rw same (its-above from size next offers gains w.before.before.start.ensures is (rw same at m)),
+          rw same (its_above from size next offers gains w.before.before.start.ensures is (rw same at m)),
     )
 
 pub raise-spec : {M : Type 1} → statement M

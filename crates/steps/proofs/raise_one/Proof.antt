@@ -4,7 +4,7 @@ use mathlib.Core.Path.{sym, ◌∙◌}
 use mathlib.Core.Bool.{false≢true}
 use native.Mathlib.Omega.{arith}
 use lib.Seq.{get_or-set_same}
-use Rattle.steps.proofs.Sweeping.{above_more, raises-same, raises-set}
+use Rattle.steps.proofs.Sweeping.{above_more, raises_same, raises_set}
 use Rattle.steps.proofs.raise_one.Statement.{statement}
 use Rattle.steps.proofs.raise_one.Tie as tie
 
@@ -19,7 +19,7 @@ shared-slice-read-if1 : tie.Need-shared-slice-read-if1
 shared-slice-read-if1 c = search rules
 
 returns : tie.Need-returns
-returns c = (raises-same _, λ n low high is m. absurd (omega (arith, c.if1.true, m)))
+returns c = (raises_same _, λ n low high is m. absurd (omega (arith, c.if1.true, m)))
 
 above-requires : tie.Need-above-requires
 above-requires c κs = search rules
@@ -30,7 +30,7 @@ slice-read-if2 c = search rules
 returns-2 : tie.Need-returns-2
 returns-2 c =
     let w = c.before.before in
-    (raises-same _, λ n low high is m. above_more _ _ _ _ (omega (arith, c.if2.true)) w.above.ensures)
+    (raises_same _, λ n low high is m. above_more _ _ _ _ (omega (arith, c.if2.true)) w.above.ensures)
 
 reaches-requires : tie.Need-reaches-requires
 reaches-requires c κs = search rules
@@ -48,13 +48,13 @@ returns-3 c =
     let s = start w in
     let a = s.args in
     let h = s.pre.1.1.1 in (
-      raises-set a.fresh.now a.stand.q w.above.result h (omega (arith, e.if2.false)),
+      raises_set a.fresh.now a.stand.q w.above.result h (omega (arith, e.if2.false)),
       λ n low high is m. rw (get_or-set_same a.fresh.now a.stand.q w.above.result 0 h) w.above.ensures,
     )
 
 returns-4 : tie.Need-returns-4
 returns-4 c = (
-  raises-same _,
+  raises_same _,
   λ n low high is m. absurd (false≢true (sym c.if3.false ∙ c.before.reaches.ensures n low high is)),
 )
 

@@ -75,7 +75,7 @@ add-t11-2 : tie.Need-overflow-add-t11-2
 add-t11-2 c =
     let k = c.before.before in
     let s = start k in
-    record { fits = omega (arith, s.pre.1.0.q-low, (first k).shared-slice-known.given (4 * s.args.t)) }
+    record { fits = omega (arith, s.pre.1.0.q_low, (first k).shared-slice-known.given (4 * s.args.t)) }
 
 add-t18 : tie.Need-overflow-add-t18
 add-t18 c = search rules

@@ -11,12 +11,12 @@ use Rattle.contents.specs.Contents.{Among}
 use Rattle.weigh.specs.Weigh.{brought}
 use Rattle.column.specs.declared.Heavy.{Heavy}
 use Rattle.message.specs.declared.Layout.{Layout}
-use Rattle.message.proofs.Legal.{legal-bounds, sizes}
+use Rattle.message.proofs.Legal.{legal_bounds, sizes}
 use Rattle.states.specs.States.{each}
 use Rattle.residues.specs.Residues.{Has}
 use Rattle.column.specs.Column.{Light, Crosses, value_at, Placed}
 use Rattle.column.proofs.Rows.{known-low, crosses-readable, crosses-brings}
-use Rattle.sums.specs.Sums.{blockModulus, rest, Holds}
+use Rattle.sums.specs.Sums.{block_modulus, rest, Holds}
 use Rattle.sums.proofs.Listed.{put_next}
 use Rattle.sums.proofs.Rest.{rest-next}
 use Rattle.sums.proofs.Brought.{crosses-listed}
@@ -35,8 +35,8 @@ abbrev invariant-loop : tie.invariant-loop
 invariant-loop l y numbers heavy known j sets part n list from want r₀ s₀ r s =
     ((s ≤ n) × (length r ≡ 6))
     × ((vs : List ℕ) → Among-all l heavy list from j part want vs → (t : ℕ) → t < s
-    → Has (blockModulus l) (get_or sets t 0) (rest l heavy vs j t)
-    → Has (blockModulus l) (get_or r t 0) (rest l heavy vs (j + 1) t))
+    → Has (block_modulus l) (get_or sets t 0) (rest l heavy vs j t)
+    → Has (block_modulus l) (get_or r t 0) (rest l heavy vs (j + 1) t))
 
 abbrev decreases-loop : tie.decreases-loop
 decreases-loop l y numbers heavy known j sets part n list from want r₀ s₀ r s = n - s
@@ -60,7 +60,7 @@ is-short-requires c κs = search rules
 
 returns : tie.Need-returns invariant-loop decreases-loop
 returns c row vs light x holds short s h =
-    absurd (false≢true (sym (not-true _ c.if1.true) ∙ c.before.is-short.ensures.1 short))
+    absurd (false≢true (sym (not-true _ c.if1.true) ∙ c.before.is_short.ensures.1 short))
 
 mul-part : tie.Need-overflow-mul-part invariant-loop decreases-loop
 mul-part c = search rules
@@ -97,7 +97,7 @@ slice-aggregate-list-chunks c = search rules
 list-chunks-requires : tie.Need-list-chunks-requires invariant-loop decreases-loop
 list-chunks-requires c κs =
     let s = start c in
-    ((legal-bounds s.args.l s.pre.0.allowed).nc-high, (omega (arith, s.pre.0.few, (placed c).count), omega arith))
+    ((legal_bounds s.args.l s.pre.0.allowed).nc_high, (omega (arith, s.pre.0.few, (placed c).count), omega arith))
 
 add-want : tie.Need-overflow-add-want invariant-loop decreases-loop
 add-want c = search rules
@@ -141,7 +141,7 @@ set-after-requires c κs =
     let o = f.before in
     let s = start o in
     let fit = s.pre.0 in
-    let short = (found o).before.before.before.before.is-short.ensures.0
+    let short = (found o).before.before.before.before.is_short.ensures.0
     (not-false _ (found o).before.before.before.if1.left) in
     let listing = f.list-chunks.ensures in
     let count = (placed o).count in
@@ -178,17 +178,17 @@ loop-again c =
     let a = s.args in (
       (omega (arith, i.loop-test.true), length-set v.r v.s _ ∙ v.invariant.0.1),
       λ vs all t h has.
-          put_next v.r v.s _ t (λ (w : ℕ). Has (blockModulus a.l) w (rest a.l a.heavy vs (a.j + 1) t))
+          put_next v.r v.s _ t (λ (w : ℕ). Has (block_modulus a.l) w (rest a.l a.heavy vs (a.j + 1) t))
           (omega (arith, inside i, v.invariant.0.1)) h (λ g. v.invariant.1 vs all t g has)
           (λ e.
           let own = rest-next a.l a.heavy vs v.s a.j s.pre.1.0 in
           let here =
-          subst (λ (w : ℕ). Has (blockModulus a.l) (get_or a.t9 w 0) (rest a.l a.heavy vs a.j w)) e has in
-          subst (λ (w : ℕ). Has (blockModulus a.l) c.set_after.result (rest a.l a.heavy vs (a.j + 1) w))
+          subst (λ (w : ℕ). Has (block_modulus a.l) (get_or a.t9 w 0) (rest a.l a.heavy vs a.j w)) e has in
+          subst (λ (w : ℕ). Has (block_modulus a.l) c.set_after.result (rest a.l a.heavy vs (a.j + 1) w))
           (sym e)
           (c.set_after.ensures (value_at a.l a.heavy vs a.j) (rest a.l a.heavy vs (a.j + 1) v.s)
           all.0 all.1.0 all.1.1
-          (subst (λ (w : ℕ). Has (blockModulus a.l) (get_or a.t9 v.s 0) w) own here))),
+          (subst (λ (w : ℕ). Has (block_modulus a.l) (get_or a.t9 v.s 0) w) own here))),
     )
 
 returns-4 : tie.Need-returns-4 invariant-loop decreases-loop

@@ -7,10 +7,10 @@ use mir.Val.{Fits}
 use mir.Syntax.{w8}
 use borrow.Author.Tests.{not-true, not-false}
 use lib.ListN.{get_or}
-use Rattle.bits.specs.Bits.{mostInLine}
-use Rattle.message.proofs.Legal.{legal-bounds, sizes}
+use Rattle.bits.specs.Bits.{most_in_line}
+use Rattle.message.proofs.Legal.{legal_bounds, sizes}
 use Rattle.residues.specs.Residues.{Has}
-use Rattle.sums.specs.Sums.{blockModulus, rest, rest_at}
+use Rattle.sums.specs.Sums.{block_modulus, rest, rest_at}
 use borrow.Author.Rules.{rules}
 use Rattle.sums.proofs.all_meet.Statement.{statement}
 use Rattle.sums.proofs.all_meet.Tie as tie
@@ -35,10 +35,10 @@ abbrev start : tie.At-loop invariant-loop decreases-loop → tie.Start invariant
 start c = c.before.before.before.before
 
 -- the column and the number of blocks are small
-low : (c : tie.At-loop invariant-loop decreases-loop) → (start c).args.c ≤ mostInLine
+low : (c : tie.At-loop invariant-loop decreases-loop) → (start c).args.c ≤ most_in_line
 low c =
     let s = start c in
-    omega (arith, s.pre.1.1, (sizes s.args.l (legal-bounds s.args.l s.pre.0)).l2-high)
+    omega (arith, s.pre.1.1, (sizes s.args.l (legal_bounds s.args.l s.pre.0)).l2_high)
 
 few : (c : tie.At-loop invariant-loop decreases-loop) → (start c).args.heavy.n ≤ 6
 few c = (start c).requires.1.0
@@ -92,7 +92,7 @@ returns-3 c vs own a b e =
     let p = i.before in
     let s = start p in
     let h : p.loop.s < s.args.heavy.n = i.loop-test.taken in
-    let short = p.before.before.is-short.ensures.0 (not-false _ p.before.if1.left) in
+    let short = p.before.before.is_short.ensures.0 (not-false _ p.before.if1.left) in
     let n : ℕ = rest s.args.l s.args.heavy vs s.args.c p.loop.s in
     let w = c.before.before.before.before in
     let same : rest_at s.args.c p.loop.s (own s.args.c p.loop.s)
@@ -102,8 +102,8 @@ returns-3 c vs own a b e =
     absurd
     (false≢true
     (sym (not-true _ c.if3.true)
-    ∙ c.before.meet.ensures (blockModulus s.args.l) n (a short p.loop.s h)
-    (subst (λ (v : ℕ). Has (blockModulus s.args.l) (get_or s.args.rests.now v 0) n) same
+    ∙ c.before.meet.ensures (block_modulus s.args.l) n (a short p.loop.s h)
+    (subst (λ (v : ℕ). Has (block_modulus s.args.l) (get_or s.args.rests.now v 0) n) same
     (b short s.args.c p.loop.s (omega arith) s.pre.1.1 h))))
 
 add-s : tie.Need-overflow-add-s invariant-loop decreases-loop

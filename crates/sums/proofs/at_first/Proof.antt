@@ -8,9 +8,9 @@ use native.Mathlib.Omega.{arith}
 use mir.Val.{Fits}
 use mir.Syntax.{w8}
 use lib.ListN.{length, get_or, length-set}
-use Rattle.bits.proofs.Laws.{lt-or-ge}
+use Rattle.bits.proofs.Laws.{lt_or_ge}
 use Rattle.residues.specs.Residues.{Has}
-use Rattle.sums.specs.Sums.{blockModulus, rest}
+use Rattle.sums.specs.Sums.{block_modulus, rest}
 use Rattle.sums.proofs.Listed.{put_next}
 use Rattle.sums.proofs.Rest.{rest-whole}
 use borrow.Author.Rules.{rules}
@@ -96,7 +96,7 @@ loop-again c =
           let e : t ≡ p.loop.s = omega arith in
           let same = ap (λ (v : ℕ). get_or a.numbers.now (get_or a.t3.block v 0) 0) e in
           absurd (omega (arith, w.0.left, own, same, low)))
-          (lt-or-ge t p.loop.s)))
+          (lt_or_ge t p.loop.s)))
           c.if1.branch,
     )
 
@@ -105,7 +105,7 @@ returns c vs sums short s h =
     let a = c.before.before.before.args in
     let whole = rest-whole a.l a.t3 vs s ∙ sums s h in
     c.before.loop.invariant.1 s (omega (arith, c.loop-test.false, c.before.loop.invariant.0.0))
-    (omega (arith, whole, mod-lt (rest a.l a.t3 vs 0 s) {m = blockModulus a.l} (omega arith), short.blocks))
+    (omega (arith, whole, mod-lt (rest a.l a.t3 vs 0 s) {m = block_modulus a.l} (omega arith), short.blocks))
     _ (rest a.l a.t3 vs 0 s) whole
 
 pub at-first-spec : {M : Type 1} → statement M

@@ -4,13 +4,13 @@ use mathlib.Core.Bool.{false≢true}
 use native.Mathlib.Nat.{mul_comm}
 use native.Mathlib.Omega.{arith}
 use borrow.Author.Tests.{leb-true, le-leb}
-use Rattle.message.proofs.Legal.{Sizes, legal-bounds, sizes}
+use Rattle.message.proofs.Legal.{Sizes, legal_bounds, sizes}
 use Rattle.sums.specs.Sums.{Short}
 use Rattle.sums.proofs.is_short.Statement.{statement}
 use Rattle.sums.proofs.is_short.Tie as tie
 
 high : (s : tie.Start) → Sizes s.args.l
-high s = sizes s.args.l (legal-bounds s.args.l s.requires)
+high s = sizes s.args.l (legal_bounds s.args.l s.requires)
 
 mul-if1 : tie.Need-overflow-mul-if1
 mul-if1 c = omega (arith, (high c.before).block)

@@ -9,7 +9,7 @@ use native.Mathlib.Omega.{arith}
 use lib.ListN.{length, get_or, set, drop, length-set}
 use lib.Seq.{get_or-set_same, get_or-set_other}
 use Rattle.bits.specs.Bits.{digits}
-use Rattle.bits.proofs.Laws.{lt-or-ge}
+use Rattle.bits.proofs.Laws.{lt_or_ge}
 use Rattle.consistent.specs.Greedy.{losses}
 use Rattle.contents.specs.Contents.{Among}
 use Rattle.weigh.specs.declared.Chunks.{Chunks}
@@ -37,7 +37,7 @@ module _ (nc : ℕ) (y : List ℕ) (chunks : Chunks) (list from : List ℕ) (s :
         order = λ i h. ⊎_elim
             (λ (g : i < s + 1). omega (arith, kept i (omega arith), last, so_far.order i (omega arith), low))
             (λ (g : s + 1 ≤ i). let e : i ≡ s + 1 = omega arith in rw e (omega arith))
-            (lt-or-ge i (s + 1));
+            (lt_or_ge i (s + 1));
         few = omega (arith, last, so_far.few, high);
         all = λ i w h place small lost. ⊎_elim
             (λ (g : i < s).
@@ -53,7 +53,7 @@ module _ (nc : ℕ) (y : List ℕ) (chunks : Chunks) (list from : List ℕ) (s :
             (λ (g : s ≤ i).
             let e : i ≡ s = omega arith in
             rw (e, kept s (omega arith), last) (new w (rw e at place) small (rw e at lost)))
-            (lt-or-ge i s);
+            (lt_or_ge i s);
       }
 
 abbrev invariant-loop : tie.invariant-loop

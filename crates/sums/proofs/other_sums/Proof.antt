@@ -14,44 +14,44 @@ use lib.Dec.{eqb}
 use lib.ListN.{get_or}
 use Rattle.bits.specs.Bits.{digits}
 use Rattle.vt.specs.Sum.{total}
-use Rattle.message.proofs.Legal.{legal-bounds}
+use Rattle.message.proofs.Legal.{legal_bounds}
 use Rattle.contents.specs.Contents.{Among}
 use Rattle.residues.specs.Residues.{Has}
 use Rattle.states.specs.States.{firsts}
-use Rattle.sums.specs.Sums.{othersBring}
+use Rattle.sums.specs.Sums.{others_bring}
 use Rattle.sums.proofs.other_sums.Statement.{statement}
 use Rattle.sums.proofs.other_sums.Tie as tie
 
 -- what the first chunks bring: none nothing, and one chunk more what it brings unless it is that of block s
 module _ (nc : ℕ) (block : List ℕ) (vs : ℕ → ℕ) (s : ℕ) where
-  others-none : othersBring nc block vs s 0 ≡ 0
+  others-none : others_bring nc block vs s 0 ≡ 0
   unfolding firsts
   others-none = refl
 
-  others-next : (b : ℕ) → othersBring nc block vs s (b + 1)
-      ≡ othersBring nc block vs s b + cond (eqb b s) 0 (total (get_or block b 0 * nc + 1) (digits nc (vs b)))
+  others-next : (b : ℕ) → others_bring nc block vs s (b + 1)
+      ≡ others_bring nc block vs s b + cond (eqb b s) 0 (total (get_or block b 0 * nc + 1) (digits nc (vs b)))
   unfolding firsts
   others-next b = rw (add-one b) refl
 
-  others_same : (b : ℕ) → b ≡ s → othersBring nc block vs s (b + 1) ≡ othersBring nc block vs s b
+  others_same : (b : ℕ) → b ≡ s → others_bring nc block vs s (b + 1) ≡ others_bring nc block vs s b
   others_same b e =
       others-next b
-      ∙ ap (λ v. othersBring nc block vs s b + cond v 0 (total (get_or block b 0 * nc + 1) (digits nc (vs b))))
+      ∙ ap (λ v. others_bring nc block vs s b + cond v 0 (total (get_or block b 0 * nc + 1) (digits nc (vs b))))
       (eq-eqb b s e)
       ∙ add-zero _
 
-  others-more : (b : ℕ) → (b ≡ s → ⊥) → othersBring nc block vs s (b + 1)
-      ≡ othersBring nc block vs s b + total (get_or block b 0 * nc + 1) (digits nc (vs b))
+  others-more : (b : ℕ) → (b ≡ s → ⊥) → others_bring nc block vs s (b + 1)
+      ≡ others_bring nc block vs s b + total (get_or block b 0 * nc + 1) (digits nc (vs b))
   others-more b d =
       others-next b
-      ∙ ap (λ v. othersBring nc block vs s b + cond v 0 (total (get_or block b 0 * nc + 1) (digits nc (vs b))))
+      ∙ ap (λ v. others_bring nc block vs s b + cond v 0 (total (get_or block b 0 * nc + 1) (digits nc (vs b))))
       (ne_eqb b s d)
 
 abbrev invariant-loop : tie.invariant-loop
 invariant-loop n list known s block from nc modulus r₀ b₀ r b =
     (b ≤ n) × ((vs : ℕ → ℕ) → known < modulus
     → ((t : ℕ) → t < b → (t ≡ s → ⊥) → Among list (get_or from t 0) (get_or from (t + 1) 0) (vs t))
-    → Has modulus r (known + othersBring nc block vs s b))
+    → Has modulus r (known + others_bring nc block vs s b))
 
 abbrev decreases-loop : tie.decreases-loop
 decreases-loop n list known s block from nc modulus r₀ b₀ r b = n - b
@@ -120,7 +120,7 @@ with-each-requires c κs =
     let i = c.before.before in
     let s = start i in
     let string = s.pre.0.1.strings in
-    let bound = (legal-bounds s.args.l s.pre.0.0).nc-high in (
+    let bound = (legal_bounds s.args.l s.pre.0.0).nc_high in (
       (bound, ((omega arith, omega (arith, string)), (omega arith, omega (arith, first-low c)))),
       s.pre.1.1.0 i.before.loop.b i.loop-test.true,
     )
@@ -142,12 +142,12 @@ loop-again c =
           let earlier = p.invariant.1 vs small (λ t h d. among t (omega arith) d) in
           ⊎_elim
           (λ w.
-          let brings = othersBring a.l.nc a.t3 vs a.s p.b in
+          let brings = others_bring a.l.nc a.t3 vs a.s p.b in
           let own : total (w.1.result * a.l.nc + 1) (digits a.l.nc (vs p.b))
           ≡ total (get_or a.t3 p.b 0 * a.l.nc + 1) (digits a.l.nc (vs p.b)) =
           ap (λ (n : ℕ). total (n * a.l.nc + 1) (digits a.l.nc (vs p.b))) w.1.ensures in
           let all : a.known + brings + total (w.1.result * a.l.nc + 1) (digits a.l.nc (vs p.b))
-          ≡ a.known + othersBring a.l.nc a.t3 vs a.s (p.b + 1) =
+          ≡ a.known + others_bring a.l.nc a.t3 vs a.s (p.b + 1) =
           omega (arith, own, others-more a.l.nc a.t3 vs a.s p.b w.0.taken) in
           rw w.3
           (subst (λ (n : ℕ). Has m w.2.result n) all
@@ -161,7 +161,7 @@ returns c vs small among =
     let l = c.before.loop in
     let a = c.before.before.before.before.before.args in
     let end : l.b ≡ a.n = omega (arith, l.invariant.0, c.loop-test.false) in
-    subst (λ (k : ℕ). Has (a.l.l1 * a.l.nc + 1) l.r (a.known + othersBring a.l.nc a.t3 vs a.s k)) end
+    subst (λ (k : ℕ). Has (a.l.l1 * a.l.nc + 1) l.r (a.known + others_bring a.l.nc a.t3 vs a.s k)) end
     (l.invariant.1 vs small (λ t h d. among t (omega (arith, h, end)) d))
 
 pub other-sums-spec : {M : Type 1} → statement M

@@ -4,8 +4,8 @@ use mathlib.Core.Path.{◌≡◌, refl, sym, ap, subst, ◌∙◌}
 use native.Mathlib.Nat.{mul-le-mul_right}
 use native.Mathlib.Omega.{arith}
 use lib.ListN.{get_or}
-use Rattle.message.proofs.Legal.{legal-bounds}
-use Rattle.sums.proofs.Brought.{others-complete}
+use Rattle.message.proofs.Legal.{legal_bounds}
+use Rattle.sums.proofs.Brought.{others_complete}
 use borrow.Author.Rules.{rules}
 use borrow.Author.Rules.{rules}
 use Rattle.sums.proofs.set_after.Statement.{statement}
@@ -16,16 +16,16 @@ abbrev start : tie.After-wide → tie.Start
 start c = c.before.before.before.before.before.before
 
 -- the first positions of the chunk in its column and in its block are low
-string-low : (c : tie.After-wide) → c.wide.result * (start c).args.l.nc ≤ 62
-string-low c =
+string_low : (c : tie.After-wide) → c.wide.result * (start c).args.l.nc ≤ 62
+string_low c =
     let s = start c in
     let a = s.args in
     let block = s.pre.1.0.1.1 a.s s.pre.1.0.1.0 in
     let inside : c.wide.result ≤ a.l.l1 = omega (arith, c.wide.ensures, block) in
     omega (arith, mul-le-mul_right a.l.nc inside, s.pre.0.1.0.strings)
 
-block-low : (s : tie.Start) → s.args.j * s.args.l.nc ≤ 62
-block-low s =
+block_low : (s : tie.Start) → s.args.j * s.args.l.nc ≤ 62
+block_low s =
     let inside : s.args.j ≤ s.args.l.l2 = omega (arith, s.requires.0.1.1) in
     omega (arith, mul-le-mul_right s.args.l.nc inside, s.requires.0.1.0.blocks)
 
@@ -45,10 +45,10 @@ wide-requires : tie.Need-wide-requires
 wide-requires c κs = search rules
 
 mul-without-each-2 : tie.Need-overflow-mul-without-each-2
-mul-without-each-2 c = omega (arith, string-low c)
+mul-without-each-2 c = omega (arith, string_low c)
 
 add-without-each-2 : tie.Need-overflow-add-without-each-2
-add-without-each-2 c = omega (arith, string-low c)
+add-without-each-2 c = omega (arith, string_low c)
 
 mul-without-each-3 : tie.Need-overflow-mul-without-each-3
 mul-without-each-3 c = search rules
@@ -57,10 +57,10 @@ add-without-each-3 : tie.Need-overflow-add-without-each-3
 add-without-each-3 c = search rules
 
 mul-without-each-4 : tie.Need-overflow-mul-without-each-4
-mul-without-each-4 c = omega (arith, block-low (start c.before))
+mul-without-each-4 c = omega (arith, block_low (start c.before))
 
 add-without-each-4 : tie.Need-overflow-add-without-each-4
-add-without-each-4 c = omega (arith, block-low (start c.before))
+add-without-each-4 c = omega (arith, block_low (start c.before))
 
 mul-without-each-5 : tie.Need-overflow-mul-without-each-5
 mul-without-each-5 c = search rules
@@ -82,14 +82,14 @@ without-each-requires c κs =
     let w = c.before in
     let s = start w in
     let short = s.pre.0.1.0 in
-    let nc = (legal-bounds s.args.l s.pre.0.0).nc-high in
+    let nc = (legal_bounds s.args.l s.pre.0.0).nc_high in
     let listed = s.pre.1.1.0 s.args.s s.pre.1.0.1.0 in (
       (
-        (nc, ((omega arith, omega (arith, short.blocks)), (omega arith, omega (arith, block-low s)))),
+        (nc, ((omega arith, omega (arith, short.blocks)), (omega arith, omega (arith, block_low s)))),
         listed,
       ),
       (
-        (nc, ((omega arith, omega (arith, short.strings)), (omega arith, omega (arith, string-low w)))),
+        (nc, ((omega arith, omega (arith, short.strings)), (omega arith, omega (arith, string_low w)))),
         s.pre.1.1.1.1,
       ),
     )
@@ -103,7 +103,7 @@ returns c vs k low among sum h =
     let others = w.before.before.before.other-sums.ensures vs low (λ b i d. among b i) in
     let first = ap (λ (v : ℕ). v * a.l.nc + 1) w.wide.ensures in
     c.without-each.ensures (vs a.s) k (among a.s some)
-    (others-complete a.l.nc _ a.known a.t2.block vs a.s a.t2.n some _ refl first others sum) h
+    (others_complete a.l.nc _ a.known a.t2.block vs a.s a.t2.n some _ refl first others sum) h
 
 pub set-after-spec : {M : Type 1} → statement M
 set-after-spec =

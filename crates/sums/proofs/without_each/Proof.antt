@@ -8,7 +8,7 @@ use mathlib.Core.Logic.{⊎_elim}
 use native.Mathlib.Omega.{arith}
 use lib.ListN.{get_or}
 use Rattle.bits.specs.Bits.{digits}
-use Rattle.bits.proofs.Laws.{lt-or-ge}
+use Rattle.bits.proofs.Laws.{lt_or_ge}
 use Rattle.vt.specs.Sum.{total}
 use Rattle.contents.specs.Contents.{Among}
 use Rattle.residues.specs.Residues.{Has}
@@ -69,7 +69,7 @@ loop-again c v n among completes has =
     λ h. p.loop.inv v n (among.0, (i.0, (h, i.1.1))) completes has in
     let own : k ≤ among.0 → get_or a.list.now k 0 ≡ v =
     λ h. let e : among.0 ≡ k = omega (arith, i.1.0) in rw e at i.1.1 in
-    let which = lt-or-ge among.0 k in
+    let which = lt_or_ge among.0 k in
     ⊎_elim
     (λ w.
     rw w.5

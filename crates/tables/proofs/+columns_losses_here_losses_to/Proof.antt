@@ -13,21 +13,21 @@ use borrow.Author.Rules.{rules}
 use borrow.Author.Tests.{not-true, not-false}
 use borrow.Fn.Kinds.{In}
 use borrow.Fn.PlainCycle.{Measures, is, falls, and}
-use Rattle.bits.specs.Bits.{mostInLine}
-use Rattle.message.proofs.Legal.{legal-bounds, sizes}
+use Rattle.bits.specs.Bits.{most_in_line}
+use Rattle.message.proofs.Legal.{legal_bounds, sizes}
 use Rattle.found.specs.Found.{Grown}
-use Rattle.found.proofs.Found.{grown-length, grown-holding, grown-none, grown-nothing, grown-weaken, grown-turn}
+use Rattle.found.proofs.Found.{grown_length, grown_holding, grown_none, grown_nothing, grown_weaken, grown_turn}
 use lib.ListN.{length, get_or}
 use Rattle.states.specs.States.{each, entry_at, state_of}
 use Rattle.cells.specs.Cells.{SameBut}
-use Rattle.cells.proofs.Same.{same_refl, same-trans, same-wider}
-use Rattle.tables.specs.Tables.{Free, ownLeft, IsMark, UnderMarks}
-use Rattle.tables.proofs.Making.{under_same, no-single}
-use Rattle.tables.proofs.Coming.{fits, few-left, near-stays, left-state, comes-marked, comes-near, own-left}
-use Rattle.tables.proofs.Coming.{leaves, sums-meet, crossed, within-next, under_next}
-use Rattle.tables.proofs.Coming.{shape-next, state-next, looked-next}
-use Rattle.tables.proofs.Going.{Going, going-same, going-near, going_end, going-uncrossed, going-unread}
-use Rattle.tables.proofs.Going.{going-read, going_next}
+use Rattle.cells.proofs.Same.{same_refl, same_trans, same_wider}
+use Rattle.tables.specs.Tables.{Free, own_left, IsMark, UnderMarks}
+use Rattle.tables.proofs.Making.{under_same, no_single}
+use Rattle.tables.proofs.Coming.{fits, few_left, near-stays, left_state, comes-marked, comes-near, own_left_is}
+use Rattle.tables.proofs.Coming.{leaves, sums_meet, crossed, within-next, under_next}
+use Rattle.tables.proofs.Coming.{shape_next, state-next, looked_next}
+use Rattle.tables.proofs.Going.{Going, going_same, going_near, going_end, going_uncrossed, going_unread}
+use Rattle.tables.proofs.Going.{going_read, going_next}
 use Rattle.tables.proofs.columns.Reads as columns
 use Rattle.tables.proofs.columns.Kinds as columns-kinds
 use Rattle.tables.proofs.+columns_losses_here_losses_to.Lts-columns as columns-lts
@@ -178,12 +178,12 @@ looped t c = c.before.before.before.before.before
 -- the numbers of the loop stay low
 high : (t : ℕ) (c : columns-lts.At-loop (columns-claims t) (columns-at t) columns.Post columns-Inv-loop
     columns-μ-loop)
-    → (c.loop.c ≤ mostInLine) × (c.loop.apart ≤ 4000)
+    → (c.loop.c ≤ most_in_line) × (c.loop.apart ≤ 4000)
 high t c =
     let s = start t c.before in
     let g = c.loop.invariant in
-    let size = sizes s.args.l (legal-bounds s.args.l s.pre.1.0.is-legal) in
-    (omega (arith, size.l2-high, g.inside), omega (arith, size.l2-high, g.inside, g.looked.small))
+    let size = sizes s.args.l (legal_bounds s.args.l s.pre.1.0.is_legal) in
+    (omega (arith, size.l2_high, g.inside), omega (arith, size.l2_high, g.inside, g.looked.small))
 
 -- the place where those that lose a bit in the column are found; from there, where the mark leaves hope, and the turn
 -- of the loop; and that place, seen from where the step is made
@@ -277,7 +277,7 @@ columns-returns t c =
     let m = c.before.before in
     let i = looped t m in
     let a = (start t i.before).args in (
-      going-near i.loop.inv m.mark-at.result
+      going_near i.loop.inv m.mark-at.result
           (subst (λ (v : ℕ). IsMark a.shape a.marks.now i.loop.c v m.mark-at.result)
           m.before.number_of_lem.ensures m.mark-at.ensures)
           (λ n k. c.before.hopeful.ensures n (not-true _ c.if2.true) k),
@@ -318,7 +318,7 @@ columns-same-length-4 : (t : ℕ)
 columns-same-length-4 t c =
     let k = c.before.before in
     let g = (turn t k).before.before.loop.invariant in
-    grown-length g.holding (here_found t k).losses-here.ensures.0 ∙ g.long
+    grown_length g.holding (here_found t k).losses-here.ensures.0 ∙ g.long
 
 columns-returns-2 : (t : ℕ)
     → columns-lts.Need-returns-2 (columns-claims t) (columns-at t) columns.Post columns-Inv-loop
@@ -328,7 +328,7 @@ columns-returns-2 t c =
     let w = turn t k in
     let going = w.before.before.loop.inv in
     let f = (here_found t k).losses-here.ensures in
-    (going-uncrossed going w.if1.taken f.0 c.before.crossing.ensures.0 c.if3.true, going-same going f.1)
+    (going_uncrossed going w.if1.taken f.0 c.before.crossing.ensures.0 c.if3.true, going_same going f.1)
 
 columns-step-requires : (t : ℕ)
     → columns-lts.Need-step-requires (columns-claims t) (columns-at t) columns.Post columns-Inv-loop
@@ -338,7 +338,7 @@ columns-step-requires t c κs =
     let i = w.before.before in
     let p = (start t i.before).pre.1.0 in
     let wide = found-wide t c.before.before.before in (
-      p.is-legal,
+      p.is_legal,
       (
         p.bits,
         (p.short, (i.loop.inv.sound, (w.if1.taken, omega (arith, (start t i.before).pre.1.1.1.0.1, wide)))),
@@ -363,7 +363,7 @@ columns-same-length-6 : (t : ℕ)
 columns-same-length-6 t c =
     let k = found t c.before.before.before.before in
     let g = (turn t k).before.before.loop.inv in
-    grown-length g.holding (here_found t k).losses-here.ensures.0 ∙ g.long
+    grown_length g.holding (here_found t k).losses-here.ensures.0 ∙ g.long
 
 columns-returns-3 : (t : ℕ)
     → columns-lts.Need-returns-3 (columns-claims t) (columns-at t) columns.Post columns-Inv-loop
@@ -375,8 +375,8 @@ columns-returns-3 t c =
     let going = w.before.before.loop.inv in
     let f = (here_found t k).losses-here.ensures in
     let crossing = q.before.before.before.crossing.ensures.0 in (
-      going-unread going w.if1.taken f.0 crossing f.1 q.step.ensures (not-true _ c.if4.true),
-      going-read going w.if1.taken f.0 crossing f.1 q.step.ensures,
+      going_unread going w.if1.taken f.0 crossing f.1 q.step.ensures (not-true _ c.if4.true),
+      going_read going w.if1.taken f.0 crossing f.1 q.step.ensures,
     )
 
 columns-after-requires : (t : ℕ)
@@ -441,7 +441,7 @@ columns-mend-table-requires : (t : ℕ)
 columns-mend-table-requires t c κs =
     let i = c.before.before.before.before in
     let g = i.loop.invariant in
-    ((start t i.before).pre.1.0, (g.holding, ((g.sound.placed, no-single g.sound), loop-room t i)))
+    ((start t i.before).pre.1.0, (g.holding, ((g.sound.placed, no_single g.sound), loop-room t i)))
 
 columns-same-length-7 : (t : ℕ)
     → columns-lts.Need-same-length-7 (columns-claims t) (columns-at t) columns.Post columns-Inv-loop
@@ -456,7 +456,7 @@ columns-same-length-8 : (t : ℕ)
 columns-same-length-8 t c =
     let f = c.before.before.before.before in
     let g = f.before.before.before.before.before.loop.invariant in
-    grown-length g.holding f.mend-table.ensures.0 ∙ g.long
+    grown_length g.holding f.mend-table.ensures.0 ∙ g.long
 
 columns-returns-4 : (t : ℕ)
     → columns-lts.Need-returns-4 (columns-claims t) (columns-at t) columns.Post columns-Inv-loop
@@ -466,14 +466,14 @@ columns-returns-4 t c =
     let e = f.before.before.before in
     let g = e.before.before.loop.invariant in
     let m = f.mend-table.ensures in
-    (going_end g e.if1.false m.0, going-same g (same-wider (λ i j p q o. inr o) m.1))
+    (going_end g e.if1.false m.0, going_same g (same_wider (λ i j p q o. inr o) m.1))
 
 abbrev losses-here-Inv-loop : losses-here-lts.invariant-loop
 losses-here-Inv-loop l y totals counts numbers heavy shape known marks rests z room j t row₀ sets differ cap list₀ q can
     k₀ to₀ row list k to =
     Grown l numbers y cap
     (λ x. UnderMarks l y numbers heavy shape known marks rests z sets differ j t row₀ x
-    × (state_of shape (ownLeft l y heavy x (j + 1)) < to)) list₀ k₀.count k₀.more list k.count k.more
+    × (state_of shape (own_left l y heavy x (j + 1)) < to)) list₀ k₀.count k₀.more list k.count k.more
     × ((length row ≡ length row₀) × SameBut l (Free heavy j 0 t.cells) row₀ row)
 
 abbrev losses-here-μ-loop : losses-here-lts.decreases-loop
@@ -508,11 +508,11 @@ enter t c = entered t c.before.before
 next_low : (t : ℕ)
     (c : losses-here-lts.After-exits (losses-here-claims t) (losses-here-at t) losses-here.Post
     losses-here-Inv-loop losses-here-μ-loop)
-    → (enter t c).args.j + 1 ≤ mostInLine
+    → (enter t c).args.j + 1 ≤ most_in_line
 next_low t c =
     let s = enter t c in
-    let size = sizes s.args.l (legal-bounds s.args.l s.pre.1.0.is-legal) in
-    omega (arith, size.l2-high, s.pre.1.1.1.1.0)
+    let size = sizes s.args.l (legal_bounds s.args.l s.pre.1.0.is_legal) in
+    omega (arith, size.l2_high, s.pre.1.1.1.1.0)
 
 losses-here-number-of-requires : (t : ℕ)
     → losses-here-lts.Need-number-of-requires (losses-here-claims t) (losses-here-at t) losses-here.Post
@@ -528,13 +528,13 @@ losses-here-exits-requires : (t : ℕ)
 losses-here-exits-requires t c κs =
     let p = (entered t c.before).pre.1 in
     let sound = p.1.1.0.0 in
-    (fits p.0 sound, (p.1.1.1.0, λ s h. few-left sound s))
+    (fits p.0 sound, (p.1.1.1.0, λ s h. few_left sound s))
 
 losses-here-loop-holds : (t : ℕ)
     → losses-here-lts.Need-loop-init (losses-here-claims t) (losses-here-at t) losses-here.Post
     losses-here-Inv-loop losses-here-μ-loop
 losses-here-loop-holds t c =
-    (grown-nothing (enter t c).requires.1.1.0 (λ x sent u. omega (arith, u.1)), (refl, same_refl))
+    (grown_nothing (enter t c).requires.1.1.0 (λ x sent u. omega (arith, u.1)), (refl, same_refl))
 
 losses-here-add-mark-at : (t : ℕ)
     → losses-here-lts.Need-overflow-add-mark-at (losses-here-claims t) (losses-here-at t) losses-here.Post
@@ -560,7 +560,7 @@ losses-here-losses-to-requires t c κs =
     let below : i.before.loop.to < state_of a.shape (each a.t.left) =
     omega (arith, i.loop-test.true, n.before.number_of_lem.ensures)
     in
-    let holding = grown-holding p.1.0 v.0 in
+    let holding = grown_holding p.1.0 v.0 in
     let near = near-stays a.l a.numbers.now a.y.now a.z.now a.room p.1.0 v.0 p.1.1.1.1.1.1 in
     let of = p.1.1.1.1.0 in
     let looked = p.1.1.1.1.1.0 in (
@@ -593,21 +593,21 @@ losses-here-loop-again t c =
     let s = enter t l.before in
     let a = s.args in
     let p = s.pre.1 in
-    let f : List ℕ → ℕ = λ (x : List ℕ). state_of a.shape (ownLeft a.l a.y.now a.heavy x (a.j + 1)) in
+    let f : List ℕ → ℕ = λ (x : List ℕ). state_of a.shape (own_left a.l a.y.now a.heavy x (a.j + 1)) in
     let v = l.loop.invariant in
     ⊎_elim
     (λ w. rw (w.9, w.10, w.11) (
-      grown-turn p.1.0 f l.loop.to (λ x sent u e. ((under_same v.1.1 u.0, u.1), e)) v.0 w.4.ensures.0,
+      grown_turn p.1.0 f l.loop.to (λ x sent u e. ((under_same v.1.1 u.0, u.1), e)) v.0 w.4.ensures.0,
       (
         w.4.kept.1.1.1.1.1.1.1.1.1.1.1.1.1.1.0 ∙ v.1.0,
-        same-trans v.1.1 w.4.ensures.1,
+        same_trans v.1.1 w.4.ensures.1,
       ),
     ))
     (λ w. rw (w.1, w.2, w.3) (
-      grown-turn p.1.0 f l.loop.to
+      grown_turn p.1.0 f l.loop.to
           (λ x sent u e. comes-marked u.1 (a.j + 1) l.loop.to m.mark-at.result (omega (arith, p.1.1.1.0))
           m.mark-at.ensures w.0.left e)
-          v.0 (grown-nothing (grown-holding p.1.0 v.0) {P = λ x. ⊥} (λ x sent n. n)),
+          v.0 (grown_nothing (grown_holding p.1.0 v.0) {P = λ x. ⊥} (λ x sent n. n)),
       v.1,
     ))
     c.if1.branch
@@ -620,7 +620,7 @@ losses-here-same-length t c = c.before.loop.invariant.1.0
 losses-here-same-length-2 : (t : ℕ)
     → losses-here-lts.Need-same-length-2 (losses-here-claims t) (losses-here-at t) losses-here.Post
     losses-here-Inv-loop losses-here-μ-loop
-losses-here-same-length-2 t c = grown-length (enter t c.before.before).pre.1.1.0 c.before.loop.invariant.0
+losses-here-same-length-2 t c = grown_length (enter t c.before.before).pre.1.1.0 c.before.loop.invariant.0
 
 losses-here-returns : (t : ℕ)
     → losses-here-lts.Need-returns (losses-here-claims t) (losses-here-at t) losses-here.Post
@@ -628,7 +628,7 @@ losses-here-returns : (t : ℕ)
 losses-here-returns t c =
     let n = c.before.before.before.number_of_lem.ensures in
     let v = c.before.loop.invariant in
-    (grown-weaken (λ x sent u. (u.0, omega (arith, u.1, n, c.loop-test.false))) v.0, v.1.1)
+    (grown_weaken (λ x sent u. (u.0, omega (arith, u.1, n, c.loop-test.false))) v.0, v.1.1)
 
 -- where `losses_to` starts: the place where all is at hand, and from there, where half of the slices are known, and the
 -- start
@@ -675,12 +675,12 @@ from_step t c = from-sets t (freshened t c)
 own-next : (t : ℕ) (c : Lower t) → let a = (begin t c).args in (x : List ℕ)
     → UnderMarks a.l a.y.now a.numbers.now a.heavy a.shape a.known.now a.marks.now
     a.rests.now a.z.now a.sets a.differ a.j a.t a.row.now x
-    × (state_of a.shape (ownLeft a.l a.y.now a.heavy x (a.j + 1)) ≡ a.to)
-    → (s : ℕ) → s < a.heavy.n → ownLeft a.l a.y.now a.heavy x (a.j + 1) s ≡ each c.losses-left.result s
+    × (state_of a.shape (own_left a.l a.y.now a.heavy x (a.j + 1)) ≡ a.to)
+    → (s : ℕ) → s < a.heavy.n → own_left a.l a.y.now a.heavy x (a.j + 1) s ≡ each c.losses-left.result s
 own-next t c x u =
     let a = (begin t c).args in
     let p = (begin t c).requires.1.0 in
-    own-left u.0.1 p.1.1.1.1.0 (a.j + 1) a.to c.losses-left.result (omega (arith, p.1.1.1.0))
+    own_left_is u.0.1 p.1.1.1.1.0 (a.j + 1) a.to c.losses-left.result (omega (arith, p.1.1.1.0))
     c.losses-left.ensures u.1
 
 -- the number of chunks that a row can differ in so far stays low
@@ -689,9 +689,9 @@ apart_low : (t : ℕ) (c : losses-to-lts.After-wide (losses-to-claims t) (losses
 apart_low t c =
     let s = begin t (from-wide t c) in
     let p = s.pre.1.0 in
-    let size = sizes s.args.l (legal-bounds s.args.l p.0.is-legal) in
+    let size = sizes s.args.l (legal_bounds s.args.l p.0.is_legal) in
     let crossing = c.before.before.crossing.ensures.1 in
-    omega (arith, size.l2-high, p.1.1.1.0, p.1.1.1.1.1.0.small, c.wide.ensures, crossing)
+    omega (arith, size.l2_high, p.1.1.1.0, p.1.1.1.1.1.0.small, c.wide.ensures, crossing)
 
 losses-to-losses-left-requires : (t : ℕ)
     → losses-to-lts.Need-losses-left-requires (losses-to-claims t) (losses-to-at t) losses-to.Post
@@ -711,7 +711,7 @@ losses-to-returns t c =
     let s = begin t n in
     let a = s.args in
     let p = s.pre.1.0 in (
-      grown-nothing p.1.0
+      grown_nothing p.1.0
           (λ x sent u.
           false≢true
           (sym (not-true _ c.if1.true)
@@ -733,7 +733,7 @@ losses-to-returns-2 : (t : ℕ)
 losses-to-returns-2 t c =
     let n = lowered t c.before in
     let p = (begin t n).pre.1.0 in (
-      grown-nothing p.1.0
+      grown_nothing p.1.0
           (λ x sent u.
           omega (arith, crossed p.1.1.1.0 u.0 (own-next t n x u) c.before.crossing.ensures.0, c.if2.true)),
       same_refl,
@@ -765,7 +765,7 @@ losses-to-returns-3 t c =
     let a = s.args in
     let p = s.pre.1.0 in
     let add : f.crossing.result ≤ w.wide.result - 1 + 1 = omega (arith, w.wide.ensures, w.before.if2.false) in (
-      grown-none p.1.0
+      grown_none p.1.0
           (λ x sent u.
           let own = own-next t n x u in
           let within = within-next p.1.1.1.0 u.0 own f.crossing.ensures.0 (w.wide.result - 1) add in
@@ -786,14 +786,14 @@ losses-to-add-all-meet : (t : ℕ)
     → losses-to-lts.Need-overflow-add-all-meet (losses-to-claims t) (losses-to-at t) losses-to.Post
 losses-to-add-all-meet t c =
     let s = begin t (from-sets t c) in
-    let size = sizes s.args.l (legal-bounds s.args.l s.pre.1.0.0.is-legal) in
-    omega (arith, size.l2-high, s.pre.1.0.1.1.1.0)
+    let size = sizes s.args.l (legal_bounds s.args.l s.pre.1.0.0.is_legal) in
+    omega (arith, size.l2_high, s.pre.1.0.1.1.1.0)
 
 losses-to-all-meet-requires : (t : ℕ)
     → losses-to-lts.Need-all-meet-requires (losses-to-claims t) (losses-to-at t) losses-to.Post
 losses-to-all-meet-requires t c κs =
     let p = (begin t (from-sets t c)).pre.1.0 in
-    (p.0.is-legal, (p.1.1.0.0.few, omega (arith, p.1.1.1.0)))
+    (p.0.is_legal, (p.1.1.0.0.few, omega (arith, p.1.1.1.0)))
 
 losses-to-returns-4 : (t : ℕ)
     → losses-to-lts.Need-returns-4 (losses-to-claims t) (losses-to-at t) losses-to.Post
@@ -802,11 +802,11 @@ losses-to-returns-4 t c =
     let g = m.before in
     let n = from-sets t g in
     let p = (begin t n).pre.1.0 in (
-      grown-nothing p.1.0
+      grown_nothing p.1.0
           (λ x sent u.
           false≢true
           (sym (not-true _ c.if4.true)
-          ∙ sums-meet p.1.1.1.0 u.0 (own-next t n x u) g.after.result g.after.ensures m.all_meet.ensures)),
+          ∙ sums_meet p.1.1.1.0 u.0 (own-next t n x u) g.after.result g.after.ensures m.all_meet.ensures)),
       same_refl,
     )
 
@@ -814,7 +814,7 @@ losses-to-step-requires : (t : ℕ)
     → losses-to-lts.Need-step-requires (losses-to-claims t) (losses-to-at t) losses-to.Post
 losses-to-step-requires t c κs =
     let p = (begin t (from-sets t c.before.before.before)).pre.1.0 in
-    (p.0.is-legal, (p.0.bits, (p.0.short, (p.1.1.0.0, (p.1.1.1.0, p.1.1.0.1)))))
+    (p.0.is_legal, (p.0.bits, (p.0.short, (p.1.1.0.0, (p.1.1.1.0, p.1.1.0.1)))))
 
 losses-to-returns-5 : (t : ℕ)
     → losses-to-lts.Need-returns-5 (losses-to-claims t) (losses-to-at t) losses-to.Post
@@ -822,7 +822,7 @@ losses-to-returns-5 t c =
     let q = c.before.before.before.before in
     let n = from_step t q in
     let p = (begin t n).pre.1.0 in (
-      grown-nothing p.1.0
+      grown_nothing p.1.0
           (λ x sent u.
           false≢true (sym (not-true _ c.if5.true) ∙ (q.step.ensures.under x sent.0 u.0.0 (own-next t n x u)).0)),
       q.step.ensures.same,
@@ -850,7 +850,7 @@ losses-to-returns-6 t c =
     let q = e.before.before.before.before.before.before.before in
     let n = from_step t q in
     let p = (begin t n).pre.1.0 in (
-      grown-nothing p.1.0
+      grown_nothing p.1.0
           (λ x sent u.
           let under = (q.step.ensures.under x sent.0 u.0.0 (own-next t n x u)).1 in
           false≢true (sym (not-true _ c.if6.true) ∙ e.all-end.ensures x sent under)),
@@ -861,8 +861,8 @@ losses-to-add-columns : (t : ℕ)
     → losses-to-lts.Need-overflow-add-columns (losses-to-claims t) (losses-to-at t) losses-to.Post
 losses-to-add-columns t c =
     let s = begin t (from_step t c.before.before.before.before.before.before.before.before) in
-    let size = sizes s.args.l (legal-bounds s.args.l s.pre.1.0.0.is-legal) in
-    omega (arith, size.l2-high, s.pre.1.0.1.1.1.0)
+    let size = sizes s.args.l (legal_bounds s.args.l s.pre.1.0.0.is_legal) in
+    omega (arith, size.l2_high, s.pre.1.0.1.1.1.0)
 
 losses-to-columns-requires : (t : ℕ)
     → losses-to-lts.Need-columns-requires (losses-to-claims t) (losses-to-at t) losses-to.Post
@@ -877,11 +877,11 @@ losses-to-columns-requires t c κs =
     let of = p.1.1.1.1.0 in
     let went = not-false _ e.if5.false in
     let stepped = q.step.ensures in
-    let lower = left-state n.losses-left.result s.args.to of s.pre.1.1.0.0 n.losses-left.ensures in
+    let lower = left_state n.losses-left.result s.args.to of s.pre.1.1.0.0 n.losses-left.ensures in
     let few : w.wide.result - 1 ≤ 6 = omega (arith, w.wide.ensures, f.crossing.ensures.1) in
     let inside : s.args.j + 1 ≤ s.args.l.l2 = omega (arith, p.1.1.1.0) in
-    let shaped = shape-next stepped went of lower.1 in
-    let looked = looked-next few p.1.1.1.1.1.0 in
+    let shaped = shape_next stepped went of lower.1 in
+    let looked = looked_next few p.1.1.1.1.1.0 in
     let wide = q.step.auto.1.1.1.1.1.1.0 in (
       omega (arith, s.pre.0, state-next stepped went of, lower.0, s.pre.1.1.0.0),
       (p.0, (p.1.0, ((stepped.sound, omega (arith, p.1.1.0.1, wide)), (inside, (shaped, (looked, p.1.1.1.1.1.1)))))),
@@ -918,12 +918,12 @@ losses-to-returns-7 t c =
     let n = lowered t f in
     let p = (begin t n).pre.1.0 in
     let add : f.crossing.result ≤ w.wide.result - 1 + 1 = omega (arith, w.wide.ensures, w.before.if2.left) in (
-      grown-weaken
+      grown_weaken
           (λ x sent u.
           (under_next p.1.1.1.0 u.0 (own-next t n x u) f.crossing.ensures.0 (w.wide.result - 1) add
           g.after.result g.after.ensures sent.0 q.step.ensures).1)
           d.columns.ensures.0,
-      same-trans q.step.ensures.same (same-wider (λ i c g h. q.step.ensures.fewer i c) d.columns.ensures.1),
+      same_trans q.step.ensures.same (same_wider (λ i c g h. q.step.ensures.fewer i c) d.columns.ensures.1),
     )
 
 pub +columns-losses-here-losses-to-spec : {M : Type 1} → statement M

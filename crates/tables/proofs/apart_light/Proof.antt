@@ -7,12 +7,12 @@ use mathlib.Core.Logic.{⊎_elim}
 use native.Mathlib.Omega.{arith}
 use borrow.Author.Rules.{rules}
 use lib.ListN.{length}
-use Rattle.bits.specs.Bits.{mostChunks}
+use Rattle.bits.specs.Bits.{most_chunks}
 use Rattle.message.specs.Layout.{legal}
 use Rattle.message.specs.declared.Layout.{Layout}
 use Rattle.message.proofs.Fields.{field_room}
-use Rattle.message.proofs.Legal.{legal-bounds, sizes}
-use Rattle.tables.proofs.Light.{Counted, counted_none, counted-heavy, counted-light, counted-all}
+use Rattle.message.proofs.Legal.{legal_bounds, sizes}
+use Rattle.tables.proofs.Light.{Counted, counted_none, counted_heavy, counted-light, counted-all}
 use Rattle.tables.proofs.apart_light.Statement.{statement}
 use Rattle.tables.proofs.apart_light.Tie as tie
 
@@ -23,8 +23,8 @@ abbrev decreases-loop : tie.decreases-loop
 decreases-loop l heavy row z count₀ h₀ i₀ count h i = l.l1 - i
 
 -- the blocks passed and the one that is looked at stand among the chunks of the layout, which are not too many
-room : (l : Layout) → legal l ≡ true → (i : ℕ) → i < l.l1 → (i * l.l2 + l.l2 ≤ l.l1 * l.l2) × (l.l1 * l.l2 ≤ mostChunks)
-room l legal-l i h = (field_room l.l1 l.l2 i h, (sizes l (legal-bounds l legal-l)).chunks)
+room : (l : Layout) → legal l ≡ true → (i : ℕ) → i < l.l1 → (i * l.l2 + l.l2 ≤ l.l1 * l.l2) × (l.l1 * l.l2 ≤ most_chunks)
+room l legal-l i h = (field_room l.l1 l.l2 i h, (sizes l (legal_bounds l legal-l)).chunks)
 
 loop-holds : tie.Need-loop-init invariant-loop decreases-loop
 loop-holds c =
@@ -80,7 +80,7 @@ loop-again c =
     (λ w.
     let e = q.0 w.0.taken in
     rw (w.1, w.2)
-    (counted-heavy a.l a.heavy a.row.now a.z.now s.requires.1.0 p.loop.count p.loop.h p.loop.i
+    (counted_heavy a.l a.heavy a.row.now a.z.now s.requires.1.0 p.loop.count p.loop.h p.loop.i
     p.loop.invariant
     less e.0 e.1))
     (λ w.
@@ -96,7 +96,7 @@ returns c =
     let p = c.before.before in
     let s = p.before.before.before in
     let a = s.args in
-    let all = (sizes a.l (legal-bounds a.l s.requires.0)).chunks in
+    let all = (sizes a.l (legal_bounds a.l s.requires.0)).chunks in
     let done : p.loop.i ≡ a.l.l1 = omega (arith, c.if1.false, p.loop.invariant.blocks) in
     let low : p.loop.count ≤ a.l.l1 * a.l.l2 = rw done at p.loop.invariant.low in (
       counted-all a.l a.heavy a.row.now a.z.now s.requires.1.0 p.loop.count p.loop.h p.loop.i

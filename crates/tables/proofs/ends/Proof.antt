@@ -6,7 +6,7 @@ use mathlib.Core.List.{List}
 use Prim.Native.Nat.{ℕ, ◌+◌, ◌*◌, ◌<◌, ◌≤◌}
 use native.Mathlib.Omega.{arith}
 use lib.ListN.{length, get_or}
-use Rattle.message.proofs.Legal.{legal-bounds, sizes}
+use Rattle.message.proofs.Legal.{legal_bounds, sizes}
 use Rattle.lines.specs.Lines.{values}
 use Rattle.blocks.specs.Blocks.{Ended}
 use Rattle.tables.proofs.Coming.{fits}
@@ -46,7 +46,7 @@ add-can-end c =
       fits = omega (
         arith,
         s.pre.1.1.1.0,
-        (sizes s.args.l (legal-bounds s.args.l s.pre.0.is-legal)).l2-high,
+        (sizes s.args.l (legal_bounds s.args.l s.pre.0.is_legal)).l2_high,
       );
     }
 
@@ -55,11 +55,11 @@ can-end-requires c κs =
     let w = c.before in
     let s = begin w in
     let p = s.pre in
-    let z = sizes s.args.l (legal-bounds s.args.l p.0.is-legal) in
+    let z = sizes s.args.l (legal_bounds s.args.l p.0.is_legal) in
     let f = fits p.0 p.1.1.0 in
     let inside = p.1.1.0.inside s.args.h p.1.1.1.1.0 in
     let i = w.wide.ensures in (
-      (p.0.is-legal, (p.0.bits, f.short)),
+      (p.0.is_legal, (p.0.bits, f.short)),
       (
         p.1.0,
         (

@@ -3,7 +3,7 @@ use mathlib.Core.Path.{sym, ◌∙◌}
 use mathlib.Core.Bool.{false≢true}
 use borrow.Author.Rules.{rules}
 use Rattle.cells.proofs.Same.{same_refl}
-use Rattle.found.proofs.Found.{grown-nothing, grown-weaken}
+use Rattle.found.proofs.Found.{grown_nothing, grown_weaken}
 use Rattle.tables.proofs.mend_table.Statement.{statement}
 use Rattle.tables.proofs.mend_table.Tie as tie
 
@@ -27,11 +27,11 @@ same-length-2 c = c.before.before.before.before.mend-strings.auto.1.1.1.1.1.1.0
 returns : tie.Need-returns
 returns c =
     let m = c.before.before.before.before.mend-strings.ensures in
-    (grown-weaken (λ x s w. w.1) m.0, m.1)
+    (grown_weaken (λ x s w. w.1) m.0, m.1)
 
 returns-2 : tie.Need-returns-2
 returns-2 c = (
-  grown-nothing c.before.before.before.before.before.before.before.requires.1.0
+  grown_nothing c.before.before.before.before.before.before.before.requires.1.0
       (λ x s w. false≢true (sym c.if1.false ∙ c.before.none_left.ensures.1 w.0)),
   same_refl,
 )

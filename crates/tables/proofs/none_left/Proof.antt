@@ -7,7 +7,7 @@ use native.Mathlib.Omega.{arith}
 use borrow.Author.Count.{below_more}
 use borrow.Author.Rules.{rules}
 use lib.ListN.{length, get_or, get_or-eq_default}
-use Rattle.bits.proofs.Laws.{lt-or-ge}
+use Rattle.bits.proofs.Laws.{lt_or_ge}
 use Rattle.tables.specs.Tables.{NoneLeft}
 use Rattle.tables.proofs.none_left.Statement.{statement}
 use Rattle.tables.proofs.none_left.Tie as tie
@@ -42,7 +42,7 @@ returns-2 c =
     let n : length a.t1 ≡ 6 = search rules in
     let none : NoneLeft a.t1 = λ s.
     ⊎_elim (λ h. c.before.loop.invariant.1 s (omega arith)) (λ h. get_or-eq_default a.t1 0 (omega arith))
-    (lt-or-ge s 6)
+    (lt_or_ge s 6)
     in
     (λ _. none, λ _. refl)
 

@@ -12,15 +12,15 @@ use lib.ListN.{length, get_or, set, length-set}
 use mir.Syntax.{w8}
 use mir.Val.{Fits}
 use Rattle.states.specs.States.{each}
-use Rattle.column.specs.Column.{chunkAt}
+use Rattle.column.specs.Column.{chunk_at}
 use Rattle.cells.specs.declared.Cells.{Cells}
-use Rattle.tables.specs.Tables.{Sharable, Shared, withCell}
+use Rattle.tables.specs.Tables.{Sharable, Shared, with_cell}
 use Rattle.tables.specs.declared.Table.{Table}
 use Rattle.tables.proofs.Making.{Twelve}
 use Rattle.tables.proofs.Sharing.{inside, chunk-low, start-low, received-low, column-low, chunk-bits}
-use Rattle.tables.proofs.Sharing.{shared-short, shared-read, shared-beyond, cell_room, shared-cell}
-use Rattle.tables.proofs.Stepping.{Halfway, halfway-start, halfway-next, halfway-end}
-use Rattle.tables.proofs.Stepping.{stepped-none, too_few, share-failed}
+use Rattle.tables.proofs.Sharing.{shared_short, shared_read, shared_beyond, cell_room, shared_cell}
+use Rattle.tables.proofs.Stepping.{Halfway, halfway_start, halfway_next, halfway_end}
+use Rattle.tables.proofs.Stepping.{stepped_none, too_few, share_failed}
 use Rattle.tables.proofs.step.Statement.{statement}
 use Rattle.tables.proofs.step.Tie as tie
 
@@ -29,7 +29,7 @@ record Full (t : Table) : Type 0 where
   left : length t.left ≡ 6
   cells : Twelve t.cells
 
-full-cell : {t : Table} → Full t → (h i j a place : ℕ) → Full (withCell t h i j a place)
+full-cell : {t : Table} → Full t → (h i j a place : ℕ) → Full (with_cell t h i j a place)
 full-cell {t} f h i j a place =
     let k = t.cells in
     record {
@@ -67,7 +67,7 @@ sharable c =
     let i = turn c in
     let q = (begin i).pre in
     record {
-      is-legal = q.0;
+      is_legal = q.0;
       bits = q.1.0;
       short = q.1.1.0;
       sound = i.before.loop.inv.1.sound;
@@ -105,7 +105,7 @@ loop-holds c =
         },
         refl,
       ),
-      halfway-start s.requires.1.1.1.0,
+      halfway_start s.requires.1.1.1.0,
     )
 
 element-copy-out-left : tie.Need-element-copy-out-left invariant-loop decreases-loop
@@ -122,7 +122,7 @@ returns c =
     let i = c.before.before.before in
     let q = (begin i).requires.1.1.1 in
     let n = c.not-shared.ensures in
-    stepped-none n.0 n.1 q.0 i.before.loop.invariant.1.same
+    stepped_none n.0 n.1 q.0 i.before.loop.invariant.1.same
     (too_few i.before.loop.invariant.1 i.loop-test.true q.1.0 c.before.if1.true)
 
 array-read-a : tie.Need-array-read-a invariant-loop decreases-loop
@@ -172,10 +172,10 @@ returns-2 c =
     let q = (begin i).pre.1.1.1 in
     let n = c.not-shared2.ensures in
     let shared =
-    shared-short (sharable e) f.place_of.result f.place_of.ensures.1 c.before.before.if2.true
+    shared_short (sharable e) f.place_of.result f.place_of.ensures.1 c.before.before.if2.true
     c.before.if3.true in
-    stepped-none n.0 n.1 q.0 i.before.loop.inv.1.same
-    (share-failed i.before.loop.inv.1 i.loop-test.taken q.1.0 (less e) shared refl)
+    stepped_none n.0 n.1 q.0 i.before.loop.inv.1.same
+    (share_failed i.before.loop.inv.1 i.loop-test.taken q.1.0 (less e) shared refl)
 
 number-at-requires : tie.Need-number-at-requires invariant-loop decreases-loop
 number-at-requires c κs =
@@ -214,9 +214,9 @@ returns-3 c =
     let i = turn e in
     let q = (begin i).pre.1.1.1 in
     let n = c.not-shared3.ensures in
-    let shared = shared-beyond (sharable e) f.place_of.result f.place_of.ensures.1 c.before.if4.true in
-    stepped-none n.0 n.1 q.0 i.before.loop.inv.1.same
-    (share-failed i.before.loop.inv.1 i.loop-test.taken q.1.0 (less e) shared refl)
+    let shared = shared_beyond (sharable e) f.place_of.result f.place_of.ensures.1 c.before.if4.true in
+    stepped_none n.0 n.1 q.0 i.before.loop.inv.1.same
+    (share_failed i.before.loop.inv.1 i.loop-test.taken q.1.0 (less e) shared refl)
 
 -- what holds where the chunk becomes a cell: there is room for it, and the table with it
 cell : (f : tie.After-place-of invariant-loop decreases-loop) → let e = enough f in let a = (begin (turn e)).args in
@@ -224,7 +224,7 @@ cell : (f : tie.After-place-of invariant-loop decreases-loop) → let e = enough
     let lost = get_or p.table.left p.h 0 - get_or a.t5 p.h 0 in
     (lost ≡ 0 → ⊥) → f.place_of.result ≤ length a.y.now → (p.table.cells.n < 12)
     × Shared a.l a.y.now a.t3 a.j p.h lost p.table p.row true
-    (withCell p.table p.h (get_or a.t3.block p.h 0) a.j lost f.place_of.result) p.row
+    (with_cell p.table p.h (get_or a.t3.block p.h 0) a.j lost f.place_of.result) p.row
 cell f some there =
     let e = enough f in
     let s = begin (turn e) in
@@ -235,7 +235,7 @@ cell f some there =
     let blocks : length a.t3.block ≡ 6 = search (rules, s.good.1.1.0) in
     let read = f.place_of.ensures.1 in (
       cell_room (sharable e) pos full.left blocks,
-      shared-cell (sharable e) f.place_of.result read pos full.left blocks full.cells there,
+      shared_cell (sharable e) f.place_of.result read pos full.left blocks full.cells there,
     )
 
 sub-table : tie.Need-overflow-sub-table invariant-loop decreases-loop
@@ -276,7 +276,7 @@ turned : (f : tie.After-place-of invariant-loop decreases-loop) {new : Table} {a
 turned f full long shared =
     let i = turn (enough f) in (
       (full, long ∙ i.before.loop.inv.0.1),
-      halfway-next i.before.loop.inv.1 i.loop-test.taken (begin i).pre.1.1.1.1.0 (less (enough f))
+      halfway_next i.before.loop.inv.1 i.loop-test.taken (begin i).pre.1.1.1.1.0 (less (enough f))
           shared refl,
     )
 
@@ -288,7 +288,7 @@ loop-again c =
     let s = begin (turn e) in
     let a = s.args in
     let full = p.inv.0.0 in
-    let chunk = chunkAt a.l a.t3 a.j p.h in
+    let chunk = chunk_at a.l a.t3 a.j p.h in
     let lost = get_or p.table.left p.h 0 - get_or a.t5 p.h 0 in
     let left : List ℕ = set p.table.left p.h (get_or p.table.left p.h 0 - lost) in
     let room : a.l.l1 * a.l.l2 ≤ length p.row = omega (arith, s.pre.1.1.1.1.1, p.inv.0.1) in
@@ -297,7 +297,7 @@ loop-again c =
     subst (λ (v : Table). Turned f v c.if2.row) (sym w.4)
     (subst (Turned f p.table) (sym (w.3 ∙ ap (set p.row chunk) w.2.ensures))
     (turned f full (length-set p.row chunk _)
-    (shared-read (sharable e) f.place_of.result f.place_of.ensures.1 w.0.taken room))))
+    (shared_read (sharable e) f.place_of.result f.place_of.ensures.1 w.0.taken room))))
     (λ w.
     subst (Turned f c.if2.table) (sym w.4)
     (subst (λ (v : Table). Turned f v p.row)
@@ -306,7 +306,7 @@ loop-again c =
     c.if2.branch
 
 returns-4 : tie.Need-returns-4 invariant-loop decreases-loop
-returns-4 c = halfway-end c.before.loop.invariant.1 refl (omega (arith, c.loop-test.false))
+returns-4 c = halfway_end c.before.loop.invariant.1 refl (omega (arith, c.loop-test.false))
 
 pub step_spec : {M : Type 1} → statement M
 step_spec =

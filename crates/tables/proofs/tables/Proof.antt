@@ -9,23 +9,23 @@ use native.Mathlib.Omega.{arith}
 use borrow.Author.Rules.{rules}
 use borrow.Author.Tests.{not-true}
 use lib.ListN.{length, get_or}
-use Rattle.bits.proofs.Laws.{lt-or-ge}
-use Rattle.message.proofs.Legal.{Sizes, legal-bounds, sizes}
+use Rattle.bits.proofs.Laws.{lt_or_ge}
+use Rattle.message.proofs.Legal.{Sizes, legal_bounds, sizes}
 use Rattle.lines.specs.Lines.{values}
 use Rattle.found.specs.Found.{Sent}
 use Rattle.rows.specs.Held.{Known}
-use Rattle.rows.specs.Slice.{rowsIn}
-use Rattle.message.specs.Layout.{rowBits}
-use Rattle.found.proofs.Found.{grown-weaken, grown-none, grown-nothing, grown-then}
+use Rattle.rows.specs.Slice.{rows_of_slice}
+use Rattle.message.specs.Layout.{row_bits}
+use Rattle.found.proofs.Found.{grown_weaken, grown_none, grown_nothing, grown_then}
 use Rattle.states.specs.States.{each}
-use Rattle.marks.specs.Marks.{Path, Through, apartFrom}
+use Rattle.marks.specs.Marks.{Path, Through, apart_from}
 use Rattle.cells.specs.Cells.{SameBut}
-use Rattle.cells.proofs.Same.{same-trans, same-wider}
-use Rattle.tables.specs.Tables.{Undecided, Free, Under, ownLeft, ShapeOf, Looked, Comes, apart}
-use Rattle.tables.proofs.Coming.{fits, few-left}
-use Rattle.tables.proofs.Ending.{block-sum}
+use Rattle.cells.proofs.Same.{same_trans, same_wider}
+use Rattle.tables.specs.Tables.{Undecided, Free, Under, own_left, ShapeOf, Looked, Comes, apart}
+use Rattle.tables.proofs.Coming.{fits, few_left}
+use Rattle.tables.proofs.Ending.{block_sum}
 use Rattle.tables.proofs.Making.{under_same}
-use Rattle.tables.proofs.Own.{cleared-same, in-hand, own-path}
+use Rattle.tables.proofs.Own.{cleared_same, in_hand, own-path}
 use Rattle.tables.proofs.tables.Statement.{statement}
 use Rattle.tables.proofs.tables.Tie as tie
 
@@ -77,14 +77,14 @@ abbrev unmarked : tie.After-columns-arg5 → tie.After-fill
 unmarked c = (lent c).before
 
 high : (s : tie.Start) → Sizes s.args.l
-high s = sizes s.args.l (legal-bounds s.args.l s.requires.0.0.is-legal)
+high s = sizes s.args.l (legal_bounds s.args.l s.requires.0.0.is_legal)
 
 slice-aggregate-light-sums : tie.Need-slice-aggregate-light-sums
 slice-aggregate-light-sums c = search rules
 
 light-sums-requires : tie.Need-light-sums-requires
 light-sums-requires c κs =
-    let s = asked c in (fits s.pre.0.0 s.pre.1.0.0, (s.pre.1.1.1.0.0, (high s).l2-high))
+    let s = asked c in (fits s.pre.0.0 s.pre.1.0.0, (s.pre.1.1.1.0.0, (high s).l2_high))
 
 slice-aggregate-enough : tie.Need-slice-aggregate-enough
 slice-aggregate-enough c = search rules
@@ -94,26 +94,26 @@ enough-requires c κs =
     let b = c.before.before.before.before in
     let s = entry b in
     let long = b.light-sums.auto.1.1.1.1.1.0 in
-    (fits s.pre.0.0 s.pre.1.0.0, (s.pre.1.1.0, omega (arith, (high s).l2-high, long)))
+    (fits s.pre.0.0 s.pre.1.0.0, (s.pre.1.1.0, omega (arith, (high s).l2_high, long)))
 
 -- a row under the table with which the columns begin has a path through the loss states
 path : (s : tie.Start) → let a = s.args in
     (x : List ℕ) → Sent a.l a.numbers.now a.y.now x
     → Under a.l a.y.now a.heavy 0 0 a.t a.row.now x
     → Path a.l a.y.now a.numbers.now a.heavy a.row.now (each a.t.left) (values a.l x)
-    (ownLeft a.l a.y.now a.heavy x)
+    (own_left a.l a.y.now a.heavy x)
 path s x sent u = let p = s.requires in own-path p.0.0 sent p.1.0.0 u p.1.0.1
 
 -- of the row in hand, only chunks of heavy blocks are changed where the sums are known
 cleared : (b : tie.After-light-sums) → let a = (entry b).args in
     SameBut a.l (Undecided a.heavy 0 0) a.row.now b.light-sums.new.1.1.1.1.0
-cleared b = let a = (entry b).args in cleared-same a.l a.heavy _ _ b.light-sums.ensures.1
+cleared b = let a = (entry b).args in cleared_same a.l a.heavy _ _ b.light-sums.ensures.1
 
 -- so the rows under the first table are the same
 cleared-under : (b : tie.After-light-sums) → let a = (entry b).args in (x : List ℕ)
     → Under a.l a.y.now a.heavy 0 0 a.t a.row.now x
     → Under a.l a.y.now a.heavy 0 0 a.t b.light-sums.new.1.1.1.1.0 x
-cleared-under b x u = under_same (same-wider (λ i c p q. inl) (cleared b)) u
+cleared-under b x u = under_same (same_wider (λ i c p q. inl) (cleared b)) u
 
 same_length : tie.Need-same-length
 same_length c = c.before.before.before.before.before.before.light-sums.auto.1.1.1.1.0
@@ -122,7 +122,7 @@ returns : tie.Need-returns
 returns c =
     let b = c.before.before.before.before.before.before in
     let enough = c.before.enough.ensures in (
-      grown-nothing (entry b).requires.0.1
+      grown_nothing (entry b).requires.0.1
           (λ x sent u.
           false≢true
           (sym (not-true _ c.if1.true) ∙ enough _ _ _ b.light-sums.ensures.0 (path (entry b) x sent u))),
@@ -134,7 +134,7 @@ apart-light-requires c κs =
     let b = c.before.before.before.before.before.before.before in
     let s = entry b in
     let sound = s.pre.1.0.0 in (
-      s.pre.0.0.is-legal,
+      s.pre.0.0.is_legal,
       (
         record { few = sound.few; inside = sound.inside; ascending = sound.ascending },
         (omega (arith, s.pre.1.1.1.0.0, b.light-sums.auto.1.1.1.1.0), s.pre.1.1.1.0.1),
@@ -152,25 +152,25 @@ all-near-requires c κs =
     let b = summed_at c.before in
     let s = entry b in
     let long = b.light-sums.kept.1.1.1.1.1.0 in
-    (fits s.pre.0.0 s.pre.1.0.0, (s.pre.1.1.0, (omega (arith, (high s).l2-high, long), s.pre.1.1.1.0.1)))
+    (fits s.pre.0.0 s.pre.1.0.0, (s.pre.1.1.0, (omega (arith, (high s).l2_high, long), s.pre.1.1.1.0.1)))
 
 -- and it differs from z in at most so many chunks beside those of the heavy blocks
 within : (c : tie.Joined2) → let a = (entry_at c).args in
     (x : List ℕ) → Sent a.l a.numbers.now a.y.now x
     → Under a.l a.y.now a.heavy 0 0 a.t a.row.now x
-    → apart a.l a.z.now x ≤ (compared_at c).apart-light.result + apartFrom a.l a.heavy a.z.now
+    → apart a.l a.z.now x ≤ (compared_at c).apart-light.result + apart_from a.l a.heavy a.z.now
     (values a.l x) 0
 within c x sent u =
     let p = (entry_at c).requires in
     (compared_at c).apart-light.ensures.0 (values (entry_at c).args.l x)
-    (in-hand p.0.0 sent p.1.0.0 (cleared-under (summed_at c) x u) p.1.0.1)
+    (in_hand p.0.0 sent p.1.0.0 (cleared-under (summed_at c) x u) p.1.0.1)
 
 -- one that differs from z in fewer chunks of the heavy blocks than are asked for is known
 near-known : (c : tie.Joined2) → let s = entry_at c in let a = s.args in
     (x : List ℕ) → Sent a.l a.numbers.now a.y.now x
     → Under a.l a.y.now a.heavy 0 0 a.t a.row.now x
-    → apartFrom a.l a.heavy a.z.now (values a.l x) 0 < c.if2.rest
-    → Known (rowsIn (rowBits a.l) a.list.now a.kept.count a.kept.more) x
+    → apart_from a.l a.heavy a.z.now (values a.l x) 0 < c.if2.rest
+    → Known (rows_of_slice (row_bits a.l) a.list.now a.kept.count a.kept.more) x
 near-known c x sent u near =
     (entry_at c).requires.1.1.1.1 x sent
     (⊎_elim
@@ -182,7 +182,7 @@ abbrev Near : tie.Joined2 → List ℕ → Type 0
 Near c x =
     let a = (entry_at c).args in
     Under a.l a.y.now a.heavy 0 0 a.t a.row.now x
-    × (apartFrom a.l a.heavy a.z.now (values a.l x) 0 < c.if2.rest)
+    × (apart_from a.l a.heavy a.z.now (values a.l x) 0 < c.if2.rest)
 
 same-length-2 : tie.Need-same-length-2
 same-length-2 c = (summed_at c.before.before.before).light-sums.auto.1.1.1.1.0
@@ -192,7 +192,7 @@ returns-2 : tie.Need-returns-2
 returns-2 c =
     let n = c.before in
     let q = n.before.before in (
-      grown-none (entry_at q).requires.0.1
+      grown_none (entry_at q).requires.0.1
           (λ x sent u.
           near-known q x sent u
           (n.all_Near.ensures c.if3.true _ _ _ (summed_at q).light-sums.ensures.0 (path (entry_at q) x sent u))),
@@ -206,14 +206,14 @@ slice-aggregate-prepare-2 : tie.Need-slice-aggregate-prepare-2
 slice-aggregate-prepare-2 c = search rules
 
 marks-pay-requires : tie.Need-marks-pay-requires
-marks-pay-requires c κs = (entry_at c.before.before.before.before).requires.0.0.is-legal
+marks-pay-requires c κs = (entry_at c.before.before.before.before).requires.0.0.is_legal
 
 prepare-requires : tie.Need-prepare-requires
 prepare-requires c κs =
     let b = summed_at c.before.before.before.before.before.before in
     let s = entry b in
     let long = b.light-sums.kept.1.1.1.1.1.0 in
-    (fits s.pre.0.0 s.pre.1.0.0, (s.pre.1.1.0, (omega (arith, (high s).l2-high, long), s.pre.1.1.1.0.1)))
+    (fits s.pre.0.0 s.pre.1.0.0, (s.pre.1.1.0, (omega (arith, (high s).l2_high, long), s.pre.1.1.1.0.1)))
 
 same-length-3 : tie.Need-same-length-3
 same-length-3 c = (summed c.before.before).light-sums.auto.1.1.1.1.0
@@ -223,12 +223,12 @@ returns-3 c =
     let q = c.before.before in
     let a = (start q).args in
     let g = q.prepare.ensures.1.1 in (
-      grown-none (start q).requires.0.1
+      grown_none (start q).requires.0.1
           (λ x sent u.
           ⊎_elim
           (near-known (rested q) x sent u)
           (λ far. absurd ((g _ _ _ (summed q).light-sums.ensures.0 (path (start q) x sent u) far).0 c.if4.true))
-          (lt-or-ge (apartFrom a.l a.heavy a.z.now (values a.l x) 0) _)),
+          (lt_or_ge (apart_from a.l a.heavy a.z.now (values a.l x) 0) _)),
       cleared (summed q),
     )
 
@@ -241,7 +241,7 @@ looked c =
     let long = (summed c).light-sums.auto.1.1.1.1.1.0 in
     record {
       tables = s.pre.1.1.0;
-      sums = omega (arith, (high s).l2-high, long);
+      sums = omega (arith, (high s).l2_high, long);
       others = s.pre.1.1.1.0.1;
       small = omega (arith, (compared c).apart-light.ensures.1);
     }
@@ -251,7 +251,7 @@ at-first-requires c κs =
     let s = start c.before.before in
     let p = s.pre in
     let sound = p.1.0.0 in
-    (p.0.0.is-legal, (sound.few, λ r h. omega (arith, sound.inside r h, p.0.0.count)))
+    (p.0.0.is_legal, (sound.few, λ r h. omega (arith, sound.inside r h, p.0.0.count)))
 
 slice-aggregate-fill : tie.Need-slice-aggregate-fill
 slice-aggregate-fill c = search rules
@@ -260,7 +260,7 @@ fill-requires : tie.Need-fill-requires
 fill-requires c κs =
     let p = (start c.before.before.before.before).requires in
     let sound = p.1.0.0 in
-    (fits p.0.0 sound, (λ r h. few-left sound r, omega arith))
+    (fits p.0.0 sound, (λ r h. few_left sound r, omega arith))
 
 -- the table of rests when it is filled
 abbrev brings : tie.After-fill → List ℕ
@@ -270,8 +270,8 @@ brings c = c.fill.new.1.1.1.1.1.0
 comes : (d : tie.After-fill) (marks : List ℕ) → let c = prepared d in let a = (start c).args in
     (x : List ℕ) → Sent a.l a.numbers.now a.y.now x
     → Under a.l a.y.now a.heavy 0 0 a.t a.row.now x
-    → Through a.l c.prepare.result.shape marks (ownLeft a.l a.y.now a.heavy x)
-    (apartFrom a.l a.heavy a.z.now (values a.l x))
+    → Through a.l c.prepare.result.shape marks (own_left a.l a.y.now a.heavy x)
+    (apart_from a.l a.heavy a.z.now (values a.l x))
     → Comes a.l a.y.now a.numbers.now a.heavy c.prepare.result.shape
     (summed c).light-sums.last.1.1.1.1.1.0 marks (brings d) a.z.now d.before.before.at_first.result
     (compared c).apart-light.result 0 x
@@ -285,11 +285,11 @@ comes d marks x sent u t =
       light = (summed c).light-sums.ensures.0;
       path = subst
           (λ (v : List ℕ). Path a.l a.y.now a.numbers.now a.heavy a.row.now (each v) (values a.l x)
-          (ownLeft a.l a.y.now a.heavy x))
+          (own_left a.l a.y.now a.heavy x))
           (sym c.prepare.ensures.0.1) (path (start c) x sent u);
       through = t;
       sums = d.before.before.at_first.ensures (values a.l x)
-          (λ r h. block-sum s.pre.0.0 x sent (get_or a.heavy.block r 0) (inside r h));
+          (λ r h. block_sum s.pre.0.0 x sent (get_or a.heavy.block r 0) (inside r h));
       rest-sums = d.fill.ensures.0 _ _ _ (path s x sent u);
       within = within (rested c) x sent u;
     }
@@ -325,8 +325,8 @@ changed : (c : tie.After-prepare) {after : List ℕ} → let a = (start c).args 
     → SameBut a.l (Undecided a.heavy 0 0) a.row.now after
 changed c s =
     let p = (start c).requires.1.0 in
-    same-trans (cleared (summed c))
-    (same-wider
+    same_trans (cleared (summed c))
+    (same_wider
     (λ i j g h. ⊎_elim (λ w. w) (λ o. absurd (omega (arith, o.1.0.1, p.0.fresh o.0 (omega (arith, p.1))))))
     s)
 
@@ -355,7 +355,7 @@ returns-4 c =
     let h = (start q).pre.0.1 in
     let g = q.prepare.ensures.1.1 in
     let hand = (summed q).light-sums.last.1.1.1.1.0 in (
-      grown-weaken
+      grown_weaken
           (λ x sent u.
           ⊎_elim
           {C = Near (rested q) x
@@ -369,8 +369,8 @@ returns-4 c =
             cleared-under (summed q) x u,
             comes d _ x sent u ((g _ _ _ (summed q).light-sums.ensures.0 (path (start q) x sent u) far).1 kept),
           ))
-          (lt-or-ge (apartFrom a.l a.heavy a.z.now (values a.l x) 0) _))
-          (grown-then h (grown-none h {P = Near (rested q)} (λ x sent p. near-known (rested q) x sent p.0 p.1))
+          (lt_or_ge (apart_from a.l a.heavy a.z.now (values a.l x) 0) _))
+          (grown_then h (grown_none h {P = Near (rested q)} (λ x sent p. near-known (rested q) x sent p.0 p.1))
           c.before.before.before.before.columns.ensures.0),
       changed q c.before.before.before.before.columns.ensures.1,
     )
@@ -410,7 +410,7 @@ returns-5 : tie.Need-returns-5
 returns-5 c =
     let m = c.before.before.before.before.before in
     let q = prepared (unmarked m) in (
-      grown-weaken
+      grown_weaken
           (λ x sent u. (
             cleared-under (summed q) x u,
             comes (unmarked m) _ x sent u (λ j h k. absurd (omega (arith, k))),

@@ -7,8 +7,8 @@ use native.Mathlib.Omega.{arith}
 use borrow.Author.Rules.{rules}
 use borrow.Author.Tests.{not-true, not-false}
 use lib.ListN.{length}
-use Rattle.turns.proofs.Advance.{still-none, grown-failed, grown-advanced}
-use Rattle.consistent.specs.Greedy.{inAll}
+use Rattle.turns.proofs.Advance.{still-none, grown_failed, grown_advanced}
+use Rattle.consistent.specs.Greedy.{in_all}
 use borrow.Fn.Kinds.{In}
 use borrow.Fn.PlainCycle.{Measures, is, falls, and}
 use Rattle.turns.proofs.mend_blocks.Reads as mend-blocks
@@ -23,10 +23,10 @@ use Rattle.turns.proofs.+mend_blocks_mend_strings.{statement}
 use Rattle.turns.proofs.+mend_blocks_mend_strings.Tie.{close}
 
 abbrev μ-mend-blocks : Measures 4 mend-blocks-kinds.ps ℕ
-μ-mend-blocks κs a = inAll a.1.1.1.0.lost
+μ-mend-blocks κs a = in_all a.1.1.1.0.lost
 
 abbrev μ-mend-strings : Measures 4 mend-strings-kinds.ps ℕ
-μ-mend-strings κs a = inAll a.1.1.1.0.lost
+μ-mend-strings κs a = in_all a.1.1.1.0.lost
 
 abbrev mend-blocks-at : ℕ → In 4 mend-blocks-kinds.ps
 mend-blocks-at t =
@@ -107,7 +107,7 @@ mend-blocks-returns : (t : ℕ) → mend-blocks-lts.Need-returns (mend-blocks-cl
 mend-blocks-returns t c =
     let q = c.before.before.before.before in
     let s = blocks_start t q in
-    grown-failed q.take-turn.ensures.0 s.pre.1.1.0 (not-true _ c.if1.true)
+    grown_failed q.take-turn.ensures.0 s.pre.1.1.0 (not-true _ c.if1.true)
 
 mend-blocks-fill-requires : (t : ℕ)
     → mend-blocks-lts.Need-fill-requires (mend-blocks-claims t) (mend-blocks-at t) mend-blocks.Post
@@ -133,7 +133,7 @@ mend-blocks-returns-2 : (t : ℕ)
 mend-blocks-returns-2 t c =
     let r = c.before.before.before.before in
     let q = (blocks-taken t r.before.before.before.before).take-turn in
-    grown-advanced q.ensures.0 r.fill.ensures
+    grown_advanced q.ensures.0 r.fill.ensures
 
 mend-blocks-mend-strings-requires : (t : ℕ)
     → mend-blocks-lts.Need-mend-strings-requires (mend-blocks-claims t) (mend-blocks-at t) mend-blocks.Post
@@ -161,7 +161,7 @@ mend-blocks-returns-3 : (t : ℕ)
 mend-blocks-returns-3 t c =
     let r = c.before.before.before.before in
     let q = (blocks-taken t r.before.before.before.before).take-turn in
-    grown-advanced q.ensures.0 r.mend-strings.ensures
+    grown_advanced q.ensures.0 r.mend-strings.ensures
 
 -- places of `mend_strings`: the entry, where the turn is taken, and where a cell was found
 abbrev Strings-start : ℕ → Type 0
@@ -203,7 +203,7 @@ mend-strings-returns : (t : ℕ)
 mend-strings-returns t c =
     let q = c.before.before.before.before in
     let s = strings-start t q in
-    grown-failed q.take-turn.ensures.0 s.pre.1.1.0 (not-true _ c.if1.true)
+    grown_failed q.take-turn.ensures.0 s.pre.1.1.0 (not-true _ c.if1.true)
 
 mend-strings-fill-requires : (t : ℕ)
     → mend-strings-lts.Need-fill-requires (mend-strings-claims t) (mend-strings-at t) mend-strings.Post
@@ -229,7 +229,7 @@ mend-strings-returns-2 : (t : ℕ)
 mend-strings-returns-2 t c =
     let r = c.before.before.before.before in
     let q = (strings-taken t r.before.before.before.before).take-turn in
-    grown-advanced q.ensures.0 r.fill.ensures
+    grown_advanced q.ensures.0 r.fill.ensures
 
 mend-strings-mend-blocks-requires : (t : ℕ)
     → mend-strings-lts.Need-mend-blocks-requires (mend-strings-claims t) (mend-strings-at t) mend-strings.Post
@@ -257,7 +257,7 @@ mend-strings-returns-3 : (t : ℕ)
 mend-strings-returns-3 t c =
     let r = c.before.before.before.before in
     let q = (strings-taken t r.before.before.before.before).take-turn in
-    grown-advanced q.ensures.0 r.mend-blocks.ensures
+    grown_advanced q.ensures.0 r.mend-blocks.ensures
 
 pub +mend-blocks-mend-strings-spec : {M : Type 1} → statement M
 +mend-blocks-mend-strings-spec = close μ-mend-blocks μ-mend-strings (λ t. mend-blocks-lts.spec (mend-blocks-claims t)

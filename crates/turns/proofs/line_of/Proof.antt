@@ -1,7 +1,7 @@
 -- `turns::line_of` meets its contract. A legal layout has few chunks, so no number is too large. Assumes nothing.
 use mathlib.Core.Path.{refl}
 use native.Mathlib.Omega.{arith}
-use Rattle.message.proofs.Legal.{legal-bounds, sizes}
+use Rattle.message.proofs.Legal.{legal_bounds, sizes}
 use Rattle.cells.proofs.State.{chunk-low}
 use Rattle.turns.proofs.line_of.Statement.{statement}
 use Rattle.turns.proofs.line_of.Tie as tie
@@ -9,7 +9,7 @@ use Rattle.turns.proofs.line_of.Tie as tie
 add-t6 : tie.Need-overflow-add-t6
 add-t6 c =
     let s = c.before.before in
-    record { fits = omega (arith, sizes s.args.l (legal-bounds s.args.l s.requires.0)) }
+    record { fits = omega (arith, sizes s.args.l (legal_bounds s.args.l s.requires.0)) }
 
 returns : tie.Need-returns
 returns c = rw c.before.if1.true refl

@@ -12,7 +12,7 @@ use lib.Seq.{length-take-le}
 use Rattle.bits.specs.Bits.{digits}
 use Rattle.bits.proofs.Laws.{bits-take, bits-drop}
 use Rattle.consistent.specs.Greedy.{losses}
-use Rattle.turns.specs.Turns.{chunkAt, Short}
+use Rattle.turns.specs.Turns.{chunk_at, Short}
 use Rattle.turns.proofs.Short.{short-bits}
 use Rattle.turns.proofs.mend_cell.Statement.{statement}
 use Rattle.turns.proofs.mend_cell.Tie as tie
@@ -75,7 +75,7 @@ mend-line-requires c κs =
 found-there : (c : tie.After-mend-line) →
     let a = (start c.before).args in
     (us : List ℕ) → Short a.nc a.n a.sum (drop a.place a.y.now) a.row.now us
-    → (c.mend-line.result.ok ≡ true) × (c.mend-line.result.value ≡ chunkAt a.n us)
+    → (c.mend-line.result.ok ≡ true) × (c.mend-line.result.value ≡ chunk_at a.n us)
 found-there c us k =
     let a = (start c.before).args in
     c.mend-line.ensures us (rw (at-hand a.place (a.nc - 1) a.y.now) (short-bits k).1)

@@ -7,15 +7,15 @@ use native.Mathlib.Omega.{arith}
 use borrow.Author.Rules.{rules}
 use lib.ListN.{length, get_or, take, drop, set}
 use lib.Seq.{length-take-le}
-use Rattle.bits.specs.Bits.{mostChunks}
-use Rattle.message.proofs.Legal.{legal-bounds, sizes}
+use Rattle.bits.specs.Bits.{most_chunks}
+use Rattle.message.proofs.Legal.{legal_bounds, sizes}
 use Rattle.lines.specs.Lines.{values}
 use Rattle.cells.specs.Cells.{chunk_of, OpenAt, SameBut}
 use Rattle.cells.proofs.Same.{under_same}
 use Rattle.cells.proofs.State.{chunk_inside}
-use Rattle.turns.specs.Turns.{line_of, Ready, chunkAt, Short}
+use Rattle.turns.specs.Turns.{line_of, Ready, chunk_at, Short}
 use Rattle.turns.specs.declared.Line.{Line}
-use Rattle.turns.proofs.Short.{block-low, column-low, single-number, single-ready, single-short, single-found, single-set, front_same}
+use Rattle.turns.proofs.Short.{block_low, column-low, single_number, single_ready, single_short, single_found, single_set, front_same}
 use Rattle.turns.proofs.mend_one.Statement.{statement}
 use Rattle.turns.proofs.mend_one.Tie as tie
 
@@ -37,7 +37,7 @@ its-line s = line_of s.args.strings s.args.l (block_of s) (column-of s)
 in-layout : (s : tie.Start) → (block_of s < s.args.l.l1) × (column-of s < s.args.l.l2)
 in-layout s =
     let p = s.requires.1 in (
-      block-low s.requires.0.0 s.args.t5 p.0 s.args.strings p.1.0 p.1.1,
+      block_low s.requires.0.0 s.args.t5 p.0 s.args.strings p.1.0 p.1.1,
       column-low s.requires.0.0 s.args.t5 p.0 s.args.strings p.1.0 p.1.1,
     )
 
@@ -62,7 +62,7 @@ line-of-requires : tie.Need-line-of-requires
 line-of-requires c κs =
     let s = entry c in
     let i = in-layout s in
-    (s.pre.0.0.is-legal, (rw c.before.before.wide.ensures i.0, rw c.wide2.ensures i.1))
+    (s.pre.0.0.is_legal, (rw c.before.before.wide.ensures i.0, rw c.wide2.ensures i.1))
 
 -- and seen from its answer
 abbrev start : tie.After-line-of → tie.Start
@@ -81,7 +81,7 @@ number-here c =
     let p = s.pre.1 in
     subst (λ (n : Line). n.number < length s.args.numbers.now)
     (sym (line-here c))
-    (single-number s.pre.0.0 s.args.t5 p.0 s.args.strings p.1.0 p.1.1)
+    (single_number s.pre.0.0 s.args.t5 p.0 s.args.strings p.1.0 p.1.1)
 
 mul-sum : tie.Need-overflow-mul-sum
 mul-sum c = let h = number-here c in search rules
@@ -121,7 +121,7 @@ mend-cell-requires c κs =
     (subst (λ (n : Line). Ready a.l.nc a.y.now (get_or a.t5.place a.z 0) n
     (get_or a.numbers.now n.number 0) count)
     (sym (line-here q))
-    (single-ready s.pre.0.0 a.t5 p.0 a.strings p.1.0 p.1.1))
+    (single_ready s.pre.0.0 a.t5 p.0 a.strings p.1.0 p.1.1))
 
 element-write-next : tie.Need-element-write-next
 element-write-next c = search rules
@@ -137,13 +137,13 @@ chunk-here c =
 
 chunk_in : (c : tie.After-line-of) →
     let l = (start c).args.l in
-    (place c < l.l1 * l.l2) × (l.l1 * l.l2 ≤ mostChunks)
+    (place c < l.l1 * l.l2) × (l.l1 * l.l2 ≤ most_chunks)
 chunk_in c =
     let s = start c in
     let l = s.args.l in
     let i = in-layout s in
     let low = chunk_inside l (block_of s) (column-of s) i.0 i.1 in
-    (omega (arith, chunk-here c, low), (sizes l (legal-bounds l s.pre.0.0.is-legal)).chunks)
+    (omega (arith, chunk-here c, low), (sizes l (legal_bounds l s.pre.0.0.is_legal)).chunks)
 
 -- the chunk's line, seen from where the cell is mended
 abbrev lined : tie.After-mend-cell → tie.After-line-of
@@ -182,20 +182,20 @@ returns c =
       keeps = λ x t u.
           let vs = values a.l x in
           let v = under_same (front_same a.l (OpenAt a.t5) row) u in
-          let short = single-short s.pre.0.0 a.t5 p.0 a.strings p.1.0 p.1.1 w.0 w.1 t v in
+          let short = single_short s.pre.0.0 a.t5 p.0 a.strings p.1.0 p.1.1 w.0 w.1 t v in
           let m =
           mends vs
           (subst (λ (n : Line). Short a.l.nc n (get_or ns n.number 0) z front vs) (sym (line-here q)) short)
           in (
             m.0,
             rw (chunk-here q)
-                (single-found s.pre.0.0 a.t5 p.0 a.strings p.1.0 p.1.1 w.0 w.1 t u
-                s.pre.0.1 (m.1 ∙ ap (λ (n : Line). chunkAt n vs) (line-here q))),
+                (single_found s.pre.0.0 a.t5 p.0 a.strings p.1.0 p.1.1 w.0 w.1 t u
+                s.pre.0.1 (m.1 ∙ ap (λ (n : Line). chunk_at n vs) (line-here q))),
           );
       same =
           subst (λ (at : ℕ). SameBut a.l (OpenAt a.t5) row (set row at c.before.mend-cell.result.value))
           (sym (chunk-here q))
-          (single-set s.pre.0.0 a.t5 p.0 a.strings p.1.0 p.1.1
+          (single_set s.pre.0.0 a.t5 p.0 a.strings p.1.0 p.1.1
           c.before.mend-cell.result.value);
     }
 

@@ -8,10 +8,10 @@ use native.Mathlib.Omega.{arith}
 use borrow.Author.Rules.{rules}
 use borrow.Author.Tests.{not-true}
 use lib.ListN.{length, get_or}
-use Rattle.consistent.specs.Greedy.{inAll}
+use Rattle.consistent.specs.Greedy.{in_all}
 use Rattle.cells.specs.Cells.{NoSingle, SingleAt}
 use Rattle.turns.specs.Turns.{keys_of, Advanced}
-use Rattle.turns.proofs.Advance.{advanced-none, advanced-next, falls}
+use Rattle.turns.proofs.Advance.{advanced_none, advanced_next, falls}
 use Rattle.turns.proofs.take_turn.Statement.{statement}
 use Rattle.turns.proofs.take_turn.Tie as tie
 
@@ -23,7 +23,7 @@ invariant-loop strings l y numbers row₀ t₀ z₀ row t z =
     × (z ≡ 12 → NoSingle (keys_of strings t.cells) t.cells.lost)))
 
 abbrev decreases-loop : tie.decreases-loop
-decreases-loop strings l y numbers row₀ t₀ z₀ row t z = inAll t.cells.lost
+decreases-loop strings l y numbers row₀ t₀ z₀ row t z = in_all t.cells.lost
 
 single-requires : tie.Need-single-requires invariant-loop decreases-loop
 single-requires c κs = search rules
@@ -31,7 +31,7 @@ single-requires c κs = search rules
 loop-holds : tie.Need-loop-init invariant-loop decreases-loop
 loop-holds c =
     let s = c.before.before.before.before in
-    ((advanced-none s.args.numbers.now s.requires.1, refl), c.single.ensures)
+    ((advanced_none s.args.numbers.now s.requires.1, refl), c.single.ensures)
 
 -- where the function starts, seen from the loop
 abbrev start : tie.At-loop invariant-loop decreases-loop → tie.Start invariant-loop decreases-loop
@@ -61,7 +61,7 @@ one_more : (c : tie.After-mend-one invariant-loop decreases-loop) →
     let a = (start (turn c)).args in
     Advanced a.l a.numbers.now a.y.now a.cells a.row.now c.mend-one.result
     c.mend-one.new.1.1.1.1.1.0
-one_more c = advanced-next (turn c).loop.invariant.0.0 (was-open c) c.mend-one.ensures
+one_more c = advanced_next (turn c).loop.invariant.0.0 (was-open c) c.mend-one.ensures
 
 -- the length of the row stays
 size : (c : tie.After-mend-one invariant-loop decreases-loop)

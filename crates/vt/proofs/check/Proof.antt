@@ -4,7 +4,7 @@ use mathlib.Core.Path.{refl, sym, ◌∙◌}
 use native.Mathlib.Omega.{arith}
 use borrow.Author.Tests.{not-true, not-false}
 use Rattle.bits.proofs.fits.Reads as fits-reads
-use Rattle.vt.proofs.Refusing.{too_short, too_long, no-sum, not-packed, no_room, none}
+use Rattle.vt.proofs.Refusing.{too_short, too_long, no_sum, not_packed, no_room, none}
 use Rattle.vt.proofs.check.Lts as lts
 use Rattle.vt.proofs.check.Reads as reads
 use Rattle.vt.proofs.check.Statement.{statement}
@@ -30,7 +30,7 @@ returns-2 c =
 returns-3 : tie.Need-returns-3
 returns-3 c =
     let a = c.before.before.before.before.args in
-    rw (no-sum a.w a.s a.bits.now a.room (omega arith) (omega arith) (omega arith)) refl
+    rw (no_sum a.w a.s a.bits.now a.room (omega arith) (omega arith) (omega arith)) refl
 
 fits-requires : tie.Need-fits-requires
 fits-requires c κs = search rules
@@ -40,7 +40,7 @@ returns-4 c =
     let f = c.before in
     let a = (start f).args in
     let n = sym f.fits2.ensures ∙ not-true f.fits2.result c.if4.true in
-    rw (not-packed a.w a.s a.bits.now a.room (omega arith) (omega arith) (omega arith) n) refl
+    rw (not_packed a.w a.s a.bits.now a.room (omega arith) (omega arith) (omega arith) n) refl
 
 add-if5 : tie.Need-overflow-add-if5
 add-if5 c = search rules

@@ -11,7 +11,7 @@ use Rattle.bits.proofs.Laws.{bits-take, bits-drop, bits-unpack, length-unpack}
 use Rattle.bits.proofs.Packing.{fits-length}
 use Rattle.vt.specs.Ones.{ones}
 use Rattle.vt.proofs.Totals.{ones-length}
-use Rattle.vt.proofs.Weighing.{part_length, part-lent, part-ones}
+use Rattle.vt.proofs.Weighing.{part_length, part_lent, part_ones}
 use Rattle.vt.proofs.find_packed.Statement.{statement}
 use Rattle.vt.proofs.find_packed.Tie as tie
 
@@ -66,7 +66,7 @@ lent : (c : tie.After-unpack) → let f = c.before.before.before in let q = f.fi
 lent c =
     let f = c.before.before.before in
     let q = f.find-part.result in
-    part-lent f.before.before.args.s.now q.byte q.size (fit f).0 c.unpack.new.1.1.0 _
+    part_lent f.before.before.args.s.now q.byte q.size (fit f).0 c.unpack.new.1.1.0 _
     c.unpack.ensures
 
 mul-find-place : tie.Need-overflow-mul-find-place
@@ -112,7 +112,7 @@ returns c =
     let k = rw (lent u) at p.ensures in
     let h : p.result.at ≤ q.size = omega (arith, k.0.0) in (
       (omega (arith, e.inside), k.0.1),
-      omega (arith, k.1, part-ones s q.byte q.size (fit f).0 p.result.at h, e.rest),
+      omega (arith, k.1, part_ones s q.byte q.size (fit f).0 p.result.at h, e.rest),
     )
 
 pub find-packed-spec : {M : Type 1} → statement M

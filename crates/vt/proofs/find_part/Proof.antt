@@ -13,7 +13,7 @@ use Rattle.bits.proofs.Packing.{fits-blank, fits-length}
 use Rattle.vt.specs.Ones.{ones}
 use Rattle.vt.specs.Places.{Reach}
 use Rattle.vt.proofs.Totals.{ones-length, reach-start}
-use Rattle.vt.proofs.Weighing.{ones-byte, ones-part, blank-ones}
+use Rattle.vt.proofs.Weighing.{ones-byte, ones_part, blank-ones}
 use Rattle.vt.proofs.find_part.Statement.{statement}
 use Rattle.vt.proofs.find_part.Tie as tie
 
@@ -85,7 +85,7 @@ returns c =
     record {
       small = omega arith;
       inside = omega arith;
-      counted = omega (arith, b, ones-part u (i * 8) 8, p.invariant.1.1.0);
+      counted = omega (arith, b, ones_part u (i * 8) 8, p.invariant.1.1.0);
       rest = omega (arith, b);
       low = c.before.if1.true;
       reach = ⊎_elim (λ l. inl l) (λ l. inr (l.0, omega (arith, c.if2.true))) p.invariant.1.1.1;
@@ -132,7 +132,7 @@ returns-2 c =
     record {
       small = omega arith;
       inside = omega arith;
-      counted = omega (arith, z, ones-part u (p.i * 8) (a.n - p.i * 8), p.invariant.1.1.0);
+      counted = omega (arith, z, ones_part u (p.i * 8) (a.n - p.i * 8), p.invariant.1.1.0);
       rest = sym z;
       low = omega arith;
       reach = ⊎_elim (λ l. inl l) (λ l. inr (l.0, omega (arith, l.1))) p.invariant.1.1.1;

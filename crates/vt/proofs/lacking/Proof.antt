@@ -2,7 +2,7 @@
 use borrow.Author.Rules.{rules}
 use Prim.Native.Nat.{◌+◌}
 use native.Mathlib.Omega.{arith}
-use Rattle.vt.proofs.Mending.{lack, lack-fits, lack-small}
+use Rattle.vt.proofs.Mending.{lack, lack_fits, lack_small}
 use Rattle.vt.proofs.lacking.Statement.{statement}
 use Rattle.vt.proofs.lacking.Tie as tie
 
@@ -16,7 +16,7 @@ rem-result : tie.Need-nonzero-rem-result
 rem-result c = search rules
 
 sub-result : tie.Need-overflow-sub-result
-sub-result c = lack-fits _ _ _ (omega arith)
+sub-result c = lack_fits _ _ _ (omega arith)
 
 rem-result-2 : tie.Need-nonzero-rem-result-2
 rem-result-2 c = search rules
@@ -24,7 +24,7 @@ rem-result-2 c = search rules
 returns : tie.Need-returns
 returns c =
     let a = c.args in (
-      lack-small a.total a.s (a.w + 1) a.w (omega arith) (omega arith),
+      lack_small a.total a.s (a.w + 1) a.w (omega arith) (omega arith),
       lack a.total a.s (a.w + 1) (omega arith),
     )
 

@@ -3,8 +3,8 @@
 use borrow.Author.Rules.{rules}
 use mathlib.Core.Path.{◌≡◌}
 use lib.ListN.{length}
-use Rattle.vt.specs.Mend.{mendRefusal}
-use Rattle.vt.proofs.Refusing.{admitted, done-number, refused-number, target-done, target-refused}
+use Rattle.vt.specs.Mend.{mend_refusal}
+use Rattle.vt.proofs.Refusing.{admitted, done_number, refused_number, target_done, target_refused}
 use Rattle.vt.proofs.check.Reads as check-reads
 use Rattle.vt.proofs.mend.Lts as lts
 use Rattle.vt.proofs.mend.Reads as reads
@@ -32,11 +32,11 @@ start c = c.before.before.before
 
 -- no check applies there
 passed : (c : Passed) → let a = (start c.before.before).args in
-    mendRefusal a.w a.s a.bits.now (length a.out.now) ≡ 0
+    mend_refusal a.w a.s a.bits.now (length a.out.now) ≡ 0
 passed c =
     let k = c.before.before in
     let a = (start k).args in
-    done-number k.check.result (mendRefusal a.w a.s a.bits.now (length a.out.now))
+    done_number k.check.result (mend_refusal a.w a.s a.bits.now (length a.out.now))
     c.enum_told.given.1 k.check.ensures
 
 mend-packed-requires : tie.Need-mend-packed-requires
@@ -57,7 +57,7 @@ returns c =
     let k = p.before.before in
     let a = (start k).args in (
       k.check.ensures,
-      target-done a.w a.s a.bits.now a.out.now m.new.1.1.1.0 (passed p) m.ensures,
+      target_done a.w a.s a.bits.now a.out.now m.new.1.1.1.0 (passed p) m.ensures,
     )
 
 returns-2 : tie.Need-returns-2
@@ -66,9 +66,9 @@ returns-2 c =
     let a = (start k).args in
     let q = c.enum-told2.given.0.0 in
     let n =
-    refused-number k.check.result q (mendRefusal a.w a.s a.bits.now (length a.out.now))
+    refused_number k.check.result q (mend_refusal a.w a.s a.bits.now (length a.out.now))
     c.enum-told2.given.1 k.check.ensures in
-    (k.check.ensures, target-refused a.w a.s a.bits.now a.out.now q n)
+    (k.check.ensures, target_refused a.w a.s a.bits.now a.out.now q n)
 
 pub mend-spec : {M : Type 1} → statement M
 mend-spec =

@@ -11,7 +11,7 @@ use Rattle.vt.specs.Ones.{ones}
 use Rattle.vt.specs.Sum.{total}
 use Rattle.vt.proofs.Copies.{whole_length}
 use Rattle.vt.proofs.Mending.{puts, starts-mended}
-use Rattle.vt.proofs.Totals.{put-adds, reach-start}
+use Rattle.vt.proofs.Totals.{put_adds, reach-start}
 use Rattle.vt.proofs.find_place.Reads as find-place-reads
 use Rattle.vt.proofs.lacking.Reads as lacking-reads
 use Rattle.vt.proofs.mend_bits.Lts as lts
@@ -91,7 +91,7 @@ returns c =
     rw (f.before.before.weigh.ensures.0, m) at l.ensures.1 in
     let x : List ℕ = take p.result.at y ++ (p.result.bit ∷ drop p.result.at y) in
     let g : total 1 x ≡ total 1 y + l.result =
-    put-adds p.result.at p.result.bit l.result (0 + p.result.at + 1) y p.ensures.0.0 (omega arith)
+    put_adds p.result.at p.result.bit l.result (0 + p.result.at + 1) y p.ensures.0.0 (omega arith)
     (rw (add-zero (ones (drop p.result.at y))) at p.ensures.1) in
     let k = puts p.result.at p.result.bit l.result a.s y (start f).requires.0.0 p.ensures.0.1 g e in
     starts-mended (length y + 1) a.s y x (drop (length y + 1) a.out.now) q.new.1.1.1.0 k q.ensures

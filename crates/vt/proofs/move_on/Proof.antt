@@ -8,8 +8,8 @@ use native.Mathlib.Omega.{arith}
 use lib.ListN.{length, get_or, drop, length-set, get_or-eq_default}
 use lib.Seq.{paste, paste-zero}
 use Rattle.bits.specs.Bits.{AllBytes, bytes, unpack}
-use Rattle.bits.proofs.Packing.{bytes-of-each}
-use Rattle.vt.proofs.Moving.{moved-next, moved_all}
+use Rattle.bits.proofs.Packing.{bytes_of_each}
+use Rattle.vt.proofs.Moving.{moved_next, moved_all}
 use Rattle.vt.proofs.move_on.Statement.{statement}
 use Rattle.vt.proofs.move_on.Tie as tie
 
@@ -59,11 +59,11 @@ loop-again c =
     let a = start.args in
     let p = c.before.before.before.loop in
     let s : List ℕ = a.s.now in
-    let b : AllBytes s = bytes-of-each s (λ j. omega (arith, c.shared-slice-known2.given j)) in (
+    let b : AllBytes s = bytes_of_each s (λ j. omega (arith, c.shared-slice-known2.given j)) in (
       (omega arith, omega arith),
       (
         simp length-set p.invariant.1.0,
-        moved-next s a.out.now a.from a.count start.requires.0.0 start.requires.1.1 b p.out p.i _
+        moved_next s a.out.now a.from a.count start.requires.0.0 start.requires.1.1 b p.out p.i _
             p.invariant.0.0 (omega arith) refl p.invariant.1.1,
       ),
     )
@@ -89,11 +89,11 @@ returns c =
     let a = start.args in
     let p = c.before.before.before.loop in
     let s : List ℕ = a.s.now in
-    let b : AllBytes s = bytes-of-each s (λ j. omega (arith, c.shared-slice-known3.given j)) in
+    let b : AllBytes s = bytes_of_each s (λ j. omega (arith, c.shared-slice-known3.given j)) in
     let z : get_or s p.i 0 ≡ 0 = get_or-eq_default s 0 (omega arith) in
     moved_all s a.out.now a.from a.count start.requires.0.0 start.requires.1.1 _ (p.i + 1)
     start.requires.0.1.0 (omega arith)
-    (moved-next s a.out.now a.from a.count start.requires.0.0 start.requires.1.1 b p.out p.i _
+    (moved_next s a.out.now a.from a.count start.requires.0.0 start.requires.1.1 b p.out p.i _
     p.invariant.0.0 c.before.if1.true (omega (arith, z)) p.invariant.1.1)
 
 same-length-2 : tie.Need-same-length-2 invariant-loop decreases-loop

@@ -4,7 +4,7 @@ use borrow.Author.Rules.{rules}
 use mathlib.Core.Path.{◌≡◌}
 use mathlib.Core.List.{◌++◌}
 use lib.ListN.{take, drop}
-use Rattle.vt.proofs.Copies.{first_part, second-part, whole_length, room}
+use Rattle.vt.proofs.Copies.{first_part, second_part, whole_length, room}
 use Rattle.vt.proofs.put_in.Statement.{statement}
 use Rattle.vt.proofs.put_in.Tie as tie
 
@@ -61,7 +61,7 @@ returns c =
     let e = c.before.before in
     let h = e.before.before.before.before.before in
     let a = (start h).args in
-    second-part a.bits.now a.out.now a.at a.bit (start h).requires.0 (start h).requires.1
+    second_part a.bits.now a.out.now a.at a.bit (start h).requires.0 (start h).requires.1
     h.copy-to.new.1.0 e.copy-to2.new.1.0 (half h) e.copy-to2.ensures
 
 same_length : tie.Need-same-length

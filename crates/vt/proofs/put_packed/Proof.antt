@@ -6,9 +6,9 @@ use mathlib.Core.List.{List, ◌++◌}
 use native.Mathlib.Omega.{arith}
 use lib.ListN.{length, take, drop, length-append, length-drop, length-set}
 use Rattle.bits.specs.Bits.{AllBytes}
-use Rattle.bits.proofs.Packing.{bytes-of-each, length-bytes}
+use Rattle.bits.proofs.Packing.{bytes_of_each, length-bytes}
 use Rattle.bits.proofs.Spans.{put-bytes}
-use Rattle.vt.proofs.Copies.{first_part, first-length, bit-front, bit-back}
+use Rattle.vt.proofs.Copies.{first_part, first-length, bit_front, bit_back}
 use Rattle.vt.proofs.put_packed.Statement.{statement}
 use Rattle.vt.proofs.put_packed.Tie as tie
 
@@ -55,7 +55,7 @@ move-on-requires c κs =
     let n =
     first-length a.s.now a.out.now (a.at / 8) (omega arith) (omega arith) k.copy-to.new.1.0 (half k) in (
       (omega arith, (omega (arith, r.0.0), r.0.1)),
-      (r.1.0, omega (arith, length-set k.copy-to.new.1.0 (a.at / 8) c.before.with-bit.result, r.1.1)),
+      (r.1.0, omega (arith, length-set k.copy-to.new.1.0 (a.at / 8) c.before.with_bit.result, r.1.1)),
     )
 
 returns : tie.Need-returns
@@ -67,18 +67,18 @@ returns c =
     let r = (start k).requires.1 in
     let s : List ℕ = a.s.now in
     let b : AllBytes s =
-    bytes-of-each s (λ j. omega (arith, k.before.before.before.before.shared-slice-known.given j)) in
+    bytes_of_each s (λ j. omega (arith, k.before.before.before.before.shared-slice-known.given j)) in
     let f : ℕ = a.at / 8 in
     let h : f ≤ length s = omega arith in
     let l : f < length a.out.now = omega arith in
     m.move-on.ensures
     ∙ rw (
-      bit-front s a.out.now f w.with-bit.result h l k.copy-to.new.1.0 (half k),
-      bit-back s a.out.now f w.with-bit.result a.count h l k.copy-to.new.1.0 (half k) r.0.0,
+      bit_front s a.out.now f w.with_bit.result h l k.copy-to.new.1.0 (half k),
+      bit_back s a.out.now f w.with_bit.result a.count h l k.copy-to.new.1.0 (half k) r.0.0,
     )
     (ap (λ (z : List ℕ). z ++ drop a.count a.out.now)
-    (put-bytes s b a.at a.bit a.count (start k).requires.0.0 r.0.0 w.with-bit.result
-    (rw w.before.byte_at.ensures.0 at w.with-bit.ensures)))
+    (put-bytes s b a.at a.bit a.count (start k).requires.0.0 r.0.0 w.with_bit.result
+    (rw w.before.byte_at.ensures.0 at w.with_bit.ensures)))
 
 same_length : tie.Need-same-length
 same_length c =

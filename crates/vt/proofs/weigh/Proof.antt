@@ -11,7 +11,7 @@ use Rattle.bits.specs.Bits.{longest}
 use Rattle.bits.proofs.Laws.{bit_at}
 use Rattle.vt.specs.Ones.{ones as onesOf}
 use Rattle.vt.specs.Sum.{total as total_of}
-use Rattle.vt.proofs.Totals.{times-bit, total-next, ones-next, total-end, ones-end}
+use Rattle.vt.proofs.Totals.{times_bit, total-next, ones-next, total-end, ones-end}
 use Rattle.vt.proofs.weigh.Lts as lts
 use Rattle.vt.proofs.weigh.Reads as reads
 use Rattle.vt.proofs.weigh.Statement.{statement}
@@ -46,7 +46,7 @@ small c =
     let start = c.before.before.before in
     let i : ℕ = c.before.before.loop.i in
     let b = bit_at start.args.bits.now start.requires.0 i in
-    (b, times-bit (i + 1) (get_or start.args.bits.now i 0) b)
+    (b, times_bit (i + 1) (get_or start.args.bits.now i 0) b)
 
 mul-total : tie.Need-overflow-mul-total invariant-loop decreases-loop
 mul-total c = let b = small c in omega (arith, b.1)

@@ -13,10 +13,10 @@ use borrow.Fn.PlainCycle.{Measures, is, falls, and}
 use lib.ListN.{length, get_or}
 use mir.Syntax.{w8}
 use mir.Val.{Fits}
-use Rattle.bits.specs.Bits.{mostInLine, longestLine, digits}
+use Rattle.bits.specs.Bits.{most_in_line, longest_line, digits}
 use Rattle.vt.specs.Ones.{ones}
-use Rattle.weigh.specs.Weigh.{Can, brought, chunkTop, There, Within}
-use Rattle.weigh.proofs.Spans.{received, ones-between, wider-holds}
+use Rattle.weigh.specs.Weigh.{Can, brought, chunk_top, There, Within}
+use Rattle.weigh.proofs.Spans.{received, ones_between, wider_holds}
 use Rattle.weigh.proofs.brings.Reads as brings
 use Rattle.weigh.proofs.brings.Kinds as brings-kinds
 use Rattle.weigh.proofs.+brings.Lts-brings as brings-lts
@@ -149,9 +149,9 @@ block-small t c = search rules
 
 -- so many positions stand before the chunk
 before_small : (t : ℕ) (c : Ready t) → let a = (start t (found t c)).args in
-    get_or a.t6.block a.s 0 * a.nc ≤ longestLine
+    get_or a.t6.block a.s 0 * a.nc ≤ longest_line
 before_small t c =
-    mul-le-mul {n₂ = mostInLine} {m₂ = 8} (omega (arith, block-small t c)) (start t (found t c)).pre.1.0.short
+    mul-le-mul {n₂ = most_in_line} {m₂ = 8} (omega (arith, block-small t c)) (start t (found t c)).pre.1.0.short
 
 brings-cast-before : (t : ℕ)
     → brings-lts.Need-overflow-cast-before (called t) (brings-at t) brings.Post brings-Inv-loop brings-μ-loop
@@ -181,7 +181,7 @@ between t c vs can =
     let f = found t c.before in
     let s = start t f in
     let a = s.args in
-    ones-between a.nc (get_or a.t6.lost a.s 0) (vs a.s) (get_or a.t6.place a.s 0) a.y.now
+    ones_between a.nc (get_or a.t6.lost a.s 0) (vs a.s) (get_or a.t6.place a.s 0) a.y.now
     (is-there t f).0 (can.loses a.s s.pre.1.1.0) c.before.before.look.ensures c.more-ones.ensures
 
 brings-loop-holds : (t : ℕ)
@@ -217,7 +217,7 @@ brings-add-if2 t c =
 
 -- the wider span is small
 wider-small : (t : ℕ) (c : Turn t) → let s = start t (found t c.before.before.before.before) in
-    (c.widen.result.low ≤ (s.args.s + 1) * chunkTop) × (c.widen.result.high ≤ (s.args.s + 1) * chunkTop)
+    (c.widen.result.low ≤ (s.args.s + 1) * chunk_top) × (c.widen.result.high ≤ (s.args.s + 1) * chunk_top)
 wider-small t c =
     let p = (start t (found t c.before.before.before.before)).pre.1.1 in
     let w = c.widen.ensures in
@@ -276,7 +276,7 @@ not-just t c vs can inside e just =
     let a = s.args in
     let l = p.before.before.before.look in
     let far = brought a.nc a.t6.block vs (a.s + 1) in
-    let b = wider-holds can a.s s.pre.1.1.0 l.result p.loop.g a.span q.widen.result l.ensures
+    let b = wider_holds can a.s s.pre.1.1.0 l.result p.loop.g a.span q.widen.result l.ensures
     just q.widen.ensures inside in
     ⊎_elim
     (λ w. false≢true (sym w.2.left ∙ w.1.ensures far b.low b.high (rw w.0.taken e)))

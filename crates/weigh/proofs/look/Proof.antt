@@ -34,7 +34,7 @@ shared-slice-read-ones-2 : tie.Need-shared-slice-read-ones-2
 shared-slice-read-ones-2 c = search rules
 
 sub-ones : tie.Need-overflow-sub-ones
-sub-ones c = (gives c.before.before).counts-rise
+sub-ones c = (gives c.before.before).counts_rise
 
 cast-ones : tie.Need-overflow-cast-ones
 cast-ones c = let a = c.before.before.args in omega (arith, c.before.shared-slice-known.given (a.p + a.w))
@@ -55,7 +55,7 @@ shared-slice-read-high-2 : tie.Need-shared-slice-read-high-2
 shared-slice-read-high-2 c = search rules
 
 sub-high : tie.Need-overflow-sub-high
-sub-high c = (gives c.before.before.before.before).totals-rise
+sub-high c = (gives c.before.before.before.before).totals_rise
 
 cast-high : tie.Need-overflow-cast-high
 cast-high c =

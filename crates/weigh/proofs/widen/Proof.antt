@@ -4,13 +4,13 @@ use Prim.Native.Nat.{ℕ, ◌+◌, ◌-◌, ◌*◌, ◌≤◌}
 use mathlib.Core.Path.{refl}
 use native.Mathlib.Nat.{mul-le-mul}
 use native.Mathlib.Omega.{arith}
-use Rattle.bits.specs.Bits.{longestLine}
+use Rattle.bits.specs.Bits.{longest_line}
 use Rattle.weigh.proofs.widen.Statement.{statement}
 use Rattle.weigh.proofs.widen.Tie as tie
 
 -- the products are small
 record Products (nc before lost o g : ℕ) : Type 0 where
-  whole : before * (o + g) ≤ longestLine * 8
+  whole : before * (o + g) ≤ longest_line * 8
   front : g * (2 * o + g + 1) ≤ 136
   zeros : (lost - g) * o ≤ 64
   back : g * (2 * nc + 1 - g) ≤ 136
@@ -19,7 +19,7 @@ products : (s : tie.Start) → let a = s.args in Products a.nc a.before a.lost a
 products s =
     let p = s.requires in
     record {
-      whole = mul-le-mul {n₂ = longestLine} {m₂ = 8} (omega arith) (omega arith);
+      whole = mul-le-mul {n₂ = longest_line} {m₂ = 8} (omega arith) (omega arith);
       front = mul-le-mul {n₂ = 8} {m₂ = 17} (omega arith) (omega arith);
       zeros = mul-le-mul {n₂ = 8} {m₂ = 8} (omega arith) (omega arith);
       back = mul-le-mul {n₂ = 8} {m₂ = 17} (omega arith) (omega arith);

@@ -7,13 +7,13 @@ use native.Mathlib.Numerals.{add-one}
 use native.Mathlib.Omega.{arith}
 use borrow.Author.Rules.{rules}
 use lib.ListN.{length, get_or}
-use Rattle.states.specs.States.{each, firsts, addedUp}
+use Rattle.states.specs.States.{each, firsts, added_up}
 use Rattle.whole.specs.Whole.{unread}
 use Rattle.whole.proofs.all.Statement.{statement}
 use Rattle.whole.proofs.all.Tie as tie
 
 abbrev invariant-loop : tie.invariant-loop
-invariant-loop n table left sum₀ s₀ sum s = ((s ≤ n) × (sum ≤ s * unread)) × (sum ≡ addedUp table (each left) s)
+invariant-loop n table left sum₀ s₀ sum s = ((s ≤ n) × (sum ≤ s * unread)) × (sum ≡ added_up table (each left) s)
 
 abbrev decreases-loop : tie.decreases-loop
 decreases-loop n table left sum₀ s₀ sum s = n - s
@@ -101,7 +101,7 @@ returns c =
     let p = c.before.loop in
     let a = c.before.before.before.args in
     let e : p.s ≡ a.n = omega (arith, p.invariant.0.0, c.loop-test.false) in
-    (p.invariant.1 ∙ ap (λ (k : ℕ). addedUp a.table.now (each a.t2) k) e, rw (← e) p.invariant.0.1)
+    (p.invariant.1 ∙ ap (λ (k : ℕ). added_up a.table.now (each a.t2) k) e, rw (← e) p.invariant.0.1)
 
 pub all-spec : {M : Type 1} → statement M
 all-spec =

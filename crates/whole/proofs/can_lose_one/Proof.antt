@@ -9,9 +9,9 @@ use native.Mathlib.Omega.{arith}
 use borrow.Author.Rules.{rules}
 use borrow.Author.Tests.{not-true, not-false}
 use lib.ListN.{get_or}
-use Rattle.bits.specs.Bits.{longestLine, digits}
+use Rattle.bits.specs.Bits.{longest_line, digits}
 use Rattle.vt.specs.Sum.{total}
-use Rattle.message.proofs.Legal.{legal-bounds, string-high}
+use Rattle.message.proofs.Legal.{legal_bounds, string_high}
 use Rattle.weigh.specs.Weigh.{brought}
 use Rattle.whole.proofs.can_lose_one.Statement.{statement}
 use Rattle.whole.proofs.can_lose_one.Tie as tie
@@ -21,8 +21,8 @@ abbrev begin : tie.After-struct-known → tie.Start
 begin c = c.before.before.before.before
 
 -- the modulus is small
-high : (s : tie.Start) → s.args.l.l1 * s.args.l.nc ≤ longestLine
-high s = string-high s.args.l s.requires.0.allowed
+high : (s : tie.Start) → s.args.l.l1 * s.args.l.nc ≤ longest_line
+high s = string_high s.args.l s.requires.0.allowed
 
 mul-m : tie.Need-overflow-mul-m
 mul-m c = omega (arith, high (begin c))
@@ -67,7 +67,7 @@ can-bring-requires : tie.Need-can-bring-requires
 can-bring-requires c κs =
     let s = start c.before.before.before in
     let p = s.pre.0 in (
-      ((legal-bounds s.args.l p.allowed).nc-high, (omega arith, omega (arith, high s))),
+      ((legal_bounds s.args.l p.allowed).nc_high, (omega arith, omega (arith, high s))),
       (p.bits, (p.short, (p.tables, (omega arith, c.missing.ensures.0)))),
     )
 
@@ -86,7 +86,7 @@ returns-2 c v small readable loses sum =
     let a = s.args in
     let place = p.place_of.ensures in
     let ok : p.place_of.result.ok ≡ true = not-false _ e.if1.false in
-    let one : p.place_of.result.lost ≡ 1 = omega (arith, place.lost-just ok, s.pre.1.0) in
+    let one : p.place_of.result.lost ≡ 1 = omega (arith, place.lost_just ok, s.pre.1.0) in
     let b = total (a.block * a.l.nc + 1) (digits a.l.nc v) in
     let modulus = a.l.l1 * a.l.nc + 1 in
     c.can-bring.ensures (λ k. v)
@@ -94,7 +94,7 @@ returns-2 c v small readable loses sum =
       small = λ k h. small;
       few = λ k h. let z : k ≡ 0 = omega (arith, h) in rw z (omega (arith, readable.few, s.pre.1.0));
       there = λ k h. let z : k ≡ 0 = omega (arith, h) in rw z (omega (arith, place.within ok, one));
-      loses = λ k h. let z : k ≡ 0 = omega (arith, h) in rw (z, place.at-just ok) loses;
+      loses = λ k h. let z : k ≡ 0 = omega (arith, h) in rw (z, place.at_just ok) loses;
     }
     (ap (λ (n : ℕ). n % modulus) (brought-one a.l.nc _ v)
     ∙ m.missing.ensures.1 b (mod-lt a.rest (omega arith)) (mod-add-mod a.rest modulus b ∙ sum))

@@ -7,9 +7,9 @@ use native.Mathlib.Omega.{arith}
 use borrow.Author.Rules.{rules}
 use borrow.Author.Tests.{not-true, not-false}
 use lib.ListN.{take, drop}
-use Rattle.bits.specs.Bits.{longestLine}
+use Rattle.bits.specs.Bits.{longest_line}
 use Rattle.vt.specs.Sum.{total}
-use Rattle.message.proofs.Legal.{legal-bounds, chunk_lies}
+use Rattle.message.proofs.Legal.{legal_bounds, chunk_lies}
 use Rattle.column.specs.Column.{start_at}
 use Rattle.whole.specs.Whole.{brings, unread}
 use Rattle.whole.proofs.reading.Statement.{statement}
@@ -38,13 +38,13 @@ wide-requires c κs = search rules
 
 -- the positions before the chunk are few
 before-low : (c : tie.After-wide) → let a = (begin c.before.before.before).args in
-    c.wide.result * a.l.nc ≤ longestLine
+    c.wide.result * a.l.nc ≤ longest_line
 before-low c =
     let s = begin c.before.before.before in
     let a = s.args in
     let p = s.pre.0 in
-    subst (λ (i : ℕ). i * a.l.nc ≤ longestLine) (sym c.wide.ensures)
-    (chunk_lies a.l p.allowed a.block a.j p.inside p.column).in-string
+    subst (λ (i : ℕ). i * a.l.nc ≤ longest_line) (sym c.wide.ensures)
+    (chunk_lies a.l p.allowed a.block a.j p.inside p.column).in_string
 
 mul-weight : tie.Need-overflow-mul-weight
 mul-weight c = record { fits = omega (arith, before-low c.before) }
@@ -57,7 +57,7 @@ weight-requires c κs =
     let p = (begin o).requires.0 in
     let place = o.place_of.ensures in
     let ok : o.place_of.result.ok ≡ true = not-false _ e.if1.false in
-    ((p.bits, p.short), (p.tables, (omega (arith, place.within ok, place.lost-just ok), before-low w)))
+    ((p.bits, p.short), (p.tables, (omega (arith, place.within ok, place.lost_just ok), before-low w)))
 
 returns-2 : tie.Need-returns-2
 unfolding brings
@@ -67,13 +67,13 @@ returns-2 c =
     let o = e.before.before in
     let s = begin o in
     let a = s.args in
-    let at = o.place_of.ensures.at-just (not-false _ e.if1.false) in
-    let bounds = legal-bounds a.l s.pre.0.allowed in
+    let at = o.place_of.ensures.at_just (not-false _ e.if1.false) in
+    let bounds = legal_bounds a.l s.pre.0.allowed in
     let few =
-    mul-le-mul {n₁ = w.wide.result * a.l.nc} {m₁ = a.l.nc} {n₂ = longestLine} {m₂ = 8} (before-low w)
-    bounds.nc-high in
+    mul-le-mul {n₁ = w.wide.result * a.l.nc} {m₁ = a.l.nc} {n₂ = longest_line} {m₂ = 8} (before-low w)
+    bounds.nc_high in
     let small : c.weight.result < unread =
-    omega (arith, c.weight.ensures.1, few, mul-le-mul bounds.nc-high bounds.nc-high) in (
+    omega (arith, c.weight.ensures.1, few, mul-le-mul bounds.nc_high bounds.nc_high) in (
       λ r. (
         c.weight.ensures.0
             ∙ ap₂ (λ (k p : ℕ). total (k * a.l.nc + 1) (take a.l.nc (drop p a.y.now))) w.wide.ensures at,

@@ -6,8 +6,8 @@ use native.Mathlib.Nat.{mul-le-mul}
 use native.Mathlib.Omega.{arith}
 use borrow.Author.Rules.{rules}
 use lib.ListN.{take, drop}
-use Rattle.bits.specs.Bits.{longest, longestLine}
-use Rattle.windows.proofs.Windows.{total-on}
+use Rattle.bits.specs.Bits.{longest, longest_line}
+use Rattle.windows.proofs.Windows.{total_on}
 use Rattle.whole.proofs.weight.Statement.{statement}
 use Rattle.whole.proofs.weight.Tie as tie
 
@@ -17,12 +17,12 @@ begin m = m.before.before.before.before
 
 -- the window is not longer than the longest row, so the ones weigh little with the positions before them
 short : (m : tie.After-look) → let a = (begin m).args in
-    (a.w ≤ longest) × (a.before * m.look.result.ones ≤ longestLine * longest)
+    (a.w ≤ longest) × (a.before * m.look.result.ones ≤ longest_line * longest)
 short m =
     let a = (begin m).args in
     let w : a.w ≤ longest = omega (arith, (begin m).requires) in
     let few : m.look.result.ones ≤ longest = omega (arith, m.look.ensures.count_small) in
-    let low : a.before ≤ longestLine = (begin m).requires.1.1.1 in
+    let low : a.before ≤ longest_line = (begin m).requires.1.1.1 in
     (w, mul-le-mul low few)
 
 look-requires : tie.Need-look-requires
@@ -46,7 +46,7 @@ returns c =
     let few =
     mul-le-mul {n₁ = a.before} {m₁ = m.look.result.ones} {n₂ = a.before} {m₂ = a.w} (omega arith)
     seen.count_small in (
-      omega (arith, seen.positions, ap (λ (n : ℕ). a.before * n) seen.count, total-on a.before x),
+      omega (arith, seen.positions, ap (λ (n : ℕ). a.before * n) seen.count, total_on a.before x),
       omega (arith, few, seen.positions-small),
     )
 

@@ -7,7 +7,7 @@ use native.Mathlib.Omega.{arith}
 use lib.ListN.{length, get_or, length-set}
 use Rattle.bits.specs.Bits.{longest}
 use Rattle.bits.proofs.Laws.{bit_at}
-use Rattle.vt.proofs.Totals.{times-bit}
+use Rattle.vt.proofs.Totals.{times_bit}
 use Rattle.windows.proofs.Windows.{Filled, filled-start, filled_next, filled-tables, filled-low}
 use Rattle.windows.proofs.fill.Statement.{statement}
 use Rattle.windows.proofs.fill.Tie as tie
@@ -37,7 +37,7 @@ turn p =
 -- the next position, where its bit is a one
 rises : (p : tie.At-loop invariant-loop decreases-loop)
     → (p.loop.i + 1) * get_or p.before.args.y.now p.loop.i 0 ≤ p.loop.i + 1
-rises p = times-bit (p.loop.i + 1) (get_or p.before.args.y.now p.loop.i 0) (turn p).0
+rises p = times_bit (p.loop.i + 1) (get_or p.before.args.y.now p.loop.i 0) (turn p).0
 
 slice-write-totals : tie.Need-slice-write-totals invariant-loop decreases-loop
 slice-write-totals c = search rules

@@ -28,7 +28,7 @@ shared-slice-read-high-2 : tie.Need-shared-slice-read-high-2
 shared-slice-read-high-2 c = search rules
 
 sub-high : tie.Need-overflow-sub-high
-sub-high c = (gives c.before.before).totals-rise
+sub-high c = (gives c.before.before).totals_rise
 
 cast-high : tie.Need-overflow-cast-high
 cast-high c = omega (arith, c.before.shared-slice-known.given c.before.before.args.w)
@@ -43,7 +43,7 @@ shared-slice-read-count-2 : tie.Need-shared-slice-read-count-2
 shared-slice-read-count-2 c = search rules
 
 sub-count : tie.Need-overflow-sub-count
-sub-count c = (gives c.before.before.before.before).counts-rise
+sub-count c = (gives c.before.before.before.before).counts_rise
 
 cast-count : tie.Need-overflow-cast-count
 cast-count c = omega (arith, c.before.shared-slice-known3.given c.before.before.before.before.args.w)

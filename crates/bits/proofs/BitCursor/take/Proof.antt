@@ -6,7 +6,7 @@ use mathlib.Core.Path.{◌∙◌}
 use native.Mathlib.Omega.{arith}
 use Rattle.bits.specs.Bits.{unpack}
 use Rattle.bits.proofs.Laws.{bits-unpack}
-use Rattle.bits.proofs.Spans.{number-in-four}
+use Rattle.bits.proofs.Spans.{number_in_four}
 use Rattle.bits.proofs.BitCursor.take.Statement.{statement}
 use Rattle.bits.proofs.BitCursor.take.Tie as tie
 
@@ -33,7 +33,7 @@ returns-2 c =
     let a = c.before.before.before.before.before.args in
     let behind : ℕ = 32 - (a.self.at + a.k) in
     let is =
-    number-in-four 0 a.self.at a.k behind (unpack a.s.now) (bits-unpack a.s.now) (omega arith)
+    number_in_four 0 a.self.at a.k behind (unpack a.s.now) (bits-unpack a.s.now) (omega arith)
     (omega arith) in
     (c.cut.ensures.0 ∙ rw c.before.first-bytes.ensures.0 is, c.cut.ensures.1)
 

@@ -5,7 +5,7 @@ use mathlib.Core.Path.{◌∙◌}
 use native.Mathlib.Omega.{arith}
 use Rattle.bits.specs.Bits.{unpack}
 use Rattle.bits.proofs.Laws.{bits-unpack}
-use Rattle.bits.proofs.Spans.{number-in-four}
+use Rattle.bits.proofs.Spans.{number_in_four}
 use Rattle.bits.proofs.BitCursor.take_long.Statement.{statement}
 use Rattle.bits.proofs.BitCursor.take_long.Tie as tie
 
@@ -36,7 +36,7 @@ returns c =
     let i : ℕ = c.before.before.start_of_lem.result in
     let behind : ℕ = (i + 4) * 8 - (a.self.at + a.k) in
     let is =
-    number-in-four i a.self.at a.k behind (unpack a.s.now) (bits-unpack a.s.now) (omega arith)
+    number_in_four i a.self.at a.k behind (unpack a.s.now) (bits-unpack a.s.now) (omega arith)
     (omega arith) in
     (c.cut.ensures.0 ∙ rw c.before.four_bytes.ensures.0 is, c.cut.ensures.1)
 

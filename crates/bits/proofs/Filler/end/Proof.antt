@@ -7,8 +7,8 @@ use native.Mathlib.Omega.{arith}
 use lib.ListN.{take}
 use lib.Pow.{shl_lt}
 use Rattle.bits.specs.Bits.{AllBytes}
-use Rattle.bits.proofs.Filling.{end_whole, end-part}
-use Rattle.bits.proofs.Packing.{bytes-of-each, bytes_take, bytes-snoc}
+use Rattle.bits.proofs.Filling.{end_whole, end_part}
+use Rattle.bits.proofs.Packing.{bytes_of_each, bytes_take, bytes_snoc}
 use Rattle.bits.proofs.Filler.end.Statement.{statement}
 use Rattle.bits.proofs.Filler.end.Tie as tie
 
@@ -46,11 +46,11 @@ returns c =
     let s = w.before.before.before in
     let f = s.args.self in
     let o = s.args.out.now in
-    let each : AllBytes o = bytes-of-each o (λ j. omega (arith, w.before.before.slice-known.given j)) in
+    let each : AllBytes o = bytes_of_each o (λ j. omega (arith, w.before.before.slice-known.given j)) in
     let last : f.held * 2 ^ (8 - f.count) < 256 = rw w.power.ensures at (byte_low w) in
     rw w.power.ensures
-    (end-part o f.at f.count f.held
-    (bytes-snoc (take f.at o) (f.held * 2 ^ (8 - f.count)) (bytes_take f.at o each) last) (omega arith)
+    (end_part o f.at f.count f.held
+    (bytes_snoc (take f.at o) (f.held * 2 ^ (8 - f.count)) (bytes_take f.at o each) last) (omega arith)
     (omega arith) s.requires.0.0)
 
 returns-2 : tie.Need-returns-2
@@ -58,7 +58,7 @@ returns-2 c =
     let s = c.before.before in
     let f = s.args.self in
     let o = s.args.out.now in
-    let each : AllBytes o = bytes-of-each o (λ j. omega (arith, c.before.slice-known.given j)) in
+    let each : AllBytes o = bytes_of_each o (λ j. omega (arith, c.before.slice-known.given j)) in
     let none : f.count ≡ 0 = omega arith in
     rw none (end_whole o f.at f.held (bytes_take f.at o each) (omega arith))
 

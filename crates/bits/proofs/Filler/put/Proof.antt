@@ -10,7 +10,7 @@ use lib.ListN.{length, take, drop, length-set}
 use lib.Pow.{pow_pos, pow_mono}
 use lib.Seq.{drop-drop, drop-set-lt}
 use Rattle.bits.specs.Bits.{digits, unpack}
-use Rattle.bits.proofs.Filling.{digits_low, digits-join, byte-out}
+use Rattle.bits.proofs.Filling.{digits_low, digits_join, byte_out}
 use Rattle.bits.proofs.Laws.{length_digits}
 use Rattle.bits.proofs.Filler.put.Statement.{statement}
 use Rattle.bits.proofs.Filler.put.Tie as tie
@@ -95,7 +95,7 @@ loop-again c =
     let one : drop 1 (drop p.at p.out) ≡ drop 1 (drop p.at s.args.out.now) = ap (drop 1) i.1.1 in (
       (simp length-set i.0.0, (omega (arith, i.0.1, c.loop-test.true), omega (arith, i.0.1))),
       (
-        byte-out p.out p.at p.count all inside c.loop-test.true ∙ i.1.0,
+        byte_out p.out p.at p.count all inside c.loop-test.true ∙ i.1.0,
         drop-set-lt (p.at + 1) p.out p.at _ (omega arith) ∙ sym (drop-drop 1 p.at p.out) ∙ one
             ∙ drop-drop 1 p.at s.args.out.now,
       ),
@@ -121,7 +121,7 @@ returns c =
     let kept = ap (λ (m : ℕ). digits p.count (all % m)) c.power2.ensures ∙ digits_low p.count all in
     let joined =
     ap (λ (m : ℕ). digits (a.self.count + a.k) (a.self.held * m + a.v % m)) (size_is w)
-    ∙ digits-join a.self.count a.self.held a.k a.v in
+    ∙ digits_join a.self.count a.self.held a.k a.v in
     let low : all % c.power2.result < c.power2.result =
     mod-lt all (omega (arith, c.power2.ensures, pow_pos p.count)) in
     record {

@@ -5,9 +5,9 @@ use Prim.Native.Nat.{◌+◌, ◌-◌, ◌*◌, ◌≤◌}
 use mathlib.Core.Path.{◌≡◌, ap, ◌∙◌}
 use native.Mathlib.Nat.{mul-le-mul}
 use native.Mathlib.Omega.{arith}
-use Rattle.bits.specs.Bits.{longestLine, digits}
+use Rattle.bits.specs.Bits.{longest_line, digits}
 use Rattle.vt.specs.Sum.{total}
-use Rattle.message.proofs.Picking.{chunk-adds}
+use Rattle.message.proofs.Picking.{chunk_adds}
 use Rattle.message.proofs.chunks.chunk_total.Statement.{statement}
 use Rattle.message.proofs.chunks.chunk_total.Tie as tie
 
@@ -16,17 +16,17 @@ weigh-byte-requires c κs = search rules
 
 -- the two products are small, and the difference is the total
 small : (c : tie.After-weigh-byte) → let a = c.before.args in let w = c.weigh-byte.result in
-    ((a.first * w.ones ≤ (longestLine + 1) * 8) × ((9 - a.nc) * w.ones ≤ 9 * 8))
+    ((a.first * w.ones ≤ (longest_line + 1) * 8) × ((9 - a.nc) * w.ones ≤ 9 * 8))
     × (w.total + a.first * w.ones ≡ total a.first (digits a.nc a.v) + (9 - a.nc) * w.ones)
 small c =
     let a = c.before.args in
     let p = c.before.requires in
     let e = c.weigh-byte.ensures in (
       (
-        mul-le-mul {n₂ = longestLine + 1} {m₂ = 8} (omega (arith, p.1.1.1)) e.1.1,
+        mul-le-mul {n₂ = longest_line + 1} {m₂ = 8} (omega (arith, p.1.1.1)) e.1.1,
         mul-le-mul {n₂ = 9} {m₂ = 8} (omega arith) e.1.1,
       ),
-      rw (e.0.0, e.1.0) (chunk-adds a.nc a.v a.first p.0.1 p.1.0 p.1.1.0),
+      rw (e.0.0, e.1.0) (chunk_adds a.nc a.v a.first p.0.1 p.1.0 p.1.1.0),
     )
 
 mul-result : tie.Need-overflow-mul-result

@@ -8,7 +8,7 @@ use lib.ListN.{length, get_or, take, drop, length-set}
 use lib.Pow.{pow_mono}
 use lib.Seq.{take_all}
 use Rattle.bits.specs.Bits.{number, unpack}
-use Rattle.bits.proofs.Copy.{front-next}
+use Rattle.bits.proofs.Copy.{front_next}
 use Rattle.bits.proofs.Laws.{bits-drop, bits-unpack, number_lt}
 use Rattle.message.specs.Read.{fields}
 use Rattle.message.proofs.Fields.{length_fields, fields_at, field_room}
@@ -84,7 +84,7 @@ loop-again c =
       omega arith,
       (
         simp length-set p.invariant.1.0,
-        rw (p.invariant.1.1, value-is t) (front-next a.out.now f p.i (omega arith) (omega arith)),
+        rw (p.invariant.1.1, value-is t) (front_next a.out.now f p.i (omega arith) (omega arith)),
       ),
     )
 

@@ -9,8 +9,8 @@ use lib.ListN.{length}
 use Rattle.field.proofs.Double.{size_low, size-high}
 use Rattle.message.specs.Layout.{layout}
 use Rattle.message.specs.declared.Layout.{Layout}
-use Rattle.message.proofs.Assembly.{checks-are}
-use Rattle.message.proofs.Legal.{Bounds, legal-bounds}
+use Rattle.message.proofs.Assembly.{checks_are}
+use Rattle.message.proofs.Legal.{Bounds, legal_bounds}
 use Rattle.message.proofs.chunks.fill_checks.Statement.{statement}
 use Rattle.message.proofs.chunks.fill_checks.Tie as tie
 
@@ -19,12 +19,12 @@ abbrev named : tie.Start → Layout
 named c = layout c.args.l1 c.args.l2 c.args.nc c.args.r
 
 bounds : (c : tie.Start) → Bounds (named c)
-bounds c = legal-bounds (named c) c.requires.0
+bounds c = legal_bounds (named c) c.requires.0
 
 returns : tie.Need-returns
 returns c =
     let s = c.before.before.before in
-    checks-are (named s) s.args.chunks.now s.args.out.now s.requires.1.0 s.requires.1.1
+    checks_are (named s) s.args.chunks.now s.args.out.now s.requires.1.0 s.requires.1.1
     (λ i h. absurd (omega arith))
 
 table-requires : tie.Need-table-requires
@@ -44,7 +44,7 @@ fill-logs-requires : tie.Need-fill-logs-requires
 fill-logs-requires c κs =
     let s = start c in
     let b = bounds s in
-    ((tabled c).table.ensures, b.nc-low, b.nc-high, size-high s.args.nc b.nc-high)
+    ((tabled c).table.ensures, b.nc_low, b.nc_high, size-high s.args.nc b.nc_high)
 
 slice-aggregate-checks : tie.Need-slice-aggregate-checks
 slice-aggregate-checks c = search rules
@@ -55,8 +55,8 @@ checks-requires c κs =
     let s = start k.before in
     let b = bounds s in
     let few = b.field (omega (arith, (tabled k.before).before.if1.false)) in (
-      ((tabled k.before).table.ensures, b.nc-low, b.nc-high, k.fill-logs.ensures.1, s.pre.1.0.1),
-      (omega (arith, s.pre.1.0.0, few, size_low s.args.nc b.nc-low), s.pre.1.1),
+      ((tabled k.before).table.ensures, b.nc_low, b.nc_high, k.fill-logs.ensures.1, s.pre.1.0.1),
+      (omega (arith, s.pre.1.0.0, few, size_low s.args.nc b.nc_low), s.pre.1.1),
     )
 
 same_length : tie.Need-same-length
@@ -68,7 +68,7 @@ returns-2 c =
     let s = start k.before.before.before.before.before.before in
     let out : List ℕ = k.checks.new.1.1.1.1.1.0 in
     let kept : length out ≡ length s.args.out.now = search rules in
-    checks-are (named s) s.args.chunks.now out s.pre.1.0 (omega (arith, s.pre.1.1)) k.checks.ensures
+    checks_are (named s) s.args.chunks.now out s.pre.1.0 (omega (arith, s.pre.1.1)) k.checks.ensures
 
 pub fill-checks-spec : {M : Type 1} → statement M
 fill-checks-spec =

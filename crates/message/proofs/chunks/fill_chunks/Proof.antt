@@ -7,12 +7,12 @@ use mathlib.Core.List.{List, ◌++◌}
 use native.Mathlib.Omega.{arith}
 use lib.ListN.{length, get_or, take, drop, length-set}
 use lib.Seq.{take_all}
-use Rattle.bits.proofs.Copy.{front-next}
+use Rattle.bits.proofs.Copy.{front_next}
 use Rattle.message.specs.Layout.{layout}
 use Rattle.message.specs.Read.{fields}
 use Rattle.message.proofs.Cutting.{chunk-numbers}
 use Rattle.message.proofs.Fields.{fields_at, length_fields, field_room}
-use Rattle.message.proofs.Legal.{Bounds, Sizes, legal-bounds, sizes}
+use Rattle.message.proofs.Legal.{Bounds, Sizes, legal_bounds, sizes}
 use Rattle.message.proofs.chunks.fill_chunks.Statement.{statement}
 use Rattle.message.proofs.chunks.fill_chunks.Tie as tie
 
@@ -24,7 +24,7 @@ abbrev decreases-loop : tie.decreases-loop
 decreases-loop l1 l2 nc r row out₀ n i₀ out i = l1 * l2 - i
 
 bounds : (c : tie.Start invariant-loop decreases-loop) → Bounds (layout c.args.l1 c.args.l2 c.args.nc c.args.r)
-bounds c = legal-bounds (layout c.args.l1 c.args.l2 c.args.nc c.args.r) c.requires.0
+bounds c = legal_bounds (layout c.args.l1 c.args.l2 c.args.nc c.args.r) c.requires.0
 
 high : (c : tie.Start invariant-loop decreases-loop) → Sizes (layout c.args.l1 c.args.l2 c.args.nc c.args.r)
 high c = sizes (layout c.args.l1 c.args.l2 c.args.nc c.args.r) (bounds c)
@@ -49,7 +49,7 @@ mul-number-at c = omega (arith, room c)
 number-at-requires : tie.Need-number-at-requires invariant-loop decreases-loop
 number-at-requires c κs =
     let s = c.before.before.before.before in
-    (s.requires.1.0, ((bounds s).nc-high, room c))
+    (s.requires.1.0, ((bounds s).nc_high, room c))
 
 slice-write-out : tie.Need-slice-write-out invariant-loop decreases-loop
 slice-write-out c = omega arith
@@ -72,7 +72,7 @@ loop-again c =
       (
         simp length-set p.invariant.1.0,
         rw (p.invariant.1.1, v)
-            (front-next a.out.now f p.i (omega arith)
+            (front_next a.out.now f p.i (omega arith)
             (omega (arith, length_fields (a.l1 * a.l2) a.nc a.row.now))),
       ),
     )

@@ -7,11 +7,11 @@ use mathlib.Core.List.{List}
 use native.Mathlib.Nat.{zero-add, mul-le-mul}
 use native.Mathlib.Omega.{arith}
 use lib.ListN.{length, get_or}
-use Rattle.bits.specs.Bits.{mostInLine, longestLine}
+use Rattle.bits.specs.Bits.{most_in_line, longest_line}
 use Rattle.vt.specs.Sum.{total as total_of}
 use Rattle.message.specs.Chunks.{row_of, picked}
 use Rattle.message.proofs.Fields.{field_room}
-use Rattle.message.proofs.Picking.{line-turn, line-start, line-end, line-sum-is, line-inside}
+use Rattle.message.proofs.Picking.{line_turn, line-start, line-end, line-sum_is, line-inside}
 use Rattle.message.proofs.chunks.line_sum.Statement.{statement}
 use Rattle.message.proofs.chunks.line_sum.Tie as tie
 
@@ -31,8 +31,8 @@ loop-holds c =
 
 -- the chunk stands among the numbers, and its place is small
 inside : (c : tie.In-loop invariant-loop decreases-loop) → let a = c.before.before.before.args in let k = c.before.loop.k in
-    ((a.start + k * a.stride < length a.chunks.now) × (k * a.stride ≤ mostInLine * mostInLine))
-    × (k * a.nc ≤ longestLine)
+    ((a.start + k * a.stride < length a.chunks.now) × (k * a.stride ≤ most_in_line * most_in_line))
+    × (k * a.nc ≤ longest_line)
 inside c =
     let s = c.before.before.before in
     let a = s.args in
@@ -40,7 +40,7 @@ inside c =
     let q = s.requires.1 in (
       (
         line-inside a.start a.stride a.count k (length a.chunks.now) c.loop-test.true q.1.1,
-        mul-le-mul {n₂ = mostInLine} {m₂ = mostInLine} (omega (arith, c.loop-test.true, q.0.0)) q.0.1,
+        mul-le-mul {n₂ = most_in_line} {m₂ = most_in_line} (omega (arith, c.loop-test.true, q.0.0)) q.0.1,
       ),
       omega (arith, field_room a.count a.nc k c.loop-test.true, q.1.0),
     )
@@ -89,7 +89,7 @@ loop-again c =
       omega (
         arith,
         p.invariant.1,
-        line-turn a.nc a.start a.stride a.count p.k a.chunks.now (omega arith),
+        line_turn a.nc a.start a.stride a.count p.k a.chunks.now (omega arith),
         c.chunk-total.ensures.0,
       ),
     )
@@ -107,7 +107,7 @@ returns : tie.Need-returns invariant-loop decreases-loop
 returns c =
     let a = c.before.before.before.args in
     let p = c.before.loop in
-    line-sum-is a.nc a.start a.stride a.count p.total a.chunks.now
+    line-sum_is a.nc a.start a.stride a.count p.total a.chunks.now
     (omega (
       arith,
       p.invariant.1,

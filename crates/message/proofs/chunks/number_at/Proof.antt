@@ -8,7 +8,7 @@ use native.Mathlib.Omega.{arith}
 use lib.ListN.{get_or, drop}
 use lib.Pow.{pow_mono}
 use Rattle.bits.specs.Bits.{number}
-use Rattle.bits.proofs.Laws.{bit_at, number-next, number-end, pow-next}
+use Rattle.bits.proofs.Laws.{bit_at, number-next, number-end, pow_next}
 use Rattle.message.proofs.chunks.number_at.Statement.{statement}
 use Rattle.message.proofs.chunks.number_at.Tie as tie
 
@@ -39,7 +39,7 @@ below c =
     let s = start c.before in
     let a = s.args in
     let p = c.before.loop in (
-      omega (arith, pow-next p.i, bit_at a.bits.now s.pre.0 (a.at + p.i)),
+      omega (arith, pow_next p.i, bit_at a.bits.now s.pre.0 (a.at + p.i)),
       pow_mono {i = p.i + 1} {j = 8} (omega arith),
     )
 

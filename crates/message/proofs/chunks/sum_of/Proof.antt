@@ -9,9 +9,9 @@ use Rattle.message.specs.Chunks.{row_of}
 use Rattle.message.specs.Layout.{layout}
 use Rattle.message.specs.declared.Layout.{Layout}
 use Rattle.message.proofs.Fields.{field_room}
-use Rattle.message.proofs.Legal.{Bounds, Sizes, legal-bounds, sizes}
-use Rattle.message.proofs.Picking.{block-line, string-line}
-use Rattle.message.proofs.RowSums.{sum-of-block, sum-of-string}
+use Rattle.message.proofs.Legal.{Bounds, Sizes, legal_bounds, sizes}
+use Rattle.message.proofs.Picking.{block_line, string_line}
+use Rattle.message.proofs.RowSums.{sum_of_block, sum_of_string}
 use Rattle.message.proofs.chunks.sum_of.Statement.{statement}
 use Rattle.message.proofs.chunks.sum_of.Tie as tie
 
@@ -20,7 +20,7 @@ abbrev named : tie.Start → Layout
 named c = layout c.args.l1 c.args.l2 c.args.nc c.args.r
 
 bounds : (c : tie.Start) → Bounds (named c)
-bounds c = legal-bounds (named c) c.requires.1.0
+bounds c = legal_bounds (named c) c.requires.1.0
 
 high : (c : tie.Start) → Sizes (named c)
 high c = sizes (named c) (bounds c)
@@ -34,9 +34,9 @@ line-sum-requires : tie.Need-line-sum-requires
 line-sum-requires c κs =
     let s = c.before.before in
     let a = s.args in (
-      (s.requires.0, ((bounds s).nc-high, s.requires.1.1.0.1)),
+      (s.requires.0, ((bounds s).nc_high, s.requires.1.1.0.1)),
       (
-        ((high s).l2-high, omega arith),
+        ((high s).l2_high, omega arith),
         (
           (high s).block,
           omega (arith, field_room a.l1 a.l2 a.k c.if1.true, s.requires.1.1.0.0, mul-one a.l2),
@@ -48,16 +48,16 @@ returns : tie.Need-returns
 returns c =
     let s = c.before.before.before in
     let a = s.args in
-    c.line-sum.ensures ∙ block-line (named s) a.chunks.now s.requires.1.1.0 a.k c.before.if1.true
-    ∙ sum-of-block (named s) (row_of a.nc a.chunks.now) a.k c.before.if1.true
+    c.line-sum.ensures ∙ block_line (named s) a.chunks.now s.requires.1.1.0 a.k c.before.if1.true
+    ∙ sum_of_block (named s) (row_of a.nc a.chunks.now) a.k c.before.if1.true
 
 line-sum-requires-2 : tie.Need-line-sum-requires-2
 line-sum-requires-2 c κs =
     let s = c.before.before in
     let a = s.args in (
-      (s.requires.0, ((bounds s).nc-high, s.requires.1.1.0.1)),
+      (s.requires.0, ((bounds s).nc_high, s.requires.1.1.0.1)),
       (
-        ((high s).l1-high, (high s).l2-high),
+        ((high s).l1_high, (high s).l2_high),
         (
           omega (arith, (high s).string, mul_comm a.l1 a.nc),
           omega (arith, s.requires.1.1.1, s.requires.1.1.0.0, c.if1.false),
@@ -70,9 +70,9 @@ returns-2 c =
     let s = c.before.before.before in
     let a = s.args in
     c.line-sum2.ensures
-    ∙ string-line (named s) a.chunks.now s.requires.1.1.0 (a.k - a.l1)
+    ∙ string_line (named s) a.chunks.now s.requires.1.1.0 (a.k - a.l1)
     (omega (arith, s.requires.1.1.1, c.before.if1.false))
-    ∙ sum-of-string (named s) (row_of a.nc a.chunks.now) a.k c.before.if1.false
+    ∙ sum_of_string (named s) (row_of a.nc a.chunks.now) a.k c.before.if1.false
 
 pub sum-of-spec : {M : Type 1} → statement M
 sum-of-spec =

@@ -7,7 +7,7 @@ use native.Mathlib.Nat.{mul-le-mul, mul-le-mul_left, mul-le-mul_right, mul-one, 
 use native.Mathlib.Omega.{arith}
 use borrow.Author.Tests.{lt-leb, le-leb}
 use lib.Pow.{pow_mono, pow_pos}
-use Rattle.bits.specs.Bits.{mostInLine}
+use Rattle.bits.specs.Bits.{most_in_line}
 use Rattle.message.proofs.layouts.few_chunks.Statement.{statement}
 use Rattle.message.proofs.layouts.few_chunks.Tie as tie
 
@@ -34,9 +34,9 @@ power-requires c κs = search rules
 
 mul-if3 : tie.Need-overflow-mul-if3
 mul-if3 c =
-    let l1-high : c.before.before.before.args.l1 ≤ mostInLine = omega arith in
-    let l2-high : c.before.before.before.args.l2 ≤ mostInLine = omega arith in
-    record { fits = omega (arith, mul-le-mul l1-high l2-high) }
+    let l1_high : c.before.before.before.args.l1 ≤ most_in_line = omega arith in
+    let l2_high : c.before.before.before.args.l2 ≤ most_in_line = omega arith in
+    record { fits = omega (arith, mul-le-mul l1_high l2_high) }
 
 returns-3 : tie.Need-returns-3
 returns-3 c =

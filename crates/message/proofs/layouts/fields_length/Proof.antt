@@ -3,8 +3,8 @@ use Prim.Native.Nat.{◌+◌, ◌*◌, ◌≤◌}
 use mathlib.Core.Path.{◌≡◌, refl}
 use native.Mathlib.Omega.{arith}
 use Rattle.message.specs.Layout.{layout}
-use Rattle.message.specs.Message.{width, fieldsLength}
-use Rattle.message.proofs.Legal.{Sizes, legal-bounds, sizes}
+use Rattle.message.specs.Message.{width, fields_length}
+use Rattle.message.proofs.Legal.{Sizes, legal_bounds, sizes}
 use Rattle.message.proofs.Longest.{fields-high}
 use Rattle.message.proofs.layouts.fields_length.Statement.{statement}
 use Rattle.message.proofs.layouts.fields_length.Tie as tie
@@ -13,7 +13,7 @@ use Rattle.message.proofs.layouts.fields_length.Tie as tie
 within : (c : tie.Start) → Sizes (layout c.args.l1 c.args.l2 c.args.nc c.args.r)
 within c =
     let l = layout c.args.l1 c.args.l2 c.args.nc c.args.r in
-    sizes l (legal-bounds l c.requires)
+    sizes l (legal_bounds l c.requires)
 
 mul-width : tie.Need-overflow-mul-width
 mul-width c = record { fits = omega (arith, (within c).block) }
@@ -31,9 +31,9 @@ width-requires-2 c κs = (within c.before).string
 whole : (c : tie.After-width2) →
     let a = c.before.before.args in
     let l = layout a.l1 a.l2 a.nc a.r in
-    (a.l1 * c.before.width.result + a.l2 * c.width2.result + a.r * a.nc ≡ fieldsLength l)
-    × (fieldsLength l ≤ 1160)
-unfolding fieldsLength
+    (a.l1 * c.before.width.result + a.l2 * c.width2.result + a.r * a.nc ≡ fields_length l)
+    × (fields_length l ≤ 1160)
+unfolding fields_length
 whole c =
     let a = c.before.before.args in (
       rw (c.before.width.ensures, c.width2.ensures) refl,

@@ -2,7 +2,7 @@
 use borrow.Author.Rules.{rules}
 use native.Mathlib.Omega.{arith}
 use Rattle.message.specs.Layout.{layout}
-use Rattle.message.specs.Message.{messageBytes}
+use Rattle.message.specs.Message.{message_bytes}
 use Rattle.message.proofs.Longest.{fields-high}
 use Rattle.message.proofs.layouts.message_bytes.Statement.{statement}
 use Rattle.message.proofs.layouts.message_bytes.Tie as tie
@@ -25,7 +25,7 @@ add-result-2 : tie.Need-overflow-add-result-2
 add-result-2 c = search rules
 
 returns : tie.Need-returns
-unfolding messageBytes
+unfolding message_bytes
 returns c = search rules
 
 pub message-bytes-spec : {M : Type 1} → statement M

@@ -6,7 +6,7 @@ use mathlib.Core.Path.{◌≡◌, ap, ◌∙◌}
 use native.Mathlib.Nat.{zero-add}
 use native.Mathlib.Omega.{arith}
 use Rattle.message.specs.Message.{width}
-use Rattle.message.proofs.Fields.{width-zero, width-half, width-most}
+use Rattle.message.proofs.Fields.{width_zero, width_half, width-most}
 use Rattle.message.proofs.layouts.width.Statement.{statement}
 use Rattle.message.proofs.layouts.width.Tie as tie
 
@@ -26,7 +26,7 @@ add-k c =
       fits = omega (
         arith,
         p.invariant.1,
-        width-half p.v c.loop-test.true,
+        width_half p.v c.loop-test.true,
         width-most 11 c.before.before.args.w (omega arith),
       );
     }
@@ -37,13 +37,13 @@ loop-less c = search rules
 loop-again : tie.Need-loop-preserved invariant-loop decreases-loop
 loop-again c =
     let p = c.before.loop in
-    (omega arith, omega (arith, p.invariant.1, width-half p.v (search rules)))
+    (omega arith, omega (arith, p.invariant.1, width_half p.v (search rules)))
 
 returns : tie.Need-returns invariant-loop decreases-loop
 returns c =
     let p = c.before.loop in
     let z : p.v ≡ 0 = omega arith in
-    omega (arith, p.invariant.1, ap width z ∙ width-zero)
+    omega (arith, p.invariant.1, ap width z ∙ width_zero)
 
 pub width_spec : {M : Type 1} → statement M
 width_spec = tie.close (tie.spec invariant-loop decreases-loop loop-holds add-k loop-less loop-again returns)

@@ -8,10 +8,10 @@ use mathlib.Core.List.{List}
 use native.Mathlib.Omega.{arith}
 use borrow.Author.Tests.{not-true, not-false}
 use lib.ListN.{length}
-use Rattle.message.specs.Read.{marked, layout_of, messageRefusal}
-use Rattle.message.proofs.Answers.{refused-answer}
+use Rattle.message.specs.Read.{marked, layout_of, message_refusal}
+use Rattle.message.proofs.Answers.{refused_answer}
 use Rattle.message.proofs.Head.{mark}
-use Rattle.message.proofs.Messages.{refused-1, refused-2}
+use Rattle.message.proofs.Messages.{refused_1, refused_2}
 use Rattle.message.proofs.reading.check.Statement.{statement}
 use Rattle.message.proofs.reading.check.Tie as tie
 
@@ -21,23 +21,23 @@ marked-requires c κs = search rules
 returns : tie.Need-returns
 returns c =
     let s : List ℕ = c.before.before.before.args.s.now in
-    refused-answer (messageRefusal s) 0 s (refused-1 s (sym c.before.marked.ensures ∙ not-true _ c.if1.true))
+    refused_answer (message_refusal s) 0 s (refused_1 s (sym c.before.marked.ensures ∙ not-true _ c.if1.true))
 
 -- past the first test there is a mark, and so there are nine bytes
-is-marked : (c : tie.Else1) → marked c.before.before.before.args.s.now ≡ true
-is-marked c = sym c.before.marked.ensures ∙ not-false _ c.if1.false
+is_marked : (c : tie.Else1) → marked c.before.before.before.args.s.now ≡ true
+is_marked c = sym c.before.marked.ensures ∙ not-false _ c.if1.false
 
 long : (c : tie.Else2) → 9 ≤ length c.before.before.before.before.before.args.s.now
-long c = (mark c.before.before.before.before.before.args.s.now (is-marked c.before.before)).long
+long c = (mark c.before.before.before.before.before.args.s.now (is_marked c.before.before)).long
 
 version-one-requires : tie.Need-version-one-requires
-version-one-requires c κs = (mark c.before.before.before.args.s.now (is-marked c)).long
+version-one-requires c κs = (mark c.before.before.before.args.s.now (is_marked c)).long
 
 returns-2 : tie.Need-returns-2
 returns-2 c =
     let s : List ℕ = c.before.before.before.before.before.args.s.now in
-    refused-answer (messageRefusal s) 1 s
-    (refused-2 s (is-marked c.before.before) (sym c.before.version-one.ensures ∙ not-true _ c.if2.true))
+    refused_answer (message_refusal s) 1 s
+    (refused_2 s (is_marked c.before.before) (sym c.before.version-one.ensures ∙ not-true _ c.if2.true))
 
 shared-slice-read-wide : tie.Need-shared-slice-read-wide
 shared-slice-read-wide c = omega (arith, long c.before)
@@ -71,7 +71,7 @@ check-layout-requires c κs =
     let second = c.before.before.before.before in
     let first = second.before.before in
     let v = first.before.before in (
-      is-marked v.before.before,
+      is_marked v.before.before,
       (
         sym v.before.version-one.ensures ∙ not-false _ v.if2.false,
         rw (first.wide.ensures, second.wide2.ensures, c.before.before.wide3.ensures, c.wide4.ensures) refl,

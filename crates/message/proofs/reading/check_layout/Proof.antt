@@ -8,11 +8,11 @@ use mathlib.Core.List.{List}
 use borrow.Author.Tests.{not-true, not-false}
 use lib.ListN.{length}
 use Rattle.message.specs.Layout.{layout, legal}
-use Rattle.message.specs.Message.{messageBytes}
-use Rattle.message.specs.Read.{messageRefusal}
+use Rattle.message.specs.Message.{message_bytes}
+use Rattle.message.specs.Read.{message_refusal}
 use Rattle.message.specs.declared.Layout.{Layout}
-use Rattle.message.proofs.Answers.{refused-answer, fit-answer}
-use Rattle.message.proofs.Messages.{refused-3, refused-4, refused-5, refused-6, refused-not}
+use Rattle.message.proofs.Answers.{refused_answer, fit_answer}
+use Rattle.message.proofs.Messages.{refused_3, refused_4, refused_5, refused_6, refused_not}
 use Rattle.message.proofs.reading.check_layout.Statement.{statement}
 use Rattle.message.proofs.reading.check_layout.Tie as tie
 
@@ -27,54 +27,54 @@ returns : tie.Need-returns
 returns c =
     let t = c.before.before.before in
     let s : List ℕ = t.args.s.now in
-    refused-answer (messageRefusal s) 2 s
-    (refused-3 s t.requires.0 t.requires.1.0 (named t) t.requires.1.1
+    refused_answer (message_refusal s) 2 s
+    (refused_3 s t.requires.0 t.requires.1.0 (named t) t.requires.1.1
     (sym c.before.legal.ensures ∙ not-true _ c.if1.true))
 
 -- past the first test the layout is legal, past the second the message is as long as it gives
-is-legal : (c : tie.Else1) → legal (named c.before.before.before) ≡ true
-is-legal c = sym c.before.legal.ensures ∙ not-false _ c.if1.false
+is_legal : (c : tie.Else1) → legal (named c.before.before.before) ≡ true
+is_legal c = sym c.before.legal.ensures ∙ not-false _ c.if1.false
 
 -- where the function starts, seen from where the second test does not hold
 abbrev start : tie.Else2 → tie.Start
 start c = c.before.before.before.before.before
 
-is-long : (c : tie.Else2) → length (start c).args.s.now ≡ messageBytes (named (start c))
-is-long c = c.if2.false ∙ c.before.message-bytes.ensures
+is_long : (c : tie.Else2) → length (start c).args.s.now ≡ message_bytes (named (start c))
+is_long c = c.if2.false ∙ c.before.message-bytes.ensures
 
 message-bytes-requires : tie.Need-message-bytes-requires
-message-bytes-requires c κs = is-legal c
+message-bytes-requires c κs = is_legal c
 
 returns-2 : tie.Need-returns-2
 returns-2 c =
     let t = c.before.before.before.before.before in
     let s : List ℕ = t.args.s.now in
-    refused-answer (messageRefusal s) 3 s
-    (refused-4 s t.requires.0 t.requires.1.0 (named t) t.requires.1.1 (is-legal c.before.before)
+    refused_answer (message_refusal s) 3 s
+    (refused_4 s t.requires.0 t.requires.1.0 (named t) t.requires.1.1 (is_legal c.before.before)
     (λ e. c.if2.true (e ∙ sym c.before.message-bytes.ensures)))
 
 sum-high-requires : tie.Need-sum-high-requires
-sum-high-requires c κs = (is-legal c.before.before, is-long c)
+sum-high-requires c κs = (is_legal c.before.before, is_long c)
 
 returns-3 : tie.Need-returns-3
 returns-3 c =
     let e = c.before.before in
     let t = start e in
     let s : List ℕ = t.args.s.now in
-    refused-answer (messageRefusal s) 4 s
-    (refused-5 s t.pre.0 t.pre.1.0 (named t) t.pre.1.1 (is-legal e.before.before) (is-long e)
+    refused_answer (message_refusal s) 4 s
+    (refused_5 s t.pre.0 t.pre.1.0 (named t) t.pre.1.1 (is_legal e.before.before) (is_long e)
     (sym c.before.sum-high.ensures ∙ c.if3.true))
 
 spare-blank-requires : tie.Need-spare-blank-requires
-spare-blank-requires c κs = (is-legal c.before.before.before.before, is-long c.before.before)
+spare-blank-requires c κs = (is_legal c.before.before.before.before, is_long c.before.before)
 
 returns-4 : tie.Need-returns-4
 returns-4 c =
     let e = c.before.before.before.before in
     let t = start e in
     let s : List ℕ = t.args.s.now in
-    refused-answer (messageRefusal s) 5 s
-    (refused-6 s t.pre.0 t.pre.1.0 (named t) t.pre.1.1 (is-legal e.before.before) (is-long e)
+    refused_answer (message_refusal s) 5 s
+    (refused_6 s t.pre.0 t.pre.1.0 (named t) t.pre.1.1 (is_legal e.before.before) (is_long e)
     (sym c.before.before.before.sum-high.ensures ∙ c.before.before.if3.false)
     (sym c.before.spare-blank.ensures ∙ not-true _ c.if4.true))
 
@@ -83,8 +83,8 @@ returns-5 c =
     let e = c.before.before.before.before in
     let t = start e in
     let s : List ℕ = t.args.s.now in
-    fit-answer (messageRefusal s) s (named t) t.pre.1.1
-    (refused-not s t.pre.0 t.pre.1.0 (named t) t.pre.1.1 (is-legal e.before.before) (is-long e)
+    fit_answer (message_refusal s) s (named t) t.pre.1.1
+    (refused_not s t.pre.0 t.pre.1.0 (named t) t.pre.1.1 (is_legal e.before.before) (is_long e)
     (sym c.before.before.before.sum-high.ensures ∙ c.before.before.if3.false)
     (sym c.before.spare-blank.ensures ∙ not-false _ c.if4.false))
 

@@ -5,7 +5,7 @@ use mathlib.Core.List.{List}
 use native.Mathlib.Omega.{arith}
 use Rattle.bits.proofs.Laws.{refuted}
 use Rattle.message.specs.Read.{marked}
-use Rattle.message.proofs.Head.{mark, is-marked}
+use Rattle.message.proofs.Head.{mark, is_marked}
 use Rattle.message.proofs.reading.marked.Statement.{statement}
 use Rattle.message.proofs.reading.marked.Tie as tie
 
@@ -43,7 +43,7 @@ returns-5 : tie.Need-returns-5
 returns-5 c =
     let b = c.before.before.before.before in
     let a = b.before.before in
-    is-marked a.before.args.s.now
+    is_marked a.before.args.s.now
     (record { long = omega arith; first = b.if2.false; second = c.before.before.if3.false; third = c.if4.false })
 
 pub marked-spec : {M : Type 1} → statement M

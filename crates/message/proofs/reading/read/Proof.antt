@@ -8,11 +8,11 @@ use mathlib.Core.List.{List}
 use native.Mathlib.Omega.{arith}
 use lib.ListN.{length}
 use Rattle.message.specs.Layout.{legal}
-use Rattle.message.specs.Message.{messageBytes}
-use Rattle.message.specs.Read.{layout_of, messageRefusal, readRefusal, layoutAnswer}
+use Rattle.message.specs.Message.{message_bytes}
+use Rattle.message.specs.Read.{layout_of, message_refusal, read_refusal, layout_answer}
 use Rattle.message.specs.declared.Layout.{Layout}
-use Rattle.message.proofs.Answers.{found, not_found, fit-named, refused-answer, fit-answer, refuses-message, refuses-target, refuses-nothing, untouched, numbers-count, numbers-written}
-use Rattle.message.proofs.Legal.{legal-bounds, sizes}
+use Rattle.message.proofs.Answers.{found, not_found, fit_named, refused_answer, fit_answer, refuses_message, refuses_target, refuses_nothing, untouched, numbers-count, numbers-written}
+use Rattle.message.proofs.Legal.{legal_bounds, sizes}
 use Rattle.message.proofs.reading.read.Statement.{statement}
 use Rattle.message.proofs.reading.read.Tie as tie
 
@@ -32,8 +32,8 @@ returns c =
     let s : List ℕ = a.s.now in
     let o : List ℕ = a.out.now in
     let n = not_found s k.check.result c.enum_told.given.0.0 c.enum_told.given.1 k.check.ensures in
-    let e : readRefusal s (length o) ≡ messageRefusal s = refuses-message s o n in
-    (k.check.ensures ∙ ap (λ (q : ℕ). layoutAnswer q s) (sym e), untouched s o (λ z. n (sym e ∙ z)))
+    let e : read_refusal s (length o) ≡ message_refusal s = refuses_message s o n in
+    (k.check.ensures ∙ ap (λ (q : ℕ). layout_answer q s) (sym e), untouched s o (λ z. n (sym e ∙ z)))
 
 -- the layout that was answered; the message is fit, and its head names this layout
 abbrev named : tie.After-checked → Layout
@@ -43,20 +43,20 @@ named c = c.checked.given.0.0
 abbrev start : tie.After-checked → tie.Start
 start c = c.before.before.before.before.before
 
-answer : (c : tie.After-checked) → let s = (start c).args.s.now in (messageRefusal s ≡ 0) × (layout_of s ≡ named c)
+answer : (c : tie.After-checked) → let s = (start c).args.s.now in (message_refusal s ≡ 0) × (layout_of s ≡ named c)
 answer c =
     let k = c.before.before in
     found (start c).args.s.now k.check.result (named c) c.checked.given.1 k.check.ensures
 
 shaped : (c : tie.After-checked) → let s = (start c).args.s.now in
-    (legal (named c) ≡ true) × (length s ≡ messageBytes (named c))
-shaped c = fit-named (start c).args.s.now (named c) (answer c).0 (answer c).1
+    (legal (named c) ≡ true) × (length s ≡ message_bytes (named c))
+shaped c = fit_named (start c).args.s.now (named c) (answer c).0 (answer c).1
 
 -- its numbers are few
 count : (c : tie.After-checked) → (named c).l1 + (named c).l2 + (named c).r ≤ 526
 count c =
-    let b = legal-bounds (named c) (shaped c).0 in
-    omega (arith, b.r-high, (sizes (named c) b).l1-high, (sizes (named c) b).l2-high)
+    let b = legal_bounds (named c) (shaped c).0 in
+    omega (arith, b.r_high, (sizes (named c) b).l1_high, (sizes (named c) b).l2_high)
 
 add-if1 : tie.Need-overflow-add-if1
 add-if1 c = record { fits = omega (arith, count c.before) }
@@ -70,9 +70,9 @@ returns-2 c =
     let a = (start k).args in
     let s : List ℕ = a.s.now in
     let o : List ℕ = a.out.now in
-    let e : readRefusal s (length o) ≡ 10 =
-    refuses-target s o (answer k).0 (omega (arith, c.if1.true, numbers-count s (named k) (answer k).1)) in
-    (refused-answer (readRefusal s (length o)) 9 s e, untouched s o (λ z. omega arith))
+    let e : read_refusal s (length o) ≡ 10 =
+    refuses_target s o (answer k).0 (omega (arith, c.if1.true, numbers-count s (named k) (answer k).1)) in
+    (refused_answer (read_refusal s (length o)) 9 s e, untouched s o (λ z. omega arith))
 
 read-numbers-requires : tie.Need-read-numbers-requires
 read-numbers-requires c κs =
@@ -90,11 +90,11 @@ returns-3 c =
     let s : List ℕ = a.s.now in
     let o : List ℕ = a.out.now in
     let room = r.before.before.if1.false in
-    let e : readRefusal s (length o) ≡ 0 =
-    refuses-nothing s o (answer k).0 (omega (arith, room, numbers-count s (named k) (answer k).1)) in
+    let e : read_refusal s (length o) ≡ 0 =
+    refuses_nothing s o (answer k).0 (omega (arith, room, numbers-count s (named k) (answer k).1)) in
     let put =
     numbers-written s o r.read-numbers.new.1.1.1.1.1.0 (named k) (answer k).1 e r.read-numbers.ensures in
-    (fit-answer (readRefusal s (length o)) s (named k) (answer k).1 e, put)
+    (fit_answer (read_refusal s (length o)) s (named k) (answer k).1 e, put)
 
 pub read_spec : {M : Type 1} → statement M
 read_spec =

@@ -9,9 +9,9 @@ use native.Mathlib.Omega.{arith}
 use lib.ListN.{length, get_or, take, drop, length-set}
 use lib.Seq.{paste, paste-zero, take_all}
 use Rattle.bits.specs.Bits.{number, unpack}
-use Rattle.bits.proofs.Copy.{paste-next}
+use Rattle.bits.proofs.Copy.{paste_next}
 use Rattle.message.specs.Read.{fields}
-use Rattle.message.proofs.Fields.{length_fields, field-value, field_room, field_step}
+use Rattle.message.proofs.Fields.{length_fields, field_value, field_room, field_step}
 use Rattle.message.proofs.reading.read_fields.Statement.{statement}
 use Rattle.message.proofs.reading.read_fields.Tie as tie
 
@@ -32,7 +32,7 @@ value-is c =
     let a = c.before.before.before.before.before.args in
     let p = c.before.before.loop in
     c.take_long.ensures.0 ∙ ap (λ (m : ℕ). number a.k (drop m (unpack a.s.now))) p.invariant.1.0
-    ∙ field-value a.n a.k a.at p.i (unpack a.s.now) (omega arith)
+    ∙ field_value a.n a.k a.at p.i (unpack a.s.now) (omega arith)
 
 loop-holds : tie.Need-loop-init invariant-loop decreases-loop
 loop-holds c =
@@ -77,7 +77,7 @@ loop-again c =
         omega (arith, t.take_long.ensures.1, p.invariant.1.0, field_step a.at a.k p.i),
         (
           simp length-set p.invariant.1.1.0,
-          rw (p.invariant.1.1.1, value-is t) (paste-next a.out.now a.from f p.i (omega arith) (omega (arith, n))),
+          rw (p.invariant.1.1.1, value-is t) (paste_next a.out.now a.from f p.i (omega arith) (omega (arith, n))),
         ),
       ),
     )

@@ -7,11 +7,11 @@ use native.Mathlib.Omega.{arith}
 use lib.ListN.{length, drop}
 use Rattle.message.specs.Layout.{layout}
 use Rattle.message.specs.Message.{width}
-use Rattle.message.specs.Read.{readBlockSums, readStringSums}
+use Rattle.message.specs.Read.{read_block_sums, read_string_sums}
 use Rattle.message.specs.declared.Layout.{Layout}
-use Rattle.message.proofs.Legal.{Sizes, sizes, legal-bounds}
+use Rattle.message.proofs.Legal.{Sizes, sizes, legal_bounds}
 use Rattle.message.proofs.Longest.{Rest, after-head}
-use Rattle.message.proofs.Numbers.{block_written, string-written, check-written}
+use Rattle.message.proofs.Numbers.{block_written, string_written, check-written}
 use Rattle.message.proofs.reading.read_numbers.Statement.{statement}
 use Rattle.message.proofs.reading.read_numbers.Tie as tie
 
@@ -24,7 +24,7 @@ rest c =
 within : (c : tie.Start) → Sizes (layout c.args.l1 c.args.l2 c.args.nc c.args.r)
 within c =
     let l : Layout = layout c.args.l1 c.args.l2 c.args.nc c.args.r in
-    sizes l (legal-bounds l c.requires.0)
+    sizes l (legal_bounds l c.requires.0)
 
 mul-width : tie.Need-overflow-mul-width
 mul-width c = record { fits = omega (arith, (within c.before.before).block) }
@@ -74,7 +74,7 @@ read-fields-requires c κs =
     let w = c.before in
     let s = start w.before in
     let t = rest s in (
-      (omega (arith, w.before.width.ensures, t.block-width), omega (arith, t.long)),
+      (omega (arith, w.before.width.ensures, t.block_width), omega (arith, t.long)),
       (omega (arith, few w), (omega (arith, places w), omega (arith, s.pre.1.1))),
     )
 
@@ -88,7 +88,7 @@ begun c = start c.before.before.before
 first : (c : tie.After-read-fields) →
     let a = begun c in
     c.read-fields.new.1.1.1.1.0
-    ≡ readBlockSums (named a) a.args.s.now ++ drop a.args.l1 a.args.out.now
+    ≡ read_block_sums (named a) a.args.s.now ++ drop a.args.l1 a.args.out.now
 first c =
     let a = begun c in
     let w = c.before.before in
@@ -99,14 +99,14 @@ first c =
 second : (c : tie.After-read-fields2) →
     let a = begun c.before.before.before.before in
     c.read-fields2.new.1.1.1.1.0
-    ≡ readBlockSums (named a) a.args.s.now ++ readStringSums (named a) a.args.s.now
+    ≡ read_block_sums (named a) a.args.s.now ++ read_string_sums (named a) a.args.s.now
     ++ drop (a.args.l1 + a.args.l2) a.args.out.now
 second c =
     let d = c.before.before.before.before in
     let a = begun d in
     let w = d.before.before in
     c.read-fields2.ensures
-    ∙ string-written (named a) a.args.s.now a.args.out.now w.before.width.result w.width2.result
+    ∙ string_written (named a) a.args.s.now a.args.out.now w.before.width.result w.width2.result
     w.before.width.ensures w.width2.ensures d.read-fields.new.1.1.1.1.0 (first d)
 
 -- the slice stays as long as it was
@@ -126,7 +126,7 @@ read-fields-requires-2 c κs =
     let w = widths c.before in
     let q = start w.before in
     let t = rest q in (
-      (omega (arith, w.width2.ensures, t.string-width), omega (arith, t.long)),
+      (omega (arith, w.width2.ensures, t.string_width), omega (arith, t.long)),
       (
         omega (arith, few w),
         (omega (arith, places w), omega (arith, q.pre.1.1, room_after c.before.before.before)),
@@ -141,7 +141,7 @@ read-fields-requires-3 c κs =
     let w = widths c.before.before.before.before.before in
     let q = start w.before in
     let t = rest q in (
-      (omega (arith, (legal-bounds (named q) q.pre.0).nc-high), omega (arith, t.long)),
+      (omega (arith, (legal_bounds (named q) q.pre.0).nc_high), omega (arith, t.long)),
       (
         omega (arith, few w),
         (omega (arith, places w), omega (arith, q.pre.1.1, room-left c.before.before.before)),

@@ -7,15 +7,15 @@ use mathlib.Core.List.{List}
 use native.Mathlib.Omega.{arith}
 use lib.ListN.{length, get_or, drop}
 use Rattle.bits.specs.Bits.{number, unpack}
-use Rattle.message.specs.Read.{fields, someAbove}
-use Rattle.message.proofs.Fields.{length_fields, field-value, field_room, field_step, above-next, above-stop, above-end}
+use Rattle.message.specs.Read.{fields, some_above}
+use Rattle.message.proofs.Fields.{length_fields, field_value, field_room, field_step, above-next, above_stop, above-end}
 use Rattle.message.proofs.reading.some_above.Statement.{statement}
 use Rattle.message.proofs.reading.some_above.Tie as tie
 
 abbrev invariant-loop : tie.invariant-loop
 invariant-loop s at n k limit c₀ i₀ c i =
     (i ≤ n) × ((c.at ≡ at + i * k)
-    × (someAbove limit (drop i (fields n k (drop at (unpack s)))) ≡ someAbove limit (fields n k (drop at (unpack s)))))
+    × (some_above limit (drop i (fields n k (drop at (unpack s)))) ≡ some_above limit (fields n k (drop at (unpack s)))))
 
 abbrev decreases-loop : tie.decreases-loop
 decreases-loop s at n k limit c₀ i₀ c i = n - i
@@ -33,7 +33,7 @@ value-is c =
     let a = (start c.before).args in
     let p = c.before.before.loop in
     c.take_long.ensures.0 ∙ ap (λ (m : ℕ). number a.k (drop m (unpack a.s.now))) p.invariant.1.0
-    ∙ field-value a.n a.k a.at p.i (unpack a.s.now) (omega arith)
+    ∙ field_value a.n a.k a.at p.i (unpack a.s.now) (omega arith)
 
 loop-holds : tie.Need-loop-init invariant-loop decreases-loop
 loop-holds c = search rules
@@ -55,7 +55,7 @@ returns c =
     let f : List ℕ = fields a.n a.k (drop a.at (unpack a.s.now)) in
     let n : length f ≡ a.n = length_fields a.n a.k (drop a.at (unpack a.s.now)) in
     sym (sym p.invariant.1.1
-    ∙ above-stop a.limit f p.i (omega (arith, n)) (omega (arith, c.if1.true, value-is t)))
+    ∙ above_stop a.limit f p.i (omega (arith, n)) (omega (arith, c.if1.true, value-is t)))
 
 add-i : tie.Need-overflow-add-i invariant-loop decreases-loop
 add-i c = search rules

@@ -10,7 +10,7 @@ use lib.ListN.{drop}
 use Rattle.bits.specs.Bits.{unpack, blank}
 use Rattle.bits.proofs.Packing.{fits_by}
 use Rattle.message.specs.Layout.{layout}
-use Rattle.message.specs.Message.{fieldsLength}
+use Rattle.message.specs.Message.{fields_length}
 use Rattle.message.specs.Read.{body}
 use Rattle.message.specs.declared.Layout.{Layout}
 use Rattle.message.proofs.Longest.{Rest, after-head}
@@ -46,7 +46,7 @@ returns c =
     let d : List ℕ = drop 9 a.s.now in
     c.fits2.ensures
     ∙ rw (part_to_end a.s.now 9, c.before.before.fields-length.ensures)
-    (sym (fits_by (fieldsLength l) d (blank (drop (fieldsLength l) (unpack d))) t.bytes refl))
+    (sym (fits_by (fields_length l) d (blank (drop (fields_length l) (unpack d))) t.bytes refl))
 
 pub spare-blank-spec : {M : Type 1} → statement M
 spare-blank-spec =

@@ -4,10 +4,10 @@ use mathlib.Core.Path.{◌≡◌, refl, sym, ap, ap₂, ◌∙◌}
 use mathlib.Core.List.{List}
 use native.Mathlib.Omega.{arith}
 use lib.ListN.{drop}
-use Rattle.message.specs.Layout.{layout, block_bits, stringBits}
-use Rattle.message.specs.Read.{body, fields, readBlockSums, readStringSums, someAbove}
+use Rattle.message.specs.Layout.{layout, block_bits, string_bits}
+use Rattle.message.specs.Read.{body, fields, read_block_sums, read_string_sums, some_above}
 use Rattle.message.specs.declared.Layout.{Layout}
-use Rattle.message.proofs.Legal.{Sizes, sizes, legal-bounds}
+use Rattle.message.proofs.Legal.{Sizes, sizes, legal_bounds}
 use Rattle.message.proofs.Longest.{Rest, after-head}
 use Rattle.message.proofs.Numbers.{after-head-bits}
 use Rattle.message.proofs.reading.sum_high.Statement.{statement}
@@ -21,7 +21,7 @@ rest c =
 within : (c : tie.Start) → Sizes (layout c.args.l1 c.args.l2 c.args.nc c.args.r)
 within c =
     let l : Layout = layout c.args.l1 c.args.l2 c.args.nc c.args.r in
-    sizes l (legal-bounds l c.requires.0)
+    sizes l (legal_bounds l c.requires.0)
 
 -- where the function starts, seen from the first call of `width`
 abbrev start : tie.After-width → tie.Start
@@ -40,21 +40,21 @@ some-above-requires : tie.Need-some-above-requires
 some-above-requires c κs =
     let t = rest (start c) in
     let size = ap (λ (k : ℕ). (start c).args.l1 * k) c.width.ensures in (
-      (omega (arith, c.width.ensures, t.block-width), omega (arith, t.long)),
-      (omega (arith, t.few, t.whole), omega (arith, size, t.block-fields, t.whole)),
+      (omega (arith, c.width.ensures, t.block_width), omega (arith, t.long)),
+      (omega (arith, t.few, t.whole), omega (arith, size, t.block_fields, t.whole)),
     )
 
 -- what the block sums answer
 block-answer : (c : tie.After-some-above) →
     let a = (start c.before).args in
     let l = layout a.l1 a.l2 a.nc a.r in
-    c.some-above.result ≡ someAbove (block_bits l) (readBlockSums l a.s.now)
-unfolding readBlockSums
+    c.some-above.result ≡ some_above (block_bits l) (read_block_sums l a.s.now)
+unfolding read_block_sums
 block-answer c =
     let a = (start c.before).args in
     let l = layout a.l1 a.l2 a.nc a.r in
     c.some-above.ensures
-    ∙ ap₂ (λ (k : ℕ) (x : List ℕ). someAbove (block_bits l) (fields a.l1 k x)) c.before.width.ensures
+    ∙ ap₂ (λ (k : ℕ) (x : List ℕ). some_above (block_bits l) (fields a.l1 k x)) c.before.width.ensures
     (after-head-bits l a.s.now 0 72 refl)
 
 returns : tie.Need-returns
@@ -78,7 +78,7 @@ below : (c : tie.After-width2) → (start (first c)).args.l1 * (first c).width.r
 below c =
     let s = start (first c) in
     let t = rest s in
-    omega (arith, t.block-fields, t.few, ap (λ (k : ℕ). s.args.l1 * k) (first c).width.ensures)
+    omega (arith, t.block_fields, t.few, ap (λ (k : ℕ). s.args.l1 * k) (first c).width.ensures)
 
 mul-some-above-2 : tie.Need-overflow-mul-some-above-2
 mul-some-above-2 c = record { fits = omega (arith, below c) }
@@ -95,12 +95,12 @@ some-above-requires-2 c κs =
     let t = rest (start (first c)) in
     let blocks = ap (λ (k : ℕ). a.l1 * k) (first c).width.ensures in
     let strings = ap (λ (k : ℕ). a.l2 * k) c.width2.ensures in (
-      (omega (arith, c.width2.ensures, t.string-width), omega (arith, t.long)),
-      (omega (arith, t.few, t.whole), omega (arith, blocks, strings, t.string-fields, t.whole)),
+      (omega (arith, c.width2.ensures, t.string_width), omega (arith, t.long)),
+      (omega (arith, t.few, t.whole), omega (arith, blocks, strings, t.string_fields, t.whole)),
     )
 
 returns-2 : tie.Need-returns-2
-unfolding readStringSums
+unfolding read_string_sums
 returns-2 c =
     let w = first c.before in
     let a = (start w).args in
@@ -113,7 +113,7 @@ returns-2 c =
     ∙ ap (λ (k : ℕ). drop (a.l1 * k) b) w.width.ensures in
     rw e
     (c.some-above2.ensures
-    ∙ ap₂ (λ (k : ℕ) (x : List ℕ). someAbove (stringBits l) (fields a.l2 k x)) c.before.width2.ensures at)
+    ∙ ap₂ (λ (k : ℕ) (x : List ℕ). some_above (string_bits l) (fields a.l2 k x)) c.before.width2.ensures at)
 
 pub sum-high-spec : {M : Type 1} → statement M
 sum-high-spec =

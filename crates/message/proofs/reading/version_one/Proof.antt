@@ -3,8 +3,8 @@ use borrow.Author.Rules.{rules}
 use Prim.Native.Nat.{ℕ}
 use mathlib.Core.List.{List}
 use Rattle.bits.proofs.Laws.{refuted}
-use Rattle.message.specs.Read.{versionOne}
-use Rattle.message.proofs.Head.{version, is-version}
+use Rattle.message.specs.Read.{version_one}
+use Rattle.message.proofs.Head.{version, is_version}
 use Rattle.message.proofs.reading.version_one.Statement.{statement}
 use Rattle.message.proofs.reading.version_one.Tie as tie
 
@@ -14,7 +14,7 @@ shared-slice-read-if1 c = search rules
 returns : tie.Need-returns
 returns c =
     let s : List ℕ = c.before.before.args.s.now in
-    refuted (versionOne s) (λ e. c.if1.true (version s e).high)
+    refuted (version_one s) (λ e. c.if1.true (version s e).high)
 
 shared-slice-read-if2 : tie.Need-shared-slice-read-if2
 shared-slice-read-if2 c = search rules
@@ -22,11 +22,11 @@ shared-slice-read-if2 c = search rules
 returns-2 : tie.Need-returns-2
 returns-2 c =
     let s : List ℕ = c.before.before.before.before.args.s.now in
-    refuted (versionOne s) (λ e. c.if2.true (version s e).low)
+    refuted (version_one s) (λ e. c.if2.true (version s e).low)
 
 returns-3 : tie.Need-returns-3
 returns-3 c =
-    is-version c.before.before.before.before.args.s.now
+    is_version c.before.before.before.before.args.s.now
     (record { high = c.before.before.if1.false; low = c.if2.false })
 
 pub version-one-spec : {M : Type 1} → statement M

@@ -8,14 +8,14 @@ use Rattle.bits.specs.Filling.{Goes}
 use Rattle.message.specs.Chunks.{row_of}
 use Rattle.message.specs.Layout.{layout}
 use Rattle.message.specs.declared.Layout.{Layout}
-use Rattle.message.proofs.Assembly.{fresh, blockPart, stringPart, block_room, block-stage, string-room, string-stage, check-room, end-room, all-ended}
-use Rattle.message.proofs.Legal.{Sizes, legal-bounds, sizes}
+use Rattle.message.proofs.Assembly.{fresh, block_part, string_part, block_room, block_stage, string_room, string_stage, check-room, end-room, all_ended}
+use Rattle.message.proofs.Legal.{Sizes, legal_bounds, sizes}
 use Rattle.message.proofs.writing.put_fields.Statement.{statement}
 use Rattle.message.proofs.writing.put_fields.Tie as tie
 
 high : (c : tie.Start) → Sizes (layout c.args.l1 c.args.l2 c.args.nc c.args.r)
 high c = let l : Layout = layout c.args.l1 c.args.l2 c.args.nc c.args.r in
-    sizes l (legal-bounds l c.requires.0.0)
+    sizes l (legal_bounds l c.requires.0.0)
 
 mul-width : tie.Need-overflow-mul-width
 mul-width c = omega (arith, (high c.before.before).block)
@@ -57,11 +57,11 @@ start c = entry c.before.before.before
 
 -- after the block sums
 blocks-put : (c : tie.After-put-sums) → let s = start c in
-    Goes fresh s.args.out.now (blockPart (lay s) (row s)) c.put-sums.result
+    Goes fresh s.args.out.now (block_part (lay s) (row s)) c.put-sums.result
     c.put-sums.new.1.1.1.1.1.1.1.1.1.1.0
 blocks-put c =
     let s = start c in
-    block-stage (lay s) (row s) s.args.out.now s.pre.0.0 s.pre.1 _
+    block_stage (lay s) (row s) s.args.out.now s.pre.0.0 s.pre.1 _
     c.before.before.before.before.before.width.ensures _ _ c.put-sums.ensures
 
 put-sums-requires-2 : tie.Need-put-sums-requires-2
@@ -69,18 +69,18 @@ put-sums-requires-2 c κs =
     let b = c.before.before.before.before in
     let s = start b in
     let room =
-    string-room (lay s) (row s) s.args.out.now s.pre.0.0 s.pre.1 _
+    string_room (lay s) (row s) s.args.out.now s.pre.0.0 s.pre.1 _
     b.before.before.before.before.width2.ensures _ _ (blocks-put b) in
     ((b.before.before.before.weights.ensures, s.pre.0), ((search rules, room.0), ((blocks-put b).ready, room.1)))
 
 -- after the chunk-string sums
 strings-put : (c : tie.After-put-sums2) → let s = start c.before.before.before.before.before in
-    Goes fresh s.args.out.now (blockPart (lay s) (row s) ++ stringPart (lay s) (row s)) c.put-sums2.result
+    Goes fresh s.args.out.now (block_part (lay s) (row s) ++ string_part (lay s) (row s)) c.put-sums2.result
     c.put-sums2.new.1.1.1.1.1.1.1.1.1.1.0
 strings-put c =
     let b = c.before.before.before.before.before in
     let s = start b in
-    string-stage (lay s) (row s) s.args.out.now s.pre.0.0 s.pre.1 _
+    string_stage (lay s) (row s) s.args.out.now s.pre.0.0 s.pre.1 _
     b.before.before.before.before.width2.ensures _ _ (blocks-put b) _ _ c.put-sums2.ensures
 
 put-row-checks-requires : tie.Need-put-row-checks-requires
@@ -113,7 +113,7 @@ returns c =
     let r = q.before.before.before.before in
     let t = r.before.before.before.before in
     let s = start t.before.before.before.before.before in
-    all-ended (lay s) (row s) s.args.out.now s.pre.0.0 s.pre.1 _ _ (strings-put t) _ _
+    all_ended (lay s) (row s) s.args.out.now s.pre.0.0 s.pre.1 _ _ (strings-put t) _ _
     r.put-row-checks.ensures _ q.end.ensures
 
 pub put-fields-spec : {M : Type 1} → statement M

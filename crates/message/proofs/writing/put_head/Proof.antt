@@ -3,26 +3,26 @@ use borrow.Author.Rules.{rules}
 use native.Mathlib.Omega.{arith}
 use Rattle.message.specs.Layout.{layout}
 use Rattle.message.specs.Message.{head}
-use Rattle.message.proofs.Legal.{Bounds, legal-bounds, sizes}
+use Rattle.message.proofs.Legal.{Bounds, legal_bounds, sizes}
 use Rattle.message.proofs.writing.put_head.Statement.{statement}
 use Rattle.message.proofs.writing.put_head.Tie as tie
 
 bounds : (c : tie.Start) → Bounds (layout c.args.l1 c.args.l2 c.args.nc c.args.r)
-bounds c = legal-bounds (layout c.args.l1 c.args.l2 c.args.nc c.args.r) c.requires.0
+bounds c = legal_bounds (layout c.args.l1 c.args.l2 c.args.nc c.args.r) c.requires.0
 
 cast-t7 : tie.Need-overflow-cast-t7
 cast-t7 c = let a = c.before.args in
-    omega (arith, (sizes (layout a.l1 a.l2 a.nc a.r) (bounds c.before)).l1-high)
+    omega (arith, (sizes (layout a.l1 a.l2 a.nc a.r) (bounds c.before)).l1_high)
 
 cast-t8 : tie.Need-overflow-cast-t8
 cast-t8 c = let a = c.before.args in
-    omega (arith, (sizes (layout a.l1 a.l2 a.nc a.r) (bounds c.before)).l2-high)
+    omega (arith, (sizes (layout a.l1 a.l2 a.nc a.r) (bounds c.before)).l2_high)
 
 cast-t9 : tie.Need-overflow-cast-t9
-cast-t9 c = omega (arith, (bounds c.before).nc-high)
+cast-t9 c = omega (arith, (bounds c.before).nc_high)
 
 cast-t10 : tie.Need-overflow-cast-t10
-cast-t10 c = omega (arith, (bounds c.before).r-high)
+cast-t10 c = omega (arith, (bounds c.before).r_high)
 
 sub-copy-to : tie.Need-overflow-sub-copy-to
 sub-copy-to c = search rules

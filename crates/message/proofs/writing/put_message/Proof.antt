@@ -8,10 +8,10 @@ use native.Mathlib.Omega.{arith}
 use lib.ListN.{length, take}
 use Rattle.bits.proofs.Packing.{fits-length}
 use Rattle.message.specs.Chunks.{row_of}
-use Rattle.message.specs.Layout.{layout, rowBits}
+use Rattle.message.specs.Layout.{layout, row_bits}
 use Rattle.message.specs.declared.Layout.{Layout}
-use Rattle.message.proofs.Assembly.{held, enough, row-lent, lent-chunked, head-room, body-room, fields-room, assembled}
-use Rattle.message.proofs.Legal.{Sizes, legal-bounds, sizes}
+use Rattle.message.proofs.Assembly.{held, enough, row_lent, lent_chunked, head-room, body-room, fields-room, assembled}
+use Rattle.message.proofs.Legal.{Sizes, legal_bounds, sizes}
 use Rattle.message.proofs.writing.put_message.Statement.{statement}
 use Rattle.message.proofs.writing.put_message.Tie as tie
 
@@ -19,7 +19,7 @@ abbrev lay : tie.Start → Layout
 lay s = layout s.args.l1 s.args.l2 s.args.nc s.args.r
 
 high : (s : tie.Start) → Sizes (lay s)
-high s = sizes (lay s) (legal-bounds (lay s) s.requires.0)
+high s = sizes (lay s) (legal_bounds (lay s) s.requires.0)
 
 mul-n : tie.Need-overflow-mul-n
 mul-n c = record { fits = omega (arith, (high c.before.before).chunks) }
@@ -31,8 +31,8 @@ fill-requires : tie.Need-fill-requires
 fill-requires c κs =
     let s = c.before.before.before in
     let e = enough (lay s) s.args.row.now s.args.out.now s.requires.0 s.requires.1.0 s.requires.1.1 in
-    let n = fits-length (rowBits (lay s)) s.args.row.now s.requires.1.0 in
-    (((legal-bounds (lay s) s.requires.0).nc-high, omega (arith, e.1)), (e.0, (high s).chunks))
+    let n = fits-length (row_bits (lay s)) s.args.row.now s.requires.1.0 in
+    (((legal_bounds (lay s) s.requires.0).nc_high, omega (arith, e.1)), (e.0, (high s).chunks))
 
 -- what the function is given, seen from where the chunks are filled in, and their numbers, lent
 abbrev start : tie.After-fill → tie.Start
@@ -47,7 +47,7 @@ row c = row_of (start c).args.nc (lent c)
 row_is : (c : tie.After-fill) → row c ≡ held (lay (start c)) (start c).args.row.now
 row_is c =
     let s = start c in
-    row-lent (lay s) s.args.row.now s.args.out.now s.pre.0 s.pre.1.0 s.pre.1.1
+    row_lent (lay s) s.args.row.now s.args.out.now s.pre.0 s.pre.1.0 s.pre.1.1
     c.fill.new.1.1.1.0 _ c.fill.ensures
 
 put-head-requires : tie.Need-put-head-requires
@@ -89,7 +89,7 @@ put-fields-requires c κs =
     let u = filled h in
     let s = start u in
     let chunked =
-    lent-chunked (lay s) s.args.row.now s.args.out.now s.pre.0 s.pre.1.0 s.pre.1.1
+    lent_chunked (lay s) s.args.row.now s.args.out.now s.pre.0 s.pre.1.0 s.pre.1.1
     u.fill.last.1.1.1.0 _ u.fill.ensures in
     let room =
     fields-room (lay s) s.args.row.now s.args.out.now s.pre.0 s.pre.1.0 s.pre.1.1

@@ -10,7 +10,7 @@ use Rattle.message.specs.Layout.{layout}
 use Rattle.message.specs.Message.{checks}
 use Rattle.message.specs.declared.Layout.{Layout}
 use Rattle.message.proofs.Cutting.{length-checks}
-use Rattle.message.proofs.Legal.{Bounds, legal-bounds}
+use Rattle.message.proofs.Legal.{Bounds, legal_bounds}
 use Rattle.message.proofs.writing.put_row_checks.Statement.{statement}
 use Rattle.message.proofs.writing.put_row_checks.Tie as tie
 
@@ -22,7 +22,7 @@ abbrev row : tie.Start → List ℕ
 row c = row_of c.args.nc c.args.chunks.now
 
 bounds : (c : tie.Start) → Bounds (named c)
-bounds c = legal-bounds (named c) c.requires.0.0
+bounds c = legal_bounds (named c) c.requires.0.0
 
 -- where the function starts, seen from where the checks are filled in; and the checks that are put
 abbrev start : tie.After-fill-checks → tie.Start
@@ -40,7 +40,7 @@ slice-aggregate-fill-checks c = search rules
 fill-checks-requires : tie.Need-fill-checks-requires
 fill-checks-requires c κs =
     let s = c.before.before.before in
-    (s.requires.0.0, (s.requires.0.1, (bounds s).r-high))
+    (s.requires.0.0, (s.requires.0.1, (bounds s).r_high))
 
 sub-put-checks : tie.Need-overflow-sub-put-checks
 sub-put-checks c = search rules
@@ -49,13 +49,13 @@ part-put-checks-start : tie.Need-slice-bounds-put-checks-start
 part-put-checks-start c = search rules
 
 part-put-checks-end : tie.Need-slice-bounds-put-checks-end
-part-put-checks-end c = omega (arith, (bounds (start c.before.before)).r-high)
+part-put-checks-end c = omega (arith, (bounds (start c.before.before)).r_high)
 
 put-checks-requires : tie.Need-put-checks-requires
 put-checks-requires c κs =
     let k = c.before.before.before.before in
     let s = start k in
-    (omega (arith, (bounds s).nc-high), (s.pre.1.0, rw (values k, length-checks (named s) (row s)) s.pre.1.1))
+    (omega (arith, (bounds s).nc_high), (s.pre.1.0, rw (values k, length-checks (named s) (row s)) s.pre.1.1))
 
 same_length : tie.Need-same-length
 same_length c = search rules

@@ -8,11 +8,11 @@ use native.Mathlib.Omega.{arith}
 use lib.ListN.{length, take, drop}
 use Rattle.message.specs.Chunks.{row_of}
 use Rattle.message.specs.Layout.{layout}
-use Rattle.message.specs.Message.{blockSums, stringSums}
+use Rattle.message.specs.Message.{block_sums, string_sums}
 use Rattle.message.specs.declared.Layout.{Layout}
-use Rattle.message.proofs.Legal.{legal-bounds, sizes}
+use Rattle.message.proofs.Legal.{legal_bounds, sizes}
 use Rattle.message.proofs.Placing.{Placed, placed-start, placed-room, placed-next, placed_end}
-use Rattle.message.proofs.RowSums.{length_part, sum-of-part}
+use Rattle.message.proofs.RowSums.{length_part, sum_of_part}
 use Rattle.message.proofs.writing.put_sums.Statement.{statement}
 use Rattle.message.proofs.writing.put_sums.Tie as tie
 
@@ -21,7 +21,7 @@ invariant-loop table l1 l2 nc r chunks first count k out₀ f₀ i₀ out f i =
     (i ≤ count)
     × Placed f₀ out₀ k
     (take count (drop first
-    (blockSums (layout l1 l2 nc r) (row_of nc chunks) ++ stringSums (layout l1 l2 nc r) (row_of nc chunks)))) i f out
+    (block_sums (layout l1 l2 nc r) (row_of nc chunks) ++ string_sums (layout l1 l2 nc r) (row_of nc chunks)))) i f out
 
 abbrev decreases-loop : tie.decreases-loop
 decreases-loop table l1 l2 nc r chunks first count k out₀ f₀ i₀ out f i = count - i
@@ -34,7 +34,7 @@ abbrev row : tie.Start invariant-loop decreases-loop → List ℕ
 row c = row_of c.args.nc c.args.chunks.now
 
 abbrev vs : tie.Start invariant-loop decreases-loop → List ℕ
-vs c = take c.args.count (drop c.args.first (blockSums (lay c) (row c) ++ stringSums (lay c) (row c)))
+vs c = take c.args.count (drop c.args.first (block_sums (lay c) (row c) ++ string_sums (lay c) (row c)))
 
 count : (c : tie.Start invariant-loop decreases-loop) → length (vs c) ≡ c.args.count
 count c = length_part (lay c) (row c) c.args.first c.args.count c.requires.1.0.0
@@ -52,8 +52,8 @@ start c = c.before.before.before
 add-sum-of : tie.Need-overflow-add-sum-of invariant-loop decreases-loop
 add-sum-of c =
     let s = start c.before in
-    let z = sizes (lay s) (legal-bounds (lay s) s.pre.0.1.0) in
-    omega (arith, s.pre.1.0.0, z.l1-high, z.l2-high)
+    let z = sizes (lay s) (legal_bounds (lay s) s.pre.0.1.0) in
+    omega (arith, s.pre.1.0.0, z.l1_high, z.l2_high)
 
 sum-of-requires : tie.Need-sum-of-requires invariant-loop decreases-loop
 sum-of-requires c κs =
@@ -88,7 +88,7 @@ loop-again c =
     let q = c.before.before.put in
     let v =
     c.before.before.before.before.sum_of.ensures
-    ∙ sum-of-part (lay s) (row s) a.first a.count p.i (omega arith) in (
+    ∙ sum_of_part (lay s) (row s) a.first a.count p.i (omega arith) in (
       omega arith,
       placed-next a.start a.out.now a.k (vs s) p.i p.f p.out p.inv.1 (omega (arith, count s)) _ v
           _ _ q.ensures,

@@ -6,10 +6,10 @@ use native.Mathlib.Omega.{arith}
 use borrow.Author.Tests.{not-true, not-false}
 use lib.ListN.{length}
 use Rattle.bits.specs.Bits.{fits}
-use Rattle.message.specs.Layout.{layout, legal, rowBits}
+use Rattle.message.specs.Layout.{layout, legal, row_bits}
 use Rattle.message.specs.declared.Layout.{Layout}
-use Rattle.message.proofs.Legal.{Sizes, legal-bounds, sizes}
-use Rattle.message.proofs.Writes.{refused-layout, refused-packing, refused-target, not-refused, refused, written}
+use Rattle.message.proofs.Legal.{Sizes, legal_bounds, sizes}
+use Rattle.message.proofs.Writes.{refused_layout, refused_packing, refused_target, not_refused, refused, written}
 use Rattle.message.proofs.writing.write.Statement.{statement}
 use Rattle.message.proofs.writing.write.Tie as tie
 
@@ -17,25 +17,25 @@ legal-requires : tie.Need-legal-requires
 legal-requires c κs = search rules
 
 -- what is known past each test
-is-legal : (c : tie.Else1) → let a = c.before.before.before.before.args in
+is_legal : (c : tie.Else1) → let a = c.before.before.before.before.args in
     legal (layout a.l1 a.l2 a.nc a.r) ≡ true
-is-legal c = sym c.before.legal.ensures ∙ not-false _ c.if1.false
+is_legal c = sym c.before.legal.ensures ∙ not-false _ c.if1.false
 
 bits-high : (c : tie.Else1) → let a = c.before.before.before.before.args in
     Sizes (layout a.l1 a.l2 a.nc a.r)
 bits-high c = let a = c.before.before.before.before.args in
-    let l : Layout = layout a.l1 a.l2 a.nc a.r in sizes l (legal-bounds l (is-legal c))
+    let l : Layout = layout a.l1 a.l2 a.nc a.r in sizes l (legal_bounds l (is_legal c))
 
-is-packed : (c : tie.Else2) → let a = c.before.before.before.before.before.before.args in
-    fits (rowBits (layout a.l1 a.l2 a.nc a.r)) a.row.now ≡ true
-is-packed c = sym c.before.fits2.ensures ∙ not-false _ c.if2.false
+is_packed : (c : tie.Else2) → let a = c.before.before.before.before.before.before.args in
+    fits (row_bits (layout a.l1 a.l2 a.nc a.r)) a.row.now ≡ true
+is_packed c = sym c.before.fits2.ensures ∙ not-false _ c.if2.false
 
 returns : tie.Need-returns
 returns c =
     let a = c.before.before.before.before.args in
     let l : Layout = layout a.l1 a.l2 a.nc a.r in
     refused l a.row.now a.out.now 2
-    (refused-layout l a.row.now (length a.out.now) (sym c.before.legal.ensures ∙ not-true _ c.if1.true))
+    (refused_layout l a.row.now (length a.out.now) (sym c.before.legal.ensures ∙ not-true _ c.if1.true))
 
 mul-fits : tie.Need-overflow-mul-fits
 mul-fits c = omega (arith, (bits-high c).chunks)
@@ -52,11 +52,11 @@ returns-2 c =
     let a = k.before.before.before.before.args in
     let l : Layout = layout a.l1 a.l2 a.nc a.r in
     refused l a.row.now a.out.now 7
-    (refused-packing l a.row.now (length a.out.now) (is-legal k)
+    (refused_packing l a.row.now (length a.out.now) (is_legal k)
     (sym c.before.fits2.ensures ∙ not-true _ c.if2.true))
 
 message-bytes-requires : tie.Need-message-bytes-requires
-message-bytes-requires c κs = is-legal c.before.before
+message-bytes-requires c κs = is_legal c.before.before
 
 returns-3 : tie.Need-returns-3
 returns-3 c =
@@ -65,13 +65,13 @@ returns-3 c =
     let a = k.before.before.before.before.args in
     let l : Layout = layout a.l1 a.l2 a.nc a.r in
     refused l a.row.now a.out.now 9
-    (refused-target l a.row.now (length a.out.now) (is-legal k) (is-packed m.before)
+    (refused_target l a.row.now (length a.out.now) (is_legal k) (is_packed m.before)
     (omega (arith, m.message-bytes.ensures)))
 
 put-message-requires : tie.Need-put-message-requires
 put-message-requires c κs =
     let m = c.before.before in
-    (is-legal m.before.before.before, (is-packed m.before, omega (arith, m.message-bytes.ensures)))
+    (is_legal m.before.before.before, (is_packed m.before, omega (arith, m.message-bytes.ensures)))
 
 same_length : tie.Need-same-length
 same_length c = search rules
@@ -84,7 +84,7 @@ returns-4 c =
     let a = k.before.before.before.before.args in
     let l : Layout = layout a.l1 a.l2 a.nc a.r in
     written l a.row.now a.out.now _ _
-    (not-refused l a.row.now (length a.out.now) (is-legal k) (is-packed m.before)
+    (not_refused l a.row.now (length a.out.now) (is_legal k) (is_packed m.before)
     (omega (arith, m.message-bytes.ensures))) m.message-bytes.ensures w.put-message.ensures
 
 pub write_spec : {M : Type 1} → statement M

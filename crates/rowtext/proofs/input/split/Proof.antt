@@ -4,7 +4,7 @@ use Prim.Native.Nat.{ℕ}
 use mathlib.Core.Path.{ap, ◌∙◌}
 use borrow.Author.Rules.{part_to_end}
 use lib.ListN.{drop}
-use Rattle.rowtext.specs.Input.{lengthAt}
+use Rattle.rowtext.specs.Input.{length_at}
 use Rattle.rowtext.proofs.Parts.{split_at}
 use Rattle.rowtext.proofs.input.split.Statement.{statement}
 use Rattle.rowtext.proofs.input.split.Tie as tie
@@ -45,7 +45,7 @@ returns c =
     let l = k.before.before in
     let s = l.before.before.args.s.now in
     let to = part_to_end s k.lower2.result ∙ ap (λ (n : ℕ). drop n s) k.lower2.ensures in
-    let rest = c.before.length-at2.ensures.0 ∙ ap lengthAt to in
+    let rest = c.before.length-at2.ensures.0 ∙ ap length_at to in
     rw (k.before.lower.ensures, k.lower2.ensures, c.lower3.ensures)
     (split_at s l.length_at.result c.before.length-at2.result l.length_at.ensures.0 rest)
 

@@ -2,8 +2,8 @@
 use borrow.Author.Rules.{rules}
 use native.Mathlib.Omega.{arith}
 use Rattle.rows.proofs.Slice.{length_cut}
-use Rattle.rowtext.specs.Text.{countWord, countText}
-use Rattle.rowtext.proofs.Lines.{header-short}
+use Rattle.rowtext.specs.Text.{count_word, count_text}
+use Rattle.rowtext.proofs.Lines.{header_short}
 use Rattle.rowtext.proofs.Put.{put_then}
 use Rattle.rowtext.proofs.output.put_count.Statement.{statement}
 use Rattle.rowtext.proofs.output.put_count.Tie as tie
@@ -19,14 +19,14 @@ put-rows-requires c κs =
     let p = c.before.before.before in
     let k = p.before.before.before.before.before in (
       k.requires.1.0,
-      omega (arith, header-short countWord k.args.count k.requires.0, p.put-header.ensures.after, k.requires.1.1),
+      omega (arith, header_short count_word k.args.count k.requires.0, p.put-header.ensures.after, k.requires.1.1),
     )
 
 same_length : tie.Need-same-length
 same_length c = search rules
 
 returns : tie.Need-returns
-unfolding countText
+unfolding count_text
 returns c =
     let q = c.before.before in
     let p = q.before.before.before.before in

@@ -1,6 +1,6 @@
 -- `rowtext::output::put_refused` meets its contract. Assumes nothing.
 use borrow.Author.Rules.{rules}
-use Rattle.rowtext.specs.Text.{refusedText}
+use Rattle.rowtext.specs.Text.{refused_text}
 use Rattle.rowtext.proofs.output.put_refused.Statement.{statement}
 use Rattle.rowtext.proofs.output.put_refused.Tie as tie
 
@@ -14,7 +14,7 @@ same_length : tie.Need-same-length
 same_length c = search rules
 
 returns : tie.Need-returns
-unfolding refusedText
+unfolding refused_text
 returns c = c.before.before.put-header.ensures
 
 pub put-refused-spec : {M : Type 1} → statement M

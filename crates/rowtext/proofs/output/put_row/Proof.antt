@@ -7,15 +7,15 @@ use mathlib.Core.List.{flat_map}
 use native.Mathlib.Omega.{arith}
 use lib.ListN.{length, take}
 use lib.Seq.{take_all}
-use Rattle.rowtext.specs.Text.{hexByte, row_line, Put}
-use Rattle.rowtext.proofs.Lines.{hex-place, hex-next}
+use Rattle.rowtext.specs.Text.{hex_byte, row_line, Put}
+use Rattle.rowtext.proofs.Lines.{hex_place, hex_next}
 use Rattle.rowtext.proofs.Put.{put-none, put_then}
 use Rattle.rowtext.proofs.output.put_row.Statement.{statement}
 use Rattle.rowtext.proofs.output.put_row.Tie as tie
 
 abbrev invariant-loop : tie.invariant-loop
 invariant-loop row out₀ at next₀ i₀ out next i =
-    (i ≤ length row) × ((length out ≡ length out₀) × Put (flat_map hexByte (take i row)) at out₀ out next)
+    (i ≤ length row) × ((length out ≡ length out₀) × Put (flat_map hex_byte (take i row)) at out₀ out next)
 
 abbrev decreases-loop : tie.decreases-loop
 decreases-loop row out₀ at next₀ i₀ out next i = length row - i
@@ -33,7 +33,7 @@ put-hex-requires : tie.Need-put-hex-requires invariant-loop decreases-loop
 put-hex-requires c κs =
     let p = c.before.before.before.loop in
     let start = c.before.before.before.before.before.before in
-    omega (arith, hex-place start.args.row.now p.i p.invariant.0 p.invariant.1.1, p.invariant.1.0, start.requires)
+    omega (arith, hex_place start.args.row.now p.i p.invariant.0 p.invariant.1.1, p.invariant.1.0, start.requires)
 
 add-i : tie.Need-overflow-add-i invariant-loop decreases-loop
 add-i c = search rules
@@ -48,13 +48,13 @@ loop-again c =
     let p = k.loop in
     let place : a.at ≤ length a.out.now = omega (arith, k.before.before.before.requires) in
     let put = put_then p.invariant.1.1 c.before.before.put-hex.ensures place in
-    (omega arith, (search rules, rw (hex-next a.row.now p.i (omega arith)) at put))
+    (omega arith, (search rules, rw (hex_next a.row.now p.i (omega arith)) at put))
 
 put-char-requires : tie.Need-put-char-requires invariant-loop decreases-loop
 put-char-requires c κs =
     let p = c.before.before.loop in
     let start = c.before.before.before.before.before in
-    omega (arith, hex-place start.args.row.now p.i p.invariant.0 p.invariant.1.1, p.invariant.1.0, start.requires)
+    omega (arith, hex_place start.args.row.now p.i p.invariant.0 p.invariant.1.1, p.invariant.1.0, start.requires)
 
 same_length : tie.Need-same-length invariant-loop decreases-loop
 same_length c = search rules
