@@ -5,20 +5,25 @@ use Rattle.bits.proofs.Packing.{unpack-at}
 use Rattle.bits.proofs.bit_at.Statement.{statement}
 use Rattle.bits.proofs.bit_at.Tie as tie
 
-shared-slice-read-b : tie.Need-shared-slice-read-b
+shared-slice-read-b : tie.Need-bounds-s-i
 shared-slice-read-b c = search rules
 
-sub-shift : tie.Need-overflow-sub-shift
+sub-shift : tie.Need-overflow_sub-shift
 sub-shift c = search rules
 
-cast-result : tie.Need-overflow-cast-result
+cast-result : tie.Need-overflow_cast-result
 cast-result c = search rules
 
-shr-result : tie.Need-overflow-shr-result
+shr-result : tie.Need-overflow_shr-result
 shr-result c = search rules
 
 returns : tie.Need-returns
 returns c = sym (unpack-at c.before.args.s.now c.before.args.i)
 
-pub bit-at-spec : {M : Type 1} → statement M
-bit-at-spec = tie.close (tie.spec shared-slice-read-b sub-shift cast-result shr-result returns)
+pub bit_at_spec : {M : Type 1} → statement M
+bit_at_spec = tie.close (tie.spec
+    shared-slice-read-b
+    sub-shift
+    cast-result
+    shr-result
+    returns)

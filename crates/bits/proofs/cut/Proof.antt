@@ -8,16 +8,16 @@ use lib.Pow.{pow_pos, pow_mono}
 use Rattle.bits.proofs.cut.Statement.{statement}
 use Rattle.bits.proofs.cut.Tie as tie
 
-shr-value : tie.Need-overflow-shr-value
+shr-value : tie.Need-overflow_shr-value
 shr-value c = search rules
 
 power-requires : tie.Need-power-requires
 power-requires c κs = search rules
 
-rem_value : tie.Need-nonzero-rem-value
+rem_value : tie.Need-nonzero_rem-value
 rem_value c = omega (arith, c.power.ensures, pow_pos c.before.args.k)
 
-cast-t8 : tie.Need-overflow-cast-t8
+cast-t8 : tie.Need-overflow_cast-result
 cast-t8 c =
     let a = c.before.args in
     let low = mod-lt (a.held / 2 ^ a.behind) (pow_pos a.k) in
@@ -28,4 +28,9 @@ returns : tie.Need-returns
 returns c = (rw c.power.ensures refl, refl)
 
 pub cut_spec : {M : Type 1} → statement M
-cut_spec = tie.close (tie.spec shr-value power-requires rem_value cast-t8 returns)
+cut_spec = tie.close (tie.spec
+    shr-value
+    power-requires
+    rem_value
+    cast-t8
+    returns)

@@ -8,45 +8,45 @@ use Rattle.bits.proofs.Spans.{number_four}
 use Rattle.bits.proofs.first_bytes.Statement.{statement}
 use Rattle.bits.proofs.first_bytes.Tie as tie
 
-byte-at-requires : tie.Need-byte-at-requires
+byte-at-requires : tie.Need-byte_at-requires
 byte-at-requires c κs = search rules
 
-mul-result : tie.Need-overflow-mul-result
+mul-result : tie.Need-overflow_mul-result
 mul-result c = search rules
 
-byte-at-requires-2 : tie.Need-byte-at-requires-2
+byte-at-requires-2 : tie.Need-byte_at-requires-2
 byte-at-requires-2 c κs = search rules
 
-mul-result-2 : tie.Need-overflow-mul-result-2
+mul-result-2 : tie.Need-overflow_mul-result-2
 mul-result-2 c = search rules
 
-add-result : tie.Need-overflow-add-result
+add-result : tie.Need-overflow_add-result
 add-result c = search rules
 
-byte-at-requires-3 : tie.Need-byte-at-requires-3
+byte-at-requires-3 : tie.Need-byte_at-requires-3
 byte-at-requires-3 c κs = search rules
 
-mul-result-3 : tie.Need-overflow-mul-result-3
+mul-result-3 : tie.Need-overflow_mul-result-3
 mul-result-3 c = search rules
 
-add-result-2 : tie.Need-overflow-add-result-2
+add-result-2 : tie.Need-overflow_add-result-2
 add-result-2 c = search rules
 
-byte-at-requires-4 : tie.Need-byte-at-requires-4
+byte-at-requires-4 : tie.Need-byte_at-requires-4
 byte-at-requires-4 c κs = search rules
 
-add-result-3 : tie.Need-overflow-add-result-3
+add-result-3 : tie.Need-overflow_add-result-3
 add-result-3 c = search rules
 
 returns : tie.Need-returns
 returns c =
     let k = c.before.before.before.before in
     let s : List ℕ = k.before.args.s.now in
-    let low = bytes_of_each s (λ i. omega (arith, k.shared-slice-known.given i)) in
+    let low = bytes_of_each s (λ i. omega (arith, k.shared_slice_known-1.given i)) in
     (omega (arith, number_four s low 0), omega arith)
 
-pub first-bytes-spec : {M : Type 1} → statement M
-first-bytes-spec =
+pub first_bytes_spec : {M : Type 1} → statement M
+first_bytes_spec =
     tie.close
     (tie.spec
     byte-at-requires

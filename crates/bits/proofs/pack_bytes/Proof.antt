@@ -12,37 +12,37 @@ use Rattle.bits.proofs.Packing.{bytes-at, length-bytes}
 use Rattle.bits.proofs.pack_bytes.Statement.{statement}
 use Rattle.bits.proofs.pack_bytes.Tie as tie
 
-abbrev invariant-loop : tie.invariant-loop
+abbrev invariant-loop : tie.invariant-loop-i
 invariant-loop bits n out₀ i₀ out i = (i ≤ n) × ((length out ≡ length out₀) × (out ≡ take i (bytes n bits) ++ drop i out₀))
 
-abbrev decreases-loop : tie.decreases-loop
+abbrev decreases-loop : tie.decreases-loop-i
 decreases-loop bits n out₀ i₀ out i = n - i
 
-loop-holds : tie.Need-loop-init invariant-loop decreases-loop
+loop-holds : tie.Need-loop-i-init invariant-loop decreases-loop
 loop-holds c = (search rules, (search rules, refl))
 
-mul-whole-byte : tie.Need-overflow-mul-whole-byte invariant-loop decreases-loop
+mul-whole-byte : tie.Need-overflow_mul-i invariant-loop decreases-loop
 mul-whole-byte c = search rules
 
-whole-byte-requires : tie.Need-whole-byte-requires invariant-loop decreases-loop
+whole-byte-requires : tie.Need-whole_byte-requires invariant-loop decreases-loop
 whole-byte-requires c κs = search rules
 
-slice-write-out : tie.Need-slice-write-out invariant-loop decreases-loop
+slice-write-out : tie.Need-bounds-out-i invariant-loop decreases-loop
 slice-write-out c = search rules
 
-add-i : tie.Need-overflow-add-i invariant-loop decreases-loop
+add-i : tie.Need-overflow_add-i invariant-loop decreases-loop
 add-i c = search rules
 
-loop-less : tie.Need-loop-smaller invariant-loop decreases-loop
+loop-less : tie.Need-loop-i-smaller invariant-loop decreases-loop
 loop-less c = search rules
 
-loop-again : tie.Need-loop-preserved invariant-loop decreases-loop
+loop-again : tie.Need-loop-i-preserved invariant-loop decreases-loop
 loop-again c =
     let a = c.before.before.before.before.before.args in
-    let p = c.before.before.loop in
+    let p = c.before.before.loop-i in
     let x : List ℕ = a.bits.now in
-    let b : c.whole-byte.result ≡ get_or (bytes a.n x) p.i 0 =
-    c.whole-byte.ensures ∙ sym (bytes-at a.n p.i x (omega arith)) in (
+    let b : c.whole_byte.result ≡ get_or (bytes a.n x) p.i 0 =
+    c.whole_byte.ensures ∙ sym (bytes-at a.n p.i x (omega arith)) in (
       omega arith,
       (
         simp length-set p.invariant.1.0,
@@ -51,20 +51,20 @@ loop-again c =
       ),
     )
 
-same_length : tie.Need-same-length invariant-loop decreases-loop
+same_length : tie.Need-shape_of-out invariant-loop decreases-loop
 same_length c = search rules
 
 returns : tie.Need-returns invariant-loop decreases-loop
 returns c =
     let a = c.before.before.before.before.args in
-    let p = c.before.loop in
+    let p = c.before.loop-i in
     let e : p.i ≡ a.n = omega arith in
     let whole : take p.i (bytes a.n a.bits.now) ≡ bytes a.n a.bits.now =
     take_all p.i (bytes a.n a.bits.now) (omega (arith, length-bytes a.n a.bits.now)) in
     p.invariant.1.1 ∙ rw (whole, e) refl
 
-pub pack-bytes-spec : {M : Type 1} → statement M
-pack-bytes-spec =
+pub pack_bytes_spec : {M : Type 1} → statement M
+pack_bytes_spec =
     tie.close
     (tie.spec
     invariant-loop

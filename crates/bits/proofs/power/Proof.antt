@@ -8,7 +8,7 @@ use lib.Pow.{pow-lt}
 use Rattle.bits.proofs.power.Statement.{statement}
 use Rattle.bits.proofs.power.Tie as tie
 
-shl-result : tie.Need-overflow-shl-result
+shl-result : tie.Need-overflow_shl-result
 shl-result c = search rules
 
 returns : tie.Need-returns
@@ -17,5 +17,7 @@ returns c =
     let h : 2 ^ n < 2 ^ 64 = pow-lt {i = n} {j = 64} (omega arith) in
     mod-eq_of_lt (omega (arith, one-mul (2 ^ n))) ∙ one-mul (2 ^ n)
 
-pub power-spec : {M : Type 1} → statement M
-power-spec = tie.close (tie.spec shl-result returns)
+pub power_spec : {M : Type 1} → statement M
+power_spec = tie.close (tie.spec
+    shl-result
+    returns)

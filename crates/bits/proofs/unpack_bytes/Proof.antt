@@ -11,58 +11,58 @@ use Rattle.bits.proofs.Packing.{byte_unpacked}
 use Rattle.bits.proofs.unpack_bytes.Statement.{statement}
 use Rattle.bits.proofs.unpack_bytes.Tie as tie
 
-abbrev invariant-loop : tie.invariant-loop
+abbrev invariant-loop : tie.invariant-loop-i
 invariant-loop s n out₀ i₀ out i = (i ≤ n) × ((length out ≡ length out₀) × (out ≡ take (i * 8) (unpack s) ++ drop (i * 8) out₀))
 
-abbrev decreases-loop : tie.decreases-loop
+abbrev decreases-loop : tie.decreases-loop-i
 decreases-loop s n out₀ i₀ out i = n - i
 
-loop-holds : tie.Need-loop-init invariant-loop decreases-loop
+loop-holds : tie.Need-loop-i-init invariant-loop decreases-loop
 loop-holds c = (search rules, (refl, refl))
 
-shared-slice-read-unpack-byte : tie.Need-shared-slice-read-unpack-byte invariant-loop decreases-loop
+shared-slice-read-unpack-byte : tie.Need-bounds-s-i invariant-loop decreases-loop
 shared-slice-read-unpack-byte c = search rules
 
-mul-unpack-byte : tie.Need-overflow-mul-unpack-byte invariant-loop decreases-loop
+mul-unpack-byte : tie.Need-overflow_mul-i invariant-loop decreases-loop
 mul-unpack-byte c = search rules
 
-unpack-byte-requires : tie.Need-unpack-byte-requires invariant-loop decreases-loop
+unpack-byte-requires : tie.Need-unpack_byte-requires invariant-loop decreases-loop
 unpack-byte-requires c κs =
-    omega (arith, c.before.before.before.loop.invariant.1.0, c.before.before.before.before.before.before.requires.1)
+    omega (arith, c.before.before.before.loop-i.invariant.1.0, c.before.before.before.before.before.before.requires.1)
 
-add-i : tie.Need-overflow-add-i invariant-loop decreases-loop
+add-i : tie.Need-overflow_add-i invariant-loop decreases-loop
 add-i c = search rules
 
-loop-less : tie.Need-loop-smaller invariant-loop decreases-loop
+loop-less : tie.Need-loop-i-smaller invariant-loop decreases-loop
 loop-less c = omega arith
 
-loop-again : tie.Need-loop-preserved invariant-loop decreases-loop
+loop-again : tie.Need-loop-i-preserved invariant-loop decreases-loop
 loop-again c =
     let t = c.before.before in
     let q = t.before.before.before.before in
     let s = q.before.before.before in
     let a = s.args in
-    let p = q.loop in (
+    let p = q.loop-i in (
       omega arith,
       (
         search rules,
-        t.unpack-byte.ensures
+        t.unpack_byte.ensures
             ∙ byte_unpacked a.s.now a.out.now p.out p.i (omega (arith, s.requires.0)) p.invariant.1.1,
       ),
     )
 
-same_length : tie.Need-same-length invariant-loop decreases-loop
+same_length : tie.Need-shape_of-out invariant-loop decreases-loop
 same_length c = search rules
 
 returns : tie.Need-returns invariant-loop decreases-loop
 returns c =
     let a = c.before.before.before.before.args in
-    let p = c.before.loop in
+    let p = c.before.loop-i in
     let e : p.i ≡ a.n = omega arith in
     p.invariant.1.1 ∙ ap (λ (k : ℕ). take (k * 8) (unpack a.s.now) ++ drop (k * 8) a.out.now) e
 
-pub unpack-bytes-spec : {M : Type 1} → statement M
-unpack-bytes-spec =
+pub unpack_bytes_spec : {M : Type 1} → statement M
+unpack_bytes_spec =
     tie.close
     (tie.spec
     invariant-loop

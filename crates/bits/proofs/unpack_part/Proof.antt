@@ -12,43 +12,43 @@ use Rattle.bits.proofs.Laws.{length-unpack}
 use Rattle.bits.proofs.unpack_part.Statement.{statement}
 use Rattle.bits.proofs.unpack_part.Tie as tie
 
-abbrev invariant-loop : tie.invariant-loop
+abbrev invariant-loop : tie.invariant-loop-i
 invariant-loop s from to out₀ n i₀ out i =
     (i ≤ n) × ((length out ≡ length out₀) × (out ≡ paste out₀ from (drop from (unpack s)) i))
 
-abbrev decreases-loop : tie.decreases-loop
+abbrev decreases-loop : tie.decreases-loop-i
 decreases-loop s from to out₀ n i₀ out i = n - i
 
-sub-n : tie.Need-overflow-sub-n invariant-loop decreases-loop
+sub-n : tie.Need-overflow_sub-n invariant-loop decreases-loop
 sub-n c = search rules
 
-loop-holds : tie.Need-loop-init invariant-loop decreases-loop
+loop-holds : tie.Need-loop-i-init invariant-loop decreases-loop
 loop-holds c =
     let a = c.before.before.args in
     (search rules, (refl, paste-zero a.out.now a.from (drop a.from (unpack a.s.now))))
 
-add-bit-at : tie.Need-overflow-add-bit-at invariant-loop decreases-loop
+add-bit-at : tie.Need-overflow_add-from invariant-loop decreases-loop
 add-bit-at c = search rules
 
-bit-at-requires : tie.Need-bit-at-requires invariant-loop decreases-loop
+bit-at-requires : tie.Need-bit_at-requires invariant-loop decreases-loop
 bit-at-requires c κs = search rules
 
-add-out : tie.Need-overflow-add-out invariant-loop decreases-loop
+add-out : tie.Need-overflow_add-out invariant-loop decreases-loop
 add-out c = search rules
 
-slice-write-out : tie.Need-slice-write-out invariant-loop decreases-loop
+slice-write-out : tie.Need-bounds-out-from invariant-loop decreases-loop
 slice-write-out c = search rules
 
-add-i : tie.Need-overflow-add-i invariant-loop decreases-loop
+add-i : tie.Need-overflow_add-i invariant-loop decreases-loop
 add-i c = search rules
 
-loop-less : tie.Need-loop-smaller invariant-loop decreases-loop
+loop-less : tie.Need-loop-i-smaller invariant-loop decreases-loop
 loop-less c = search rules
 
-loop-again : tie.Need-loop-preserved invariant-loop decreases-loop
+loop-again : tie.Need-loop-i-preserved invariant-loop decreases-loop
 loop-again c =
     let a = c.before.before.before.before.before.args in
-    let p = c.before.before.loop in
+    let p = c.before.before.loop-i in
     let u : List ℕ = unpack a.s.now in
     let bit : c.bit_at.result ≡ get_or (drop a.from u) p.i 0 =
     c.bit_at.ensures ∙ sym (get_or-drop a.from u p.i 0) in (
@@ -61,18 +61,18 @@ loop-again c =
       ),
     )
 
-same_length : tie.Need-same-length invariant-loop decreases-loop
+same_length : tie.Need-shape_of-out invariant-loop decreases-loop
 same_length c = search rules
 
 returns : tie.Need-returns invariant-loop decreases-loop
 returns c =
     let a = c.before.before.before.before.args in
-    let p = c.before.loop in
+    let p = c.before.loop-i in
     let e : p.i ≡ a.to - a.from = omega arith in
     p.invariant.1.1 ∙ ap (paste a.out.now a.from (drop a.from (unpack a.s.now))) e
 
-pub unpack-part-spec : {M : Type 1} → statement M
-unpack-part-spec =
+pub unpack_part_spec : {M : Type 1} → statement M
+unpack_part_spec =
     tie.close
     (tie.spec
     invariant-loop

@@ -10,33 +10,40 @@ use Rattle.bits.proofs.Spans.{number-add}
 use Rattle.bits.proofs.whole_byte.Statement.{statement}
 use Rattle.bits.proofs.whole_byte.Tie as tie
 
-four-bits-requires : tie.Need-four-bits-requires
+four-bits-requires : tie.Need-four_bits-requires
 four-bits-requires c κs = search rules
 
-mul-result : tie.Need-overflow-mul-result
+mul-result : tie.Need-overflow_mul-result
 mul-result c = search rules
 
-add-four-bits : tie.Need-overflow-add-four-bits
+add-four-bits : tie.Need-overflow_add-at
 add-four-bits c = search rules
 
-four-bits-requires-2 : tie.Need-four-bits-requires-2
+four-bits-requires-2 : tie.Need-four_bits-requires-2
 four-bits-requires-2 c κs = search rules
 
-add-result : tie.Need-overflow-add-result
+add-result : tie.Need-overflow_add-result
 add-result c = search rules
 
-cast-result : tie.Need-overflow-cast-result
+cast-result : tie.Need-overflow_cast-result
 cast-result c = search rules
 
 returns : tie.Need-returns
 returns c =
     let a = c.before.before.before.args in
     let x : List ℕ = drop a.at a.bits.now in
-    ap₂ (λ (m n : ℕ). m * 16 + n) c.before.four-bits.ensures.0
-    (c.four-bits2.ensures.0 ∙ ap (number 4) (sym (drop-drop 4 a.at a.bits.now)))
+    ap₂ (λ (m n : ℕ). m * 16 + n) c.before.four_bits.ensures.0
+    (c.four_bits-2.ensures.0 ∙ ap (number 4) (sym (drop-drop 4 a.at a.bits.now)))
     ∙ sym (number-add 4 4 x)
 
-pub whole-byte-spec : {M : Type 1} → statement M
-whole-byte-spec =
+pub whole_byte_spec : {M : Type 1} → statement M
+whole_byte_spec =
     tie.close
-    (tie.spec four-bits-requires mul-result add-four-bits four-bits-requires-2 add-result cast-result returns)
+    (tie.spec
+    four-bits-requires
+    mul-result
+    add-four-bits
+    four-bits-requires-2
+    add-result
+    cast-result
+    returns)
