@@ -97,6 +97,8 @@ comes-bits x k y h a = strikes_bits (strikes x k y h) a
 -- nothing struck out leaves the string itself
 pub strikes_none : (x y : List ℕ) → Strikes x 0 y → x ≡ y
 strikes_none [] [] done = refl
+strikes_none [] (c ∷ y) s = elim s [ ]
+strikes_none (b ∷ x) [] s = elim s [ ]
 strikes_none (b ∷ x) (c ∷ y) (stays s) = ap (λ (l : List ℕ). b ∷ l) (strikes_none x y s)
 
 all_stay : (x : List ℕ) → Strikes x 0 x

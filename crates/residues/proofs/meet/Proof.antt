@@ -10,5 +10,6 @@ use Rattle.residues.proofs.meet.Tie as tie
 returns : tie.Need-returns
 returns c m n h g = ap not (ne_eqb _ 0 (and_one c.args.a c.args.b (n % m) h g))
 
-pub meet-spec : {M : Type 1} → statement M
-meet-spec = tie.close (tie.spec returns)
+pub meet_spec : {M : Type 1} → statement M
+meet_spec = tie.close (tie.spec
+    returns)

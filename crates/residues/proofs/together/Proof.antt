@@ -7,5 +7,6 @@ use Rattle.residues.proofs.together.Tie as tie
 returns : tie.Need-returns
 returns c m n = (or_one c.args.a c.args.b (n % m), or_other c.args.a c.args.b (n % m))
 
-pub together-spec : {M : Type 1} → statement M
-together-spec = tie.close (tie.spec returns)
+pub together_spec : {M : Type 1} → statement M
+together_spec = tie.close (tie.spec
+    returns)

@@ -1,3 +1,4 @@
+
 -- `rows::compare` meets its contract. The loop's invariant: the bytes not yet compared are in the order of the whole
 -- rows. Assumes nothing.
 use borrow.Author.Rules.{rules}
@@ -10,18 +11,18 @@ use Rattle.rows.proofs.Slice.{From, from_start, from_end, from_less, from_more, 
 use Rattle.rows.proofs.compare.Statement.{statement}
 use Rattle.rows.proofs.compare.Tie as tie
 
-abbrev invariant-loop : tie.invariant-loop
+abbrev invariant-loop : tie.invariant-loop-left
 invariant-loop list at x w left₀ left =
     (left ≤ length x) × (From list at x (length x - left) ≡ order (take (length x) (drop at list)) x)
 
-abbrev decreases-loop : tie.decreases-loop
+abbrev decreases-loop : tie.decreases-loop-left
 decreases-loop list at x w left₀ left = left
 
 -- the number that the function answers for an order
 abbrev answered : Ordering → ℕ
 answered o = by_order o 0 1 2
 
-loop-holds : tie.Need-loop-init invariant-loop decreases-loop
+loop-holds : tie.Need-loop-left-init invariant-loop decreases-loop
 loop-holds c =
     let z : length c.args.x.now - length c.args.x.now ≡ 0 = omega arith in (
       search rules,
@@ -29,61 +30,57 @@ loop-holds c =
           ∙ from_start c.args.list.now c.args.at c.args.x.now,
     )
 
-sub-i : tie.Need-overflow-sub-i invariant-loop decreases-loop
+sub-i : tie.Need-overflow_sub-i invariant-loop decreases-loop
 sub-i c = search rules
 
-add_a : tie.Need-overflow-add-a invariant-loop decreases-loop
+add_a : tie.Need-overflow_add-a invariant-loop decreases-loop
 add_a c = search rules
 
-shared-slice-read-a : tie.Need-shared-slice-read-a invariant-loop decreases-loop
+shared-slice-read-a : tie.Need-bounds-list-at invariant-loop decreases-loop
 shared-slice-read-a c = search rules
 
-shared-slice-read-b : tie.Need-shared-slice-read-b invariant-loop decreases-loop
+shared-slice-read-b : tie.Need-bounds-x-i invariant-loop decreases-loop
 shared-slice-read-b c = search rules
 
-returns : tie.Need-returns invariant-loop decreases-loop
+returns : tie.Need-returns-then-a-b invariant-loop decreases-loop
 returns c =
-    let p = c.before.before.before.before in
-    let a = p.before.args in
-    let i : ℕ = length a.x.now - p.loop.left in
-    ap answered (sym (from_less a.list.now a.at a.x.now i p.before.requires (omega arith) (omega arith))
-    ∙ p.loop.invariant.1)
+    let a = c.args in
+    let i : ℕ = length a.x.now - c.loop-left.left in
+    ap answered (sym (from_less a.list.now a.at a.x.now i c.requires (omega arith) (omega arith))
+    ∙ c.loop-left.invariant.1)
 
-returns-2 : tie.Need-returns-2 invariant-loop decreases-loop
+returns-2 : tie.Need-returns-then-b-a invariant-loop decreases-loop
 returns-2 c =
-    let p = c.before.before.before.before.before in
-    let a = p.before.args in
-    let i : ℕ = length a.x.now - p.loop.left in
-    ap answered (sym (from_more a.list.now a.at a.x.now i p.before.requires (omega arith) (omega arith))
-    ∙ p.loop.invariant.1)
+    let a = c.args in
+    let i : ℕ = length a.x.now - c.loop-left.left in
+    ap answered (sym (from_more a.list.now a.at a.x.now i c.requires (omega arith) (omega arith))
+    ∙ c.loop-left.invariant.1)
 
-sub-left : tie.Need-overflow-sub-left invariant-loop decreases-loop
+sub-left : tie.Need-overflow_sub-left invariant-loop decreases-loop
 sub-left c = search rules
 
-loop-less : tie.Need-loop-smaller invariant-loop decreases-loop
+loop-less : tie.Need-loop-left-smaller invariant-loop decreases-loop
 loop-less c = search rules
 
-loop-again : tie.Need-loop-preserved invariant-loop decreases-loop
+loop-again : tie.Need-loop-left-preserved invariant-loop decreases-loop
 loop-again c =
-    let p = c.before.before.before.before.before in
-    let a = p.before.args in
-    let i : ℕ = length a.x.now - p.loop.left in
-    let next : length a.x.now - (p.loop.left - 1) ≡ i + 1 = omega arith in
+    let a = c.args in
+    let i : ℕ = length a.x.now - c.loop-left.left in
+    let next : length a.x.now - (c.loop-left.left - 1) ≡ i + 1 = omega arith in
     let same : get_or a.list.now (a.at + i) 0 ≡ get_or a.x.now i 0 = omega arith in (
       omega arith,
       ap (From a.list.now a.at a.x.now) next
-          ∙ sym (from_next a.list.now a.at a.x.now i p.before.requires (omega arith) same) ∙ p.loop.invariant.1,
+          ∙ sym (from_next a.list.now a.at a.x.now i c.requires (omega arith) same) ∙ c.loop-left.invariant.1,
     )
 
-returns-3 : tie.Need-returns-3 invariant-loop decreases-loop
+returns-3 : tie.Need-returns invariant-loop decreases-loop
 returns-3 c =
-    let p = c.before in
-    let a = p.before.args in
-    ap answered (sym (from_end a.list.now a.at a.x.now (length a.x.now - p.loop.left) (omega arith))
-    ∙ p.loop.invariant.1)
+    let a = c.args in
+    ap answered (sym (from_end a.list.now a.at a.x.now (length a.x.now - c.loop-left.left) (omega arith))
+    ∙ c.loop-left.invariant.1)
 
-pub compare-spec : {M : Type 1} → statement M
-compare-spec =
+pub compare_spec : {M : Type 1} → statement M
+compare_spec =
     tie.close
     (tie.spec
     invariant-loop

@@ -1,3 +1,4 @@
+
 -- `states::next_left` meets its contract. The loop's invariant: one loss more in block s would make the number of the
 -- state after the one at the start. The measure is what is left of the blocks. Assumes nothing.
 use Prim.Native.Nat.{ℕ, ◌+◌, ◌-◌, ◌*◌, ◌<◌, ◌≤◌}
@@ -35,97 +36,94 @@ module _ (size xs : List ℕ) (n s v : ℕ) (h : s < n) (long : s < length xs) w
       go (yes e) = rw (e, get_or-set_same xs s v 0 long) here
       go (no e) = rw (get_or-set_other xs s t v 0 e) (low t k)
 
-abbrev invariant-loop : tie.invariant-loop
+abbrev invariant-loop : tie.invariant-loop-s
 invariant-loop n size next₀ s₀ next s =
     ((s ≤ n) × (length next ≡ 6)) × (((t : ℕ) → t < n → get_or next t 0 ≤ each size t)
     × (state (each size) (each next) n + stride (each size) s ≡ state (each size) (each next₀) n + 1))
 
-abbrev decreases-loop : tie.decreases-loop
+abbrev decreases-loop : tie.decreases-loop-s
 decreases-loop n size next₀ s₀ next s = n - s
 
 -- a block that is come to stands in the row of losses left
-in_row : (c : tie.In-loop invariant-loop decreases-loop) → c.before.loop.s < length c.before.loop.next
-in_row c = omega (arith, c.loop-test.true, c.before.before.requires.0, c.before.loop.invariant.0.1)
+in_row : (c : tie.In-loop-s invariant-loop decreases-loop) → c.loop-s.s < length c.loop-s.next
+in_row c = omega (arith, c.loop-s-test.true, c.requires.0, c.loop-s.invariant.0.1)
 
-loop-holds : tie.Need-loop-init invariant-loop decreases-loop
+loop-holds : tie.Need-loop-s-init invariant-loop decreases-loop
 unfolding stride
 loop-holds c =
     let l : length c.args.left ≡ 6 = search rules in
     ((omega arith, l), (c.requires.1, refl))
 
-array-read-if1 : tie.Need-array-read-if1 invariant-loop decreases-loop
+array-read-if1 : tie.Need-bounds-next-s invariant-loop decreases-loop
 array-read-if1 c = search rules
 
-array-read-if1-2 : tie.Need-array-read-if1-2 invariant-loop decreases-loop
+array-read-if1-2 : tie.Need-bounds-size-s invariant-loop decreases-loop
 array-read-if1-2 c = search rules
 
-array-read-next : tie.Need-array-read-next invariant-loop decreases-loop
+array-read-next : tie.Need-bounds-next-s-then-next-s invariant-loop decreases-loop
 array-read-next c = search rules
 
-add-next : tie.Need-overflow-add-next invariant-loop decreases-loop
+add-next : tie.Need-overflow_add-next invariant-loop decreases-loop
 add-next c =
-    let p = c.before.before in
-    let b : Fits w8 (get_or p.before.args.t2 p.loop.s 0) = search rules in
-    record { fits = omega (arith, c.if1.true, b) }
+    let b : Fits w8 (get_or c.args.size c.loop-s.s 0) = search rules in
+    record { fits = omega (arith, c.if-next-s.true, b) }
 
-array-write-next : tie.Need-array-write-next invariant-loop decreases-loop
+array-write-next : tie.Need-bounds-next-s-then-next-s-2 invariant-loop decreases-loop
 array-write-next c = search rules
 
-returns : tie.Need-returns invariant-loop decreases-loop
+returns : tie.Need-returns-then-next-s invariant-loop decreases-loop
 returns c =
-    let i = c.before in
-    let p = i.before.loop in
-    let a = i.before.before.args in
+    let p = c.loop-s in
+    let a = c.args in
     let v = get_or p.next p.s 0 in
-    let long = in_row i in
-    let number = set-number a.t2 p.next a.n p.s (v + 1) i.loop-test.true long in
-    let one : (v + 1) * stride (each a.t2) p.s ≡ v * stride (each a.t2) p.s + stride (each a.t2) p.s =
+    let long = in_row c.before in
+    let number = set-number a.size p.next a.n p.s (v + 1) c.loop-s-test.true long in
+    let one : (v + 1) * stride (each a.size) p.s ≡ v * stride (each a.size) p.s + stride (each a.size) p.s =
     omega arith
     in (
-      set-within a.t2 p.next a.n p.s (v + 1) i.loop-test.true long p.invariant.1.0
-          (omega (arith, c.if1.true)),
+      set-within a.size p.next a.n p.s (v + 1) c.loop-s-test.true long p.invariant.1.0
+          (omega (arith, c.if-next-s.true)),
       λ low. omega (arith, number, one, p.invariant.1.1),
     )
 
-array-write-next-2 : tie.Need-array-write-next-2 invariant-loop decreases-loop
+array-write-next-2 : tie.Need-bounds-next-s-in-loop-s invariant-loop decreases-loop
 array-write-next-2 c = search rules
 
-add-s : tie.Need-overflow-add-s invariant-loop decreases-loop
+add-s : tie.Need-overflow_add-s invariant-loop decreases-loop
 add-s c = search rules
 
-loop-less : tie.Need-loop-smaller invariant-loop decreases-loop
+loop-less : tie.Need-loop-s-smaller invariant-loop decreases-loop
 loop-less c = search rules
 
-loop-again : tie.Need-loop-preserved invariant-loop decreases-loop
+loop-again : tie.Need-loop-s-preserved invariant-loop decreases-loop
 unfolding stride
 loop-again c =
-    let i = c.before in
-    let p = i.before.loop in
-    let a = i.before.before.args in
-    let size = each a.t2 in
-    let long = in_row i in
-    let number = set-number a.t2 p.next a.n p.s 0 i.loop-test.true long in
+    let p = c.loop-s in
+    let a = c.args in
+    let size = each a.size in
+    let long = in_row c.before in
+    let number = set-number a.size p.next a.n p.s 0 c.loop-s-test.true long in
     let all : get_or p.next p.s 0 ≡ size p.s =
-    omega (arith, c.if1.false, p.invariant.1.0 p.s i.loop-test.true) in
+    omega (arith, c.if-next-s.false, p.invariant.1.0 p.s c.loop-s-test.true) in
     let more : stride size (p.s + 1) ≡ size p.s * stride size p.s + stride size p.s =
     rw (add-one p.s) (omega (arith, mul_comm (stride size p.s) (size p.s + 1)))
     in (
-      (omega (arith, i.loop-test.true), length-set p.next p.s 0 ∙ p.invariant.0.1),
+      (omega (arith, c.loop-s-test.true), length-set p.next p.s 0 ∙ p.invariant.0.1),
       (
-        set-within a.t2 p.next a.n p.s 0 i.loop-test.true long p.invariant.1.0 (omega arith),
+        set-within a.size p.next a.n p.s 0 c.loop-s-test.true long p.invariant.1.0 (omega arith),
         omega (arith, rw all at number, more, p.invariant.1.1),
       ),
     )
 
-returns-2 : tie.Need-returns-2 invariant-loop decreases-loop
+returns-2 : tie.Need-returns invariant-loop decreases-loop
 returns-2 c =
-    let p = c.before.loop in
-    let a = c.before.before.args in
-    let end : p.s ≡ a.n = omega (arith, c.loop-test.false, p.invariant.0.0) in
-    (p.invariant.1.0, λ low. absurd (omega (arith, low, ap (stride (each a.t2)) end, p.invariant.1.1)))
+    let p = c.loop-s in
+    let a = c.args in
+    let end : p.s ≡ a.n = omega (arith, c.loop-s-test.false, p.invariant.0.0) in
+    (p.invariant.1.0, λ low. absurd (omega (arith, low, ap (stride (each a.size)) end, p.invariant.1.1)))
 
-pub next-left-spec : {M : Type 1} → statement M
-next-left-spec =
+pub next_left_spec : {M : Type 1} → statement M
+next_left_spec =
     tie.close
     (tie.spec
     invariant-loop
