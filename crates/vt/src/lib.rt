@@ -1,6 +1,8 @@
 // The sum of a string, and the one string that a sum and a string one bit short pick. Contracts cite specs/Sum.antt,
 // specs/Ones.antt, specs/Weights.antt, specs/Places.antt, specs/Mend.antt and specs/Answer.antt; that exactly one string is
 // picked is proved in proofs/Mending.antt.
+#![tactic(auto)]
+
 ghost use Rattle.std.specs.Prelude.{◌≡◌, ◌∷◌, ◌++◌, true, ◌+◌, ◌-◌, ◌*◌, ◌/◌, ◌%◌, ◌^◌, ◌<◌, ◌≤◌, length, take, drop};
 ghost use Rattle.bits.specs.Bits.{AllBits, longest, digits, bytes, bytes_for, pack, unpack, fits};
 ghost use Rattle.vt.specs.Sum.{total};

@@ -2,7 +2,7 @@
 -- place. Assumes nothing.
 use borrow.Author.Rules.{rules}
 use Prim.Native.Nat.{ℕ, ◌+◌, ◌-◌, ◌≤◌}
-use mathlib.Core.Path.{◌≡◌, refl, ◌∙◌}
+use mathlib.Core.Path.{◌≡◌}
 use mathlib.Core.List.{List}
 use native.Mathlib.Nat.{mul-zero, mul-one}
 use native.Mathlib.Omega.{arith}
@@ -14,97 +14,95 @@ use Rattle.vt.proofs.Totals.{ones-length, ones-next, ones-end, reach-next, reach
 use Rattle.vt.proofs.find_place.Statement.{statement}
 use Rattle.vt.proofs.find_place.Tie as tie
 
-abbrev invariant-loop : tie.invariant-loop
+abbrev invariant-loop : tie.invariant-loop-j
 invariant-loop bits before behind t count r₀ j₀ r j =
     (j ≤ length bits) × ((r ≤ length bits + behind)
     × ((r ≡ ones (drop j bits) + behind) × Reach (before + j + 1) t r (before + length bits + 1 + behind)))
 
-abbrev decreases-loop : tie.decreases-loop
+abbrev decreases-loop : tie.decreases-loop-j
 decreases-loop bits before behind t count r₀ j₀ r j = length bits - j
 
-loop-holds : tie.Need-loop-init invariant-loop decreases-loop
+loop-holds : tie.Need-loop-j-init invariant-loop decreases-loop
 loop-holds c =
     let x : List ℕ = c.args.bits.now in
     let z : c.args.before + 0 + 1 ≡ c.args.before + 1 = omega arith in
     (omega arith, (omega (arith, ones-length x c.requires.0.0.0), (c.requires.1.0, rw z c.requires.1.1.1)))
 
-returns : tie.Need-returns invariant-loop decreases-loop
+returns : tie.Need-returns-then-t-r invariant-loop decreases-loop
 returns c =
-    let a = c.before.before.before.args in
-    let p = c.before.before.loop in
-    (search rules, omega (arith, mul-zero (a.before + p.j + 1), p.invariant.1.1.0, c.if1.true))
+    let a = c.args in
+    let p = c.loop-j in
+    (search rules, omega (arith, mul-zero (a.before + p.j + 1), p.invariant.1.1.0, c.if-t-r.true))
 
-add-if2 : tie.Need-overflow-add-if2 invariant-loop decreases-loop
+add-if2 : tie.Need-overflow_add-before invariant-loop decreases-loop
 add-if2 c = search rules
 
-add-if2-2 : tie.Need-overflow-add-if2-2 invariant-loop decreases-loop
+add-if2-2 : tie.Need-overflow_add-before-in-loop-j invariant-loop decreases-loop
 add-if2-2 c = search rules
 
-add-if2-3 : tie.Need-overflow-add-if2-3 invariant-loop decreases-loop
+add-if2-3 : tie.Need-overflow_add-before-in-loop-j-2 invariant-loop decreases-loop
 add-if2-3 c = search rules
 
-returns-2 : tie.Need-returns-2 invariant-loop decreases-loop
+returns-2 : tie.Need-returns-then-t-before invariant-loop decreases-loop
 returns-2 c =
-    let a = c.before.before.before.before.args in
-    let p = c.before.before.before.loop in
-    (search rules, omega (arith, mul-one (a.before + p.j + 1), p.invariant.1.1.0, c.if2.true))
+    let a = c.args in
+    let p = c.loop-j in
+    (search rules, omega (arith, mul-one (a.before + p.j + 1), p.invariant.1.1.0, c.if-t-before.true))
 
-shared-slice-read-b : tie.Need-shared-slice-read-b invariant-loop decreases-loop
+shared-slice-read-b : tie.Need-bounds-bits-j invariant-loop decreases-loop
 shared-slice-read-b c = search rules
 
-cast-b : tie.Need-overflow-cast-b invariant-loop decreases-loop
-cast-b c = record { fits = omega (arith, c.shared-slice-known.given c.before.before.before.before.loop.j) }
+cast-b : tie.Need-overflow_cast-b invariant-loop decreases-loop
+cast-b c = record { fits = omega (arith, c.shared_slice_known-1.given c.loop-j.j) }
 
-sub-r : tie.Need-overflow-sub-r invariant-loop decreases-loop
+sub-r : tie.Need-overflow_sub-r invariant-loop decreases-loop
 sub-r c =
-    let x : List ℕ = c.before.before.before.before.before.args.bits.now in
-    let p = c.before.before.before.before.loop in
+    let x : List ℕ = c.args.bits.now in
+    let p = c.loop-j in
     omega (arith, p.invariant.1.1.0, ones-next x p.j (omega arith))
 
-add-j : tie.Need-overflow-add-j invariant-loop decreases-loop
+add-j : tie.Need-overflow_add-j invariant-loop decreases-loop
 add-j c = search rules
 
-loop-less : tie.Need-loop-smaller invariant-loop decreases-loop
+loop-less : tie.Need-loop-j-smaller invariant-loop decreases-loop
 loop-less c = search rules
 
-loop-again : tie.Need-loop-preserved invariant-loop decreases-loop
+loop-again : tie.Need-loop-j-preserved invariant-loop decreases-loop
 loop-again c =
-    let start = c.before.before.before.before.before in
-    let x : List ℕ = start.args.bits.now in
-    let p = c.before.before.before.before.loop in
-    let a = start.args in
+    let x : List ℕ = c.args.bits.now in
+    let p = c.loop-j in
+    let a = c.args in
     let i : ℕ = a.before + p.j + 1 in
     let b : ℕ = get_or x p.j 0 in
     let n : p.r ≡ b + ones (drop (p.j + 1) x) + a.behind =
     omega (arith, p.invariant.1.1.0, ones-next x p.j (omega arith)) in
     let far = reach-next i (a.before + (p.j + 1) + 1) a.t b p.r (p.r - b) (a.before + length x + 1 + a.behind)
-    (bit_at x start.requires.0.0.0 p.j) (omega arith) (omega arith) c.before.before.if1.false
-    c.before.if2.false p.invariant.1.1.1 in
+    (bit_at x c.requires.0.0.0 p.j) (omega arith) (omega arith) c.if-t-r.false
+    c.if-t-before.false p.invariant.1.1.1 in
     (omega arith, (omega arith, (omega arith, far)))
 
 -- behind the last bit the ones left are those behind the part
-last : (c : tie.After-loop invariant-loop decreases-loop) → let p = c.before.loop in p.r ≡ c.before.before.args.behind
+last : (c : tie.After-loop-j invariant-loop decreases-loop) → let p = c.loop-j in p.r ≡ c.args.behind
 last c =
-    let p = c.before.loop in
-    omega (arith, p.invariant.1.1.0, ones-end c.before.before.args.bits.now p.j (omega arith))
+    let p = c.loop-j in
+    omega (arith, p.invariant.1.1.0, ones-end c.args.bits.now p.j (omega arith))
 
-returns-3 : tie.Need-returns-3 invariant-loop decreases-loop
+returns-3 : tie.Need-returns-then-t-behind invariant-loop decreases-loop
 returns-3 c =
-    let a = c.before.before.before.args in
-    let p = c.before.before.loop in
-    (search rules, omega (arith, mul-zero (a.before + p.j + 1), p.invariant.1.1.0, last c.before, c.if3.true))
+    let a = c.args in
+    let p = c.loop-j in
+    (search rules, omega (arith, mul-zero (a.before + p.j + 1), p.invariant.1.1.0, last c.before, c.if-t-behind.true))
 
-returns-4 : tie.Need-returns-4 invariant-loop decreases-loop
+returns-4 : tie.Need-returns-else-t-behind invariant-loop decreases-loop
 returns-4 c =
-    let start = c.before.before.before in
-    let a = start.args in
-    let p = c.before.before.loop in
+    let a = c.args in
+    let p = c.loop-j in
     let e = reach-end (a.before + p.j + 1) a.t p.r a.behind (a.before + length a.bits.now + 1 + a.behind)
-    (last c.before) start.requires.1.1.0 (omega arith) c.if3.false p.invariant.1.1.1 in
+    (last c.before) c.requires.1.1.0 (omega arith) c.if-t-behind.false p.invariant.1.1.1 in
     (search rules, omega (arith, mul-one (a.before + p.j + 1), p.invariant.1.1.0))
 
-pub find-place-spec : {M : Type 1} → statement M
-find-place-spec =
+pub find_place_spec : {M : Type 1} → statement M
+find_place_spec =
     tie.close
     (tie.spec
     invariant-loop

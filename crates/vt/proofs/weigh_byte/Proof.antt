@@ -13,26 +13,31 @@ use Rattle.vt.proofs.weigh_byte.Tie as tie
 wide-requires : tie.Need-wide-requires
 wide-requires c κs = search rules
 
-mul-v : tie.Need-overflow-mul-v
+mul-v : tie.Need-offset_bounds-t-wide
 mul-v c = search rules
 
-element-copy-out-v : tie.Need-element-copy-out-v
+element-copy-out-v : tie.Need-bounds-t-wide
 element-copy-out-v c = search rules
 
 -- what is read
-read : (c : tie.After-wide) → let a = c.before.args in get_or a.t.now c.wide.result 0 ≡ weight a.b
+read : (c : tie.After-wide) → let a = c.args in get_or a.t.now c.wide.result 0 ≡ weight a.b
 read c =
-    let a = c.before.args in
+    let a = c.args in
     let small : a.b < 256 = search rules in
-    ap (λ (t : List ℕ). get_or t c.wide.result 0) c.before.requires ∙ rw c.wide.ensures (weight-at a.b small)
+    ap (λ (t : List ℕ). get_or t c.wide.result 0) c.requires ∙ rw c.wide.ensures (weight-at a.b small)
 
-cast-v : tie.Need-overflow-cast-v
-cast-v c = record { fits = omega (arith, read c.before, weight-low c.before.before.args.b) }
+cast-v : tie.Need-overflow_cast-v
+cast-v c = record { fits = omega (arith, read c.before.before, weight-low c.args.b) }
 
 returns : tie.Need-returns
 returns c =
-    let b : ℕ = c.before.before.args.b in
-    rw (read c.before, weight-ones b, weight-total b) ((refl, byte-total b), (refl, byte-ones b))
+    let b : ℕ = c.args.b in
+    rw (read c.before.before, weight-ones b, weight-total b) ((refl, byte-total b), (refl, byte-ones b))
 
-pub weigh-byte-spec : {M : Type 1} → statement M
-weigh-byte-spec = tie.close (tie.spec wide-requires mul-v element-copy-out-v cast-v returns)
+pub weigh_byte_spec : {M : Type 1} → statement M
+weigh_byte_spec = tie.close (tie.spec
+    wide-requires
+    mul-v
+    element-copy-out-v
+    cast-v
+    returns)

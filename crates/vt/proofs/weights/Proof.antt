@@ -9,5 +9,6 @@ returns : tie.Need-returns
 unfolding weights
 returns c = refl
 
-pub weights-spec : {M : Type 1} → statement M
-weights-spec = tie.close (tie.spec returns)
+pub weights_spec : {M : Type 1} → statement M
+weights_spec = tie.close (tie.spec
+    returns)
