@@ -1,5 +1,7 @@
 // The fields of 2 ^ nc elements, nc from 3 to 8: the table of the powers of 2, the product through logs, and the checks of a
 // row's chunks. The contracts cite specs/Field.antt, specs/Tables.antt and specs/Exponents.antt.
+#![tactic(auto)]
+
 ghost use Rattle.std.specs.Prelude.{◌≡◌, ℕ, ◌+◌, ◌-◌, ◌*◌, ◌^◌, ◌<◌, ◌≤◌, length, get_or};
 ghost use Rattle.field.specs.Field.{Element, Elements, power, times, Checks};
 ghost use Rattle.field.specs.Tables.{powers, start, with_logs, Logs};

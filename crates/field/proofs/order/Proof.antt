@@ -5,14 +5,17 @@ use Rattle.field.proofs.Double.{size_low, size-high}
 use Rattle.field.proofs.order.Statement.{statement}
 use Rattle.field.proofs.order.Tie as tie
 
-shl-result : tie.Need-overflow-shl-result
+shl-result : tie.Need-overflow_shl-result
 shl-result c = search rules
 
-sub-result : tie.Need-overflow-sub-result
+sub-result : tie.Need-overflow_sub-result
 sub-result c = omega (arith, size_low c.args.nc c.requires.0, size-high c.args.nc c.requires.1)
 
 returns : tie.Need-returns
 returns c = omega (arith, size-high c.args.nc c.requires.1)
 
-pub order-spec : {M : Type 1} → statement M
-order-spec = tie.close (tie.spec shl-result sub-result returns)
+pub order_spec : {M : Type 1} → statement M
+order_spec = tie.close (tie.spec
+    shl-result
+    sub-result
+    returns)

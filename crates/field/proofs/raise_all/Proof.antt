@@ -12,57 +12,55 @@ use Rattle.field.proofs.Terms.{entries_next, exponents-set}
 use Rattle.field.proofs.raise_all.Statement.{statement}
 use Rattle.field.proofs.raise_all.Tie as tie
 
-abbrev invariant-loop : tie.invariant-loop
+abbrev invariant-loop : tie.invariant-loop-k
 invariant-loop nc n cs es₀ k₀ es k =
     (length es ≡ length es₀) × (k ≤ n) × Exponents nc es
     × ((j : ℕ) → j < k → power nc (get_or es j 0) ≡ times nc (power nc (get_or cs j 0)) (power nc (get_or es₀ j 0)))
     × ((j : ℕ) → k ≤ j → get_or es j 0 ≡ get_or es₀ j 0)
 
-abbrev decreases-loop : tie.decreases-loop
+abbrev decreases-loop : tie.decreases-loop-k
 decreases-loop nc n cs es₀ k₀ es k = n - k
 
 -- where the function starts, seen from the loop
-abbrev start : tie.At-loop invariant-loop decreases-loop → tie.Start invariant-loop decreases-loop
+abbrev start : tie.At-loop-k invariant-loop decreases-loop → tie.Start invariant-loop decreases-loop
 start c = c.before.before.before
 
-loop-holds : tie.Need-loop-init invariant-loop decreases-loop
+loop-holds : tie.Need-loop-k-init invariant-loop decreases-loop
 loop-holds c =
-    (search rules, search rules, c.before.before.requires.1.1, λ j h. absurd (omega arith), λ j h. search rules)
+    (search rules, search rules, c.requires.1.1, λ j h. absurd (omega arith), λ j h. search rules)
 
-slice-read-raise : tie.Need-slice-read-raise invariant-loop decreases-loop
+slice-read-raise : tie.Need-bounds-es-k invariant-loop decreases-loop
 slice-read-raise c = search rules
 
-shared-slice-read-raise : tie.Need-shared-slice-read-raise invariant-loop decreases-loop
+shared-slice-read-raise : tie.Need-bounds-cs-k invariant-loop decreases-loop
 shared-slice-read-raise c = search rules
 
 raise-requires : tie.Need-raise-requires invariant-loop decreases-loop
 raise-requires c κs =
-    let t = c.before.before.before in
-    let s = start t in
-    (s.pre.0.0, s.pre.0.1, t.loop.invariant.2 _, s.pre.1.0 _)
+    let s = start c.before.before.before in
+    (s.requires.0.0, s.requires.0.1, c.loop-k.invariant.2 _, s.requires.1.0 _)
 
-slice-write-es : tie.Need-slice-write-es invariant-loop decreases-loop
+slice-write-es : tie.Need-bounds-es-k-in-loop-k invariant-loop decreases-loop
 slice-write-es c = search rules
 
-add-k : tie.Need-overflow-add-k invariant-loop decreases-loop
+add-k : tie.Need-overflow_add-k invariant-loop decreases-loop
 add-k c = search rules
 
-loop-less : tie.Need-loop-smaller invariant-loop decreases-loop
+loop-less : tie.Need-loop-k-smaller invariant-loop decreases-loop
 loop-less c = search rules
 
-loop-again : tie.Need-loop-preserved invariant-loop decreases-loop
+loop-again : tie.Need-loop-k-preserved invariant-loop decreases-loop
 loop-again c =
-    let t = c.before.before.before.before in
-    let s = start t in
+    let s = start c.before.before.before.before in
     let a = s.args in
-    let p = t.loop in
+    let p = c.loop-k in
     let e : ℕ = c.raise.result in
     let q = c.raise.ensures in
     let Raised : ℕ → ℕ → Type 0 =
     λ j x. power a.nc x ≡ times a.nc (power a.nc (get_or a.cs.now j 0))
     (power a.nc (get_or a.es.now j 0)) in
     let here = p.invariant.4 p.k (omega arith) in
-    let inside : p.k < length p.es = omega (arith, s.pre.0.3) in (
+    let inside : p.k < length p.es = omega (arith, s.requires.0.3) in (
       simp length-set p.invariant.0,
       omega arith,
       exponents-set a.nc p.k e p.es p.invariant.2 inside q.0,
@@ -71,16 +69,16 @@ loop-again c =
       λ j h. get_or-set_other p.es p.k j e 0 (λ r. omega arith) ∙ p.invariant.4 j (omega arith),
     )
 
-same_length : tie.Need-same-length invariant-loop decreases-loop
+same_length : tie.Need-shape_of-es invariant-loop decreases-loop
 same_length c = search rules
 
 returns : tie.Need-returns invariant-loop decreases-loop
 returns c =
-    let p = c.before.loop in
+    let p = c.loop-k in
     (p.invariant.2, λ j h. p.invariant.3 j (omega arith))
 
-pub raise-all-spec : {M : Type 1} → statement M
-raise-all-spec =
+pub raise_all_spec : {M : Type 1} → statement M
+raise_all_spec =
     tie.close
     (tie.spec
     invariant-loop
