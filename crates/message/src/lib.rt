@@ -1,5 +1,7 @@
 // Layouts, the side message, and the two operations on it: writing the message of a row, and reading one back. Contracts cite
 // specs/.
+#![tactic(auto)]
+
 pub mod chunks;
 pub mod layouts;
 pub mod reading;

@@ -15,86 +15,81 @@ use Rattle.message.proofs.Fields.{length_fields, fields_at, field_room}
 use Rattle.message.proofs.chunks.fill.Statement.{statement}
 use Rattle.message.proofs.chunks.fill.Tie as tie
 
-abbrev invariant-loop : tie.invariant-loop
+abbrev invariant-loop : tie.invariant-loop-i
 invariant-loop s n nc out₀ i₀ out i =
     (i ≤ n) × ((length out ≡ length out₀) × (out ≡ take i (fields n nc (unpack s)) ++ drop i out₀))
 
-abbrev decreases-loop : tie.decreases-loop
+abbrev decreases-loop : tie.decreases-loop-i
 decreases-loop s n nc out₀ i₀ out i = n - i
 
-loop-holds : tie.Need-loop-init invariant-loop decreases-loop
+loop-holds : tie.Need-loop-i-init invariant-loop decreases-loop
 loop-holds c = (search rules, (refl, refl))
 
-mul-t9 : tie.Need-overflow-mul-t9 invariant-loop decreases-loop
+mul-t9 : tie.Need-overflow_mul-c invariant-loop decreases-loop
 mul-t9 c =
-    let s = c.before.before.before.before in
-    let a = s.args in
+    let a = c.args in
     record {
       fits = omega (
         arith,
-        field_room a.n a.nc c.before.loop.i c.loop-test.true,
-        s.requires.0.1,
-        s.requires.1.0,
+        field_room a.n a.nc c.loop-i.i c.loop-i-test.true,
+        c.requires.0.1,
+        c.requires.1.0,
       );
     }
 
-take-requires : tie.Need-take-requires invariant-loop decreases-loop
+take-requires : tie.Need-take-field-requires invariant-loop decreases-loop
 take-requires c κs =
-    let s = c.before.before.before.before in
-    let a = s.args in (
-      omega (arith, s.requires.0.0),
-      (s.requires.0.1, omega (arith, field_room a.n a.nc c.before.loop.i c.loop-test.true, s.requires.1.0)),
+    let a = c.args in (
+      omega (arith, c.requires.0.0),
+      (c.requires.0.1, omega (arith, field_room a.n a.nc c.loop-i.i c.loop-i-test.true, c.requires.1.0)),
     )
 
 -- the number that is read
-value-is : (c : tie.After-take invariant-loop decreases-loop) → let a = c.before.before.before.before.before.args in
-    c.take.result.value ≡ get_or (fields a.n a.nc (unpack a.s.now)) c.before.before.loop.i 0
+value-is : (c : tie.After-take-field invariant-loop decreases-loop) → let a = c.args in
+    c.take-field.result.value ≡ get_or (fields a.n a.nc (unpack a.s.now)) c.loop-i.i 0
 value-is c =
-    let a = c.before.before.before.before.before.args in
-    c.take.ensures.0
-    ∙ sym (fields_at a.n a.nc c.before.before.loop.i (unpack a.s.now) c.before.loop-test.true)
+    let a = c.args in
+    c.take-field.ensures.0
+    ∙ sym (fields_at a.n a.nc c.loop-i.i (unpack a.s.now) c.loop-i-test.true)
 
-cast-out : tie.Need-overflow-cast-out invariant-loop decreases-loop
+cast-out : tie.Need-overflow_cast-out invariant-loop decreases-loop
 cast-out c =
-    let t = c.before in
-    let s = t.before.before.before.before.before in
-    let a = s.args in
-    let x : List ℕ = drop (t.before.before.loop.i * a.nc) (unpack a.s.now) in
+    let a = c.args in
+    let x : List ℕ = drop (c.loop-i.i * a.nc) (unpack a.s.now) in
     let low : number a.nc x < 2 ^ a.nc =
-    number_lt a.nc x (bits-drop (t.before.before.loop.i * a.nc) (unpack a.s.now) (bits-unpack a.s.now)) in
-    let top : 2 ^ a.nc ≤ 2 ^ 8 = pow_mono {i = a.nc} {j = 8} s.requires.0.0 in
-    record { fits = omega (arith, t.take.ensures.0) }
+    number_lt a.nc x (bits-drop (c.loop-i.i * a.nc) (unpack a.s.now) (bits-unpack a.s.now)) in
+    let top : 2 ^ a.nc ≤ 2 ^ 8 = pow_mono {i = a.nc} {j = 8} c.requires.0.0 in
+    record { fits = omega (arith, c.take-field.ensures.0) }
 
-slice-write-out : tie.Need-slice-write-out invariant-loop decreases-loop
+slice-write-out : tie.Need-bounds-out-i invariant-loop decreases-loop
 slice-write-out c = search rules
 
-add-i : tie.Need-overflow-add-i invariant-loop decreases-loop
+add-i : tie.Need-overflow_add-i invariant-loop decreases-loop
 add-i c = search rules
 
-loop-less : tie.Need-loop-smaller invariant-loop decreases-loop
+loop-less : tie.Need-loop-i-smaller invariant-loop decreases-loop
 loop-less c = search rules
 
-loop-again : tie.Need-loop-preserved invariant-loop decreases-loop
+loop-again : tie.Need-loop-i-preserved invariant-loop decreases-loop
 loop-again c =
-    let t = c.before in
-    let a = t.before.before.before.before.before.args in
-    let p = t.before.before.loop in
+    let a = c.args in
+    let p = c.loop-i in
     let f : List ℕ = fields a.n a.nc (unpack a.s.now) in
     let n : length f ≡ a.n = length_fields a.n a.nc (unpack a.s.now) in (
       omega arith,
       (
         simp length-set p.invariant.1.0,
-        rw (p.invariant.1.1, value-is t) (front_next a.out.now f p.i (omega arith) (omega arith)),
+        rw (p.invariant.1.1, value-is c.before) (front_next a.out.now f p.i (omega arith) (omega arith)),
       ),
     )
 
-same_length : tie.Need-same-length invariant-loop decreases-loop
+same_length : tie.Need-shape_of-out invariant-loop decreases-loop
 same_length c = search rules
 
 returns : tie.Need-returns invariant-loop decreases-loop
 returns c =
-    let a = c.before.before.before.before.args in
-    let p = c.before.loop in
+    let a = c.args in
+    let p = c.loop-i in
     let f : List ℕ = fields a.n a.nc (unpack a.s.now) in
     let e : p.i ≡ a.n = omega arith in
     let whole : take a.n f ≡ f =

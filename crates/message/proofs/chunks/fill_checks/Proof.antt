@@ -21,57 +21,54 @@ named c = layout c.args.l1 c.args.l2 c.args.nc c.args.r
 bounds : (c : tie.Start) → Bounds (named c)
 bounds c = legal_bounds (named c) c.requires.0
 
-returns : tie.Need-returns
+returns : tie.Need-returns-then-r-eq0
 returns c =
-    let s = c.before.before.before in
-    checks_are (named s) s.args.chunks.now s.args.out.now s.requires.1.0 s.requires.1.1
+    checks_are (named c.before.before.before) c.args.chunks.now c.args.out.now c.requires.1.0 c.requires.1.1
     (λ i h. absurd (omega arith))
 
-table-requires : tie.Need-table-requires
+table-requires : tie.Need-table-t-requires
 table-requires c κs = search rules
 
-slice-aggregate-fill-logs : tie.Need-slice-aggregate-fill-logs
+slice-aggregate-fill-logs : tie.Need-slice_bounds-fill_logs-end
 slice-aggregate-fill-logs c = search rules
 
 -- where the table is made and where the function starts, seen from where the logs are made room for
-abbrev tabled : tie.After-logs → tie.After-table
+abbrev tabled : tie.After-logs-1 → tie.After-table-t
 tabled c = c.before.before
 
-abbrev start : tie.After-logs → tie.Start
+abbrev start : tie.After-logs-1 → tie.Start
 start c = (tabled c).before.before.before.before
 
-fill-logs-requires : tie.Need-fill-logs-requires
+fill-logs-requires : tie.Need-fill_logs-requires
 fill-logs-requires c κs =
     let s = start c in
     let b = bounds s in
-    ((tabled c).table.ensures, b.nc_low, b.nc_high, size-high s.args.nc b.nc_high)
+    ((tabled c).table-t.ensures, b.nc_low, b.nc_high, size-high s.args.nc b.nc_high)
 
-slice-aggregate-checks : tie.Need-slice-aggregate-checks
+slice-aggregate-checks : tie.Need-slice_bounds-checks-end
 slice-aggregate-checks c = search rules
 
 checks-requires : tie.Need-checks-requires
 checks-requires c κs =
-    let k = c.before.before.before.before in
-    let s = start k.before in
+    let s = start c.before.before.before.before.before in
     let b = bounds s in
-    let few = b.field (omega (arith, (tabled k.before).before.if1.false)) in (
-      ((tabled k.before).table.ensures, b.nc_low, b.nc_high, k.fill-logs.ensures.1, s.pre.1.0.1),
-      (omega (arith, s.pre.1.0.0, few, size_low s.args.nc b.nc_low), s.pre.1.1),
+    let few = b.field (omega (arith, (tabled c.before.before.before.before.before).before.if-r-eq0.false)) in (
+      ((tabled c.before.before.before.before.before).table-t.ensures, b.nc_low, b.nc_high, c.fill_logs.ensures.1, s.requires.1.0.1),
+      (omega (arith, s.requires.1.0.0, few, size_low s.args.nc b.nc_low), s.requires.1.1),
     )
 
-same_length : tie.Need-same-length
+same_length : tie.Need-shape_of-out
 same_length c = search rules
 
-returns-2 : tie.Need-returns-2
+returns-2 : tie.Need-returns
 returns-2 c =
-    let k = c.before.before in
-    let s = start k.before.before.before.before.before.before in
-    let out : List ℕ = k.checks.new.1.1.1.1.1.0 in
+    let s = start c.before.before.before.before.before.before.before.before in
+    let out : List ℕ = c.checks.new.out in
     let kept : length out ≡ length s.args.out.now = search rules in
-    checks_are (named s) s.args.chunks.now out s.pre.1.0 (omega (arith, s.pre.1.1)) k.checks.ensures
+    checks_are (named s) s.args.chunks.now out s.requires.1.0 (omega (arith, s.requires.1.1)) c.checks.ensures
 
-pub fill-checks-spec : {M : Type 1} → statement M
-fill-checks-spec =
+pub fill_checks_spec : {M : Type 1} → statement M
+fill_checks_spec =
     tie.close
     (tie.spec
     returns

@@ -16,11 +16,11 @@ use Rattle.message.proofs.Legal.{Bounds, Sizes, legal_bounds, sizes}
 use Rattle.message.proofs.chunks.fill_chunks.Statement.{statement}
 use Rattle.message.proofs.chunks.fill_chunks.Tie as tie
 
-abbrev invariant-loop : tie.invariant-loop
+abbrev invariant-loop : tie.invariant-loop-i
 invariant-loop l1 l2 nc r row out₀ n i₀ out i =
     (i ≤ l1 * l2) × ((length out ≡ length out₀) × (out ≡ take i (fields (l1 * l2) nc row) ++ drop i out₀))
 
-abbrev decreases-loop : tie.decreases-loop
+abbrev decreases-loop : tie.decreases-loop-i
 decreases-loop l1 l2 nc r row out₀ n i₀ out i = l1 * l2 - i
 
 bounds : (c : tie.Start invariant-loop decreases-loop) → Bounds (layout c.args.l1 c.args.l2 c.args.nc c.args.r)
@@ -29,42 +29,39 @@ bounds c = legal_bounds (layout c.args.l1 c.args.l2 c.args.nc c.args.r) c.requir
 high : (c : tie.Start invariant-loop decreases-loop) → Sizes (layout c.args.l1 c.args.l2 c.args.nc c.args.r)
 high c = sizes (layout c.args.l1 c.args.l2 c.args.nc c.args.r) (bounds c)
 
-mul-n : tie.Need-overflow-mul-n invariant-loop decreases-loop
+mul-n : tie.Need-overflow_mul-n invariant-loop decreases-loop
 mul-n c = omega (arith, (high c.before.before).chunks)
 
-loop-holds : tie.Need-loop-init invariant-loop decreases-loop
+loop-holds : tie.Need-loop-i-init invariant-loop decreases-loop
 loop-holds c = (search rules, (search rules, refl))
 
 -- the chunk stands in the row
-room : (c : tie.In-loop invariant-loop decreases-loop) → let a = c.before.before.before.before.args in
-    c.before.loop.i * a.nc + a.nc ≤ length a.row.now
+room : (c : tie.In-loop-i invariant-loop decreases-loop) → let a = c.args in
+    c.loop-i.i * a.nc + a.nc ≤ length a.row.now
 room c =
-    let s = c.before.before.before.before in
-    let a = s.args in
-    omega (arith, field_room (a.l1 * a.l2) a.nc c.before.loop.i (omega arith), s.requires.1.1.0)
+    let a = c.args in
+    omega (arith, field_room (a.l1 * a.l2) a.nc c.loop-i.i (omega arith), c.requires.1.1.0)
 
-mul-number-at : tie.Need-overflow-mul-number-at invariant-loop decreases-loop
+mul-number-at : tie.Need-overflow_mul-i invariant-loop decreases-loop
 mul-number-at c = omega (arith, room c)
 
-number-at-requires : tie.Need-number-at-requires invariant-loop decreases-loop
+number-at-requires : tie.Need-number_at-requires invariant-loop decreases-loop
 number-at-requires c κs =
-    let s = c.before.before.before.before in
-    (s.requires.1.0, ((bounds s).nc_high, room c))
+    (c.requires.1.0, ((bounds c.before.before.before.before).nc_high, room c))
 
-slice-write-out : tie.Need-slice-write-out invariant-loop decreases-loop
+slice-write-out : tie.Need-bounds-out-i invariant-loop decreases-loop
 slice-write-out c = omega arith
 
-add-i : tie.Need-overflow-add-i invariant-loop decreases-loop
+add-i : tie.Need-overflow_add-i invariant-loop decreases-loop
 add-i c = search rules
 
-loop-less : tie.Need-loop-smaller invariant-loop decreases-loop
+loop-less : tie.Need-loop-i-smaller invariant-loop decreases-loop
 loop-less c = search rules
 
-loop-again : tie.Need-loop-preserved invariant-loop decreases-loop
+loop-again : tie.Need-loop-i-preserved invariant-loop decreases-loop
 loop-again c =
-    let s = c.before.before.before.before.before in
-    let a = s.args in
-    let p = c.before.before.loop in
+    let a = c.args in
+    let p = c.loop-i in
     let f : List ℕ = fields (a.l1 * a.l2) a.nc a.row.now in
     let v : c.number_at.result ≡ get_or f p.i 0 =
     c.number_at.ensures ∙ sym (fields_at (a.l1 * a.l2) a.nc p.i a.row.now (omega arith)) in (
@@ -77,21 +74,21 @@ loop-again c =
       ),
     )
 
-same_length : tie.Need-same-length invariant-loop decreases-loop
+same_length : tie.Need-shape_of-out invariant-loop decreases-loop
 same_length c = search rules
 
 returns : tie.Need-returns invariant-loop decreases-loop
 returns c =
-    let a = c.before.before.before.before.args in
-    let p = c.before.loop in
+    let a = c.args in
+    let p = c.loop-i in
     let f : List ℕ = fields (a.l1 * a.l2) a.nc a.row.now in
     let e : p.i ≡ a.l1 * a.l2 = omega arith in
     let whole : take p.i f ≡ f =
     take_all p.i f (omega (arith, length_fields (a.l1 * a.l2) a.nc a.row.now)) in
     p.invariant.1.1 ∙ rw (whole, e, chunk-numbers (layout a.l1 a.l2 a.nc a.r) a.row.now) refl
 
-pub fill-chunks-spec : {M : Type 1} → statement M
-fill-chunks-spec =
+pub fill_chunks_spec : {M : Type 1} → statement M
+fill_chunks_spec =
     tie.close
     (tie.spec
     invariant-loop

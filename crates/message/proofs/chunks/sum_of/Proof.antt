@@ -25,55 +25,55 @@ bounds c = legal_bounds (named c) c.requires.1.0
 high : (c : tie.Start) → Sizes (named c)
 high c = sizes (named c) (bounds c)
 
-mul-line-sum : tie.Need-overflow-mul-line-sum
+mul-line-sum : tie.Need-overflow_mul-k
 mul-line-sum c =
-    let s = c.before.before in
-    record { fits = omega (arith, field_room s.args.l1 s.args.l2 s.args.k c.if1.true, (high s).chunks) }
+    record { fits = omega (arith, field_room c.args.l1 c.args.l2 c.args.k c.if-k-l1.true, (high c.before.before).chunks) }
 
-line-sum-requires : tie.Need-line-sum-requires
+line-sum-requires : tie.Need-line_sum-requires
 line-sum-requires c κs =
-    let s = c.before.before in
-    let a = s.args in (
-      (s.requires.0, ((bounds s).nc_high, s.requires.1.1.0.1)),
+    let a = c.args in (
+      (c.requires.0, ((bounds c.before.before).nc_high, c.requires.1.1.0.1)),
       (
-        ((high s).l2_high, omega arith),
+        ((high c.before.before).l2_high, omega arith),
         (
-          (high s).block,
-          omega (arith, field_room a.l1 a.l2 a.k c.if1.true, s.requires.1.1.0.0, mul-one a.l2),
+          (high c.before.before).block,
+          omega (arith, field_room a.l1 a.l2 a.k c.if-k-l1.true, c.requires.1.1.0.0, mul-one a.l2),
         ),
       ),
     )
 
-returns : tie.Need-returns
+returns : tie.Need-returns-then-k-l1
 returns c =
-    let s = c.before.before.before in
-    let a = s.args in
-    c.line-sum.ensures ∙ block_line (named s) a.chunks.now s.requires.1.1.0 a.k c.before.if1.true
-    ∙ sum_of_block (named s) (row_of a.nc a.chunks.now) a.k c.before.if1.true
+    let a = c.args in
+    c.line_sum.ensures ∙ block_line (named c.before.before.before) a.chunks.now c.requires.1.1.0 a.k c.if-k-l1.true
+    ∙ sum_of_block (named c.before.before.before) (row_of a.nc a.chunks.now) a.k c.if-k-l1.true
 
-line-sum-requires-2 : tie.Need-line-sum-requires-2
+line-sum-requires-2 : tie.Need-line_sum-requires-2
 line-sum-requires-2 c κs =
-    let s = c.before.before in
-    let a = s.args in (
-      (s.requires.0, ((bounds s).nc_high, s.requires.1.1.0.1)),
+    let a = c.args in (
+      (c.requires.0, ((bounds c.before.before).nc_high, c.requires.1.1.0.1)),
       (
-        ((high s).l1_high, (high s).l2_high),
+        ((high c.before.before).l1_high, (high c.before.before).l2_high),
         (
-          omega (arith, (high s).string, mul_comm a.l1 a.nc),
-          omega (arith, s.requires.1.1.1, s.requires.1.1.0.0, c.if1.false),
+          omega (arith, (high c.before.before).string, mul_comm a.l1 a.nc),
+          omega (arith, c.requires.1.1.1, c.requires.1.1.0.0, c.if-k-l1.false),
         ),
       ),
     )
 
-returns-2 : tie.Need-returns-2
+returns-2 : tie.Need-returns
 returns-2 c =
-    let s = c.before.before.before in
-    let a = s.args in
-    c.line-sum2.ensures
-    ∙ string_line (named s) a.chunks.now s.requires.1.1.0 (a.k - a.l1)
-    (omega (arith, s.requires.1.1.1, c.before.if1.false))
-    ∙ sum_of_string (named s) (row_of a.nc a.chunks.now) a.k c.before.if1.false
+    let a = c.args in
+    c.line_sum-2.ensures
+    ∙ string_line (named c.before.before.before) a.chunks.now c.requires.1.1.0 (a.k - a.l1)
+    (omega (arith, c.requires.1.1.1, c.if-k-l1.false))
+    ∙ sum_of_string (named c.before.before.before) (row_of a.nc a.chunks.now) a.k c.if-k-l1.false
 
-pub sum-of-spec : {M : Type 1} → statement M
-sum-of-spec =
-    tie.close (tie.spec mul-line-sum line-sum-requires returns line-sum-requires-2 returns-2)
+pub sum_of_spec : {M : Type 1} → statement M
+sum_of_spec =
+    tie.close (tie.spec
+    mul-line-sum
+    line-sum-requires
+    returns
+    line-sum-requires-2
+    returns-2)

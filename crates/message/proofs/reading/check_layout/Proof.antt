@@ -23,73 +23,68 @@ named c = layout c.args.l1 c.args.l2 c.args.nc c.args.r
 legal-requires : tie.Need-legal-requires
 legal-requires c κs = search rules
 
-returns : tie.Need-returns
+returns : tie.Need-returns-then-not-legal
 returns c =
-    let t = c.before.before.before in
-    let s : List ℕ = t.args.s.now in
+    let s : List ℕ = c.args.s.now in
     refused_answer (message_refusal s) 2 s
-    (refused_3 s t.requires.0 t.requires.1.0 (named t) t.requires.1.1
-    (sym c.before.legal.ensures ∙ not-true _ c.if1.true))
+    (refused_3 s c.requires.0 c.requires.1.0 (named c.before.before.before) c.requires.1.1
+    (sym c.legal.ensures ∙ c.if-not-legal.true))
 
 -- past the first test the layout is legal, past the second the message is as long as it gives
-is_legal : (c : tie.Else1) → legal (named c.before.before.before) ≡ true
-is_legal c = sym c.before.legal.ensures ∙ not-false _ c.if1.false
+is_legal : (c : tie.Else-not-legal) → legal (named c.before.before.before) ≡ true
+is_legal c = sym c.legal.ensures ∙ c.if-not-legal.false
 
 -- where the function starts, seen from where the second test does not hold
-abbrev start : tie.Else2 → tie.Start
+abbrev start : tie.Else-s-message_bytes → tie.Start
 start c = c.before.before.before.before.before
 
-is_long : (c : tie.Else2) → length (start c).args.s.now ≡ message_bytes (named (start c))
-is_long c = c.if2.false ∙ c.before.message-bytes.ensures
+is_long : (c : tie.Else-s-message_bytes) → length (start c).args.s.now ≡ message_bytes (named (start c))
+is_long c = c.if-s-message_bytes.false ∙ c.message_bytes.ensures
 
-message-bytes-requires : tie.Need-message-bytes-requires
+message-bytes-requires : tie.Need-message_bytes-requires
 message-bytes-requires c κs = is_legal c
 
-returns-2 : tie.Need-returns-2
+returns-2 : tie.Need-returns-then-s-message_bytes
 returns-2 c =
-    let t = c.before.before.before.before.before in
-    let s : List ℕ = t.args.s.now in
+    let s : List ℕ = c.args.s.now in
     refused_answer (message_refusal s) 3 s
-    (refused_4 s t.requires.0 t.requires.1.0 (named t) t.requires.1.1 (is_legal c.before.before)
-    (λ e. c.if2.true (e ∙ sym c.before.message-bytes.ensures)))
+    (refused_4 s c.requires.0 c.requires.1.0 (named c.before.before.before.before.before) c.requires.1.1 (is_legal c.before.before)
+    (λ e. c.if-s-message_bytes.true (e ∙ sym c.message_bytes.ensures)))
 
-sum-high-requires : tie.Need-sum-high-requires
+sum-high-requires : tie.Need-sum_high-requires
 sum-high-requires c κs = (is_legal c.before.before, is_long c)
 
-returns-3 : tie.Need-returns-3
+returns-3 : tie.Need-returns-then-sum_high
 returns-3 c =
-    let e = c.before.before in
-    let t = start e in
+    let t = start c.before.before in
     let s : List ℕ = t.args.s.now in
     refused_answer (message_refusal s) 4 s
-    (refused_5 s t.pre.0 t.pre.1.0 (named t) t.pre.1.1 (is_legal e.before.before) (is_long e)
-    (sym c.before.sum-high.ensures ∙ c.if3.true))
+    (refused_5 s t.requires.0 t.requires.1.0 (named t) t.requires.1.1 (is_legal c.before.before.before.before) (is_long c.before.before)
+    (sym c.sum_high.ensures ∙ c.if-sum_high.true))
 
-spare-blank-requires : tie.Need-spare-blank-requires
+spare-blank-requires : tie.Need-spare_blank-requires
 spare-blank-requires c κs = (is_legal c.before.before.before.before, is_long c.before.before)
 
-returns-4 : tie.Need-returns-4
+returns-4 : tie.Need-returns-then-not-spare_blank
 returns-4 c =
-    let e = c.before.before.before.before in
-    let t = start e in
+    let t = start c.before.before.before.before in
     let s : List ℕ = t.args.s.now in
     refused_answer (message_refusal s) 5 s
-    (refused_6 s t.pre.0 t.pre.1.0 (named t) t.pre.1.1 (is_legal e.before.before) (is_long e)
-    (sym c.before.before.before.sum-high.ensures ∙ c.before.before.if3.false)
-    (sym c.before.spare-blank.ensures ∙ not-true _ c.if4.true))
+    (refused_6 s t.requires.0 t.requires.1.0 (named t) t.requires.1.1 (is_legal c.before.before.before.before.before.before) (is_long c.before.before.before.before)
+    (sym c.sum_high.ensures ∙ c.if-sum_high.false)
+    (sym c.spare_blank.ensures ∙ c.if-not-spare_blank.true))
 
-returns-5 : tie.Need-returns-5
+returns-5 : tie.Need-returns
 returns-5 c =
-    let e = c.before.before.before.before in
-    let t = start e in
+    let t = start c.before.before.before.before in
     let s : List ℕ = t.args.s.now in
-    fit_answer (message_refusal s) s (named t) t.pre.1.1
-    (refused_not s t.pre.0 t.pre.1.0 (named t) t.pre.1.1 (is_legal e.before.before) (is_long e)
-    (sym c.before.before.before.sum-high.ensures ∙ c.before.before.if3.false)
-    (sym c.before.spare-blank.ensures ∙ not-false _ c.if4.false))
+    fit_answer (message_refusal s) s (named t) t.requires.1.1
+    (refused_not s t.requires.0 t.requires.1.0 (named t) t.requires.1.1 (is_legal c.before.before.before.before.before.before) (is_long c.before.before.before.before)
+    (sym c.sum_high.ensures ∙ c.if-sum_high.false)
+    (sym c.spare_blank.ensures ∙ c.if-not-spare_blank.false))
 
-pub check-layout-spec : {M : Type 1} → statement M
-check-layout-spec =
+pub check_layout_spec : {M : Type 1} → statement M
+check_layout_spec =
     tie.close
     (tie.spec
     legal-requires

@@ -12,82 +12,80 @@ use Rattle.message.proofs.Fields.{length_fields, field_value, field_room, field_
 use Rattle.message.proofs.reading.some_above.Statement.{statement}
 use Rattle.message.proofs.reading.some_above.Tie as tie
 
-abbrev invariant-loop : tie.invariant-loop
+abbrev invariant-loop : tie.invariant-loop-i
 invariant-loop s at n k limit c₀ i₀ c i =
     (i ≤ n) × ((c.at ≡ at + i * k)
     × (some_above limit (drop i (fields n k (drop at (unpack s)))) ≡ some_above limit (fields n k (drop at (unpack s)))))
 
-abbrev decreases-loop : tie.decreases-loop
+abbrev decreases-loop : tie.decreases-loop-i
 decreases-loop s at n k limit c₀ i₀ c i = n - i
 
 -- where the function starts, seen from a turn of the loop
-abbrev start : tie.In-loop invariant-loop decreases-loop → tie.Start invariant-loop decreases-loop
+abbrev start : tie.In-loop-i invariant-loop decreases-loop → tie.Start invariant-loop decreases-loop
 start c = c.before.before.before
 
 -- the value that the cursor reads is the next field
-value-is : (c : tie.After-take-long invariant-loop decreases-loop) →
+value-is : (c : tie.After-take_long-field invariant-loop decreases-loop) →
     let a = (start c.before).args in
-    c.take_long.result.value ≡ get_or (fields a.n a.k (drop a.at (unpack a.s.now)))
-    c.before.before.loop.i 0
+    c.take_long-field.result.value ≡ get_or (fields a.n a.k (drop a.at (unpack a.s.now)))
+    c.loop-i.i 0
 value-is c =
     let a = (start c.before).args in
-    let p = c.before.before.loop in
-    c.take_long.ensures.0 ∙ ap (λ (m : ℕ). number a.k (drop m (unpack a.s.now))) p.invariant.1.0
+    let p = c.loop-i in
+    c.take_long-field.ensures.0 ∙ ap (λ (m : ℕ). number a.k (drop m (unpack a.s.now))) p.invariant.1.0
     ∙ field_value a.n a.k a.at p.i (unpack a.s.now) (omega arith)
 
-loop-holds : tie.Need-loop-init invariant-loop decreases-loop
+loop-holds : tie.Need-loop-i-init invariant-loop decreases-loop
 loop-holds c = search rules
 
-take-long-requires : tie.Need-take-long-requires invariant-loop decreases-loop
+take-long-requires : tie.Need-take_long-field-requires invariant-loop decreases-loop
 take-long-requires c κs =
-    let a = c.before.before.before.args in
-    let p = c.before.loop in
+    let a = c.args in
+    let p = c.loop-i in
     (search rules, (search rules, omega (arith, p.invariant.1.0, field_room a.n a.k p.i (omega arith))))
 
-cast-value : tie.Need-overflow-cast-value invariant-loop decreases-loop
+cast-value : tie.Need-overflow_cast-value invariant-loop decreases-loop
 cast-value c = search rules
 
-returns : tie.Need-returns invariant-loop decreases-loop
+returns : tie.Need-returns-then-limit-value invariant-loop decreases-loop
 returns c =
     let a = (start c.before.before.before).args in
-    let t = c.before.before in
-    let p = t.before.before.loop in
+    let p = c.loop-i in
     let f : List ℕ = fields a.n a.k (drop a.at (unpack a.s.now)) in
     let n : length f ≡ a.n = length_fields a.n a.k (drop a.at (unpack a.s.now)) in
     sym (sym p.invariant.1.1
-    ∙ above_stop a.limit f p.i (omega (arith, n)) (omega (arith, c.if1.true, value-is t)))
+    ∙ above_stop a.limit f p.i (omega (arith, n)) (omega (arith, c.if-limit-value.true, value-is c.before.before)))
 
-add-i : tie.Need-overflow-add-i invariant-loop decreases-loop
+add-i : tie.Need-overflow_add-i invariant-loop decreases-loop
 add-i c = search rules
 
-loop-less : tie.Need-loop-smaller invariant-loop decreases-loop
+loop-less : tie.Need-loop-i-smaller invariant-loop decreases-loop
 loop-less c = search rules
 
-loop-again : tie.Need-loop-preserved invariant-loop decreases-loop
+loop-again : tie.Need-loop-i-preserved invariant-loop decreases-loop
 loop-again c =
     let a = (start c.before.before.before.before).args in
-    let t = c.before.before.before in
-    let p = t.before.before.loop in
+    let p = c.loop-i in
     let f : List ℕ = fields a.n a.k (drop a.at (unpack a.s.now)) in
     let n : length f ≡ a.n = length_fields a.n a.k (drop a.at (unpack a.s.now)) in (
       omega arith,
       (
-        omega (arith, t.take_long.ensures.1, p.invariant.1.0, field_step a.at a.k p.i),
-        above-next a.limit f p.i (omega (arith, n)) (omega (arith, c.before.if1.false, value-is t))
+        omega (arith, c.take_long-field.ensures.1, p.invariant.1.0, field_step a.at a.k p.i),
+        above-next a.limit f p.i (omega (arith, n)) (omega (arith, c.if-limit-value.false, value-is c.before.before.before))
             ∙ p.invariant.1.1,
       ),
     )
 
-returns-2 : tie.Need-returns-2 invariant-loop decreases-loop
+returns-2 : tie.Need-returns invariant-loop decreases-loop
 returns-2 c =
-    let a = c.before.before.before.args in
-    let p = c.before.loop in
+    let a = c.args in
+    let p = c.loop-i in
     let x : List ℕ = drop a.at (unpack a.s.now) in
     sym (sym p.invariant.1.1
     ∙ above-end a.limit (fields a.n a.k x) p.i (omega (arith, length_fields a.n a.k x)))
 
-pub some-above-spec : {M : Type 1} → statement M
-some-above-spec =
+pub some_above_spec : {M : Type 1} → statement M
+some_above_spec =
     tie.close
     (tie.spec
     invariant-loop

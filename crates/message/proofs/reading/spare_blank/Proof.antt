@@ -22,33 +22,39 @@ rest : (c : tie.Start) → Rest (layout c.args.l1 c.args.l2 c.args.nc c.args.r) 
 rest c =
     after-head (layout c.args.l1 c.args.l2 c.args.nc c.args.r) c.args.s.now c.requires.0 c.requires.1
 
-fields-length-requires : tie.Need-fields-length-requires
+fields-length-requires : tie.Need-fields_length-used-requires
 fields-length-requires c κs = search rules
 
-sub-fits : tie.Need-overflow-sub-fits
+sub-fits : tie.Need-slice_bounds-fits-count
 sub-fits c = (rest c.before.before).long
 
-part-fits-start : tie.Need-slice-bounds-fits-start
+part-fits-start : tie.Need-slice_bounds-fits-start
 part-fits-start c = (rest c.before.before).long
 
-part-fits-end : tie.Need-slice-bounds-fits-end
+part-fits-end : tie.Need-slice_bounds-fits-end
 part-fits-end c = search rules
 
 fits-requires : tie.Need-fits-requires
-fits-requires c κs = omega (arith, (rest c.before.before.before).low, c.before.fields-length.ensures)
+fits-requires c κs = omega (arith, (rest c.before.before.before).low, c.fields_length-used.ensures)
 
 returns : tie.Need-returns
 unfolding body
 returns c =
-    let a = c.before.before.before.before.args in
+    let a = c.args in
     let t = rest c.before.before.before.before in
     let l : Layout = layout a.l1 a.l2 a.nc a.r in
     let d : List ℕ = drop 9 a.s.now in
-    c.fits2.ensures
-    ∙ rw (part_to_end a.s.now 9, c.before.before.fields-length.ensures)
+    c.fits.ensures
+    ∙ rw (part_to_end a.s.now 9, c.fields_length-used.ensures)
     (sym (fits_by (fields_length l) d (blank (drop (fields_length l) (unpack d))) t.bytes refl))
 
-pub spare-blank-spec : {M : Type 1} → statement M
-spare-blank-spec =
+pub spare_blank_spec : {M : Type 1} → statement M
+spare_blank_spec =
     tie.close
-    (tie.spec fields-length-requires sub-fits part-fits-start part-fits-end fits-requires returns)
+    (tie.spec
+    fields-length-requires
+    sub-fits
+    part-fits-start
+    part-fits-end
+    fits-requires
+    returns)

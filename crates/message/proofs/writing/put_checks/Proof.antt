@@ -8,70 +8,69 @@ use Rattle.message.proofs.Placing.{Placed, placed-start, placed-room, placed-nex
 use Rattle.message.proofs.writing.put_checks.Statement.{statement}
 use Rattle.message.proofs.writing.put_checks.Tie as tie
 
-abbrev invariant-loop : tie.invariant-loop
+abbrev invariant-loop : tie.invariant-loop-i
 invariant-loop nc values out₀ f₀ i₀ out f i = (i ≤ length values) × Placed f₀ out₀ nc values i f out
 
-abbrev decreases-loop : tie.decreases-loop
+abbrev decreases-loop : tie.decreases-loop-i
 decreases-loop nc values out₀ f₀ i₀ out f i = length values - i
 
-loop-holds : tie.Need-loop-init invariant-loop decreases-loop
+loop-holds : tie.Need-loop-i-init invariant-loop decreases-loop
 loop-holds c =
-    let s = c.before.before in
-    let a = s.args in
-    (search rules, placed-start a.start a.out.now a.nc a.values.now s.requires.1.0)
+    let a = c.args in
+    (search rules, placed-start a.start a.out.now a.nc a.values.now c.requires.1.0)
 
-shared-slice-read-wide : tie.Need-shared-slice-read-wide invariant-loop decreases-loop
+shared-slice-read-wide : tie.Need-bounds-values-i invariant-loop decreases-loop
 shared-slice-read-wide c = search rules
 
 wide-requires : tie.Need-wide-requires invariant-loop decreases-loop
 wide-requires c κs = search rules
 
 -- where the function starts, seen from the loop
-abbrev start : tie.At-loop invariant-loop decreases-loop → tie.Start invariant-loop decreases-loop
+abbrev start : tie.At-loop-i invariant-loop decreases-loop → tie.Start invariant-loop decreases-loop
 start c = c.before.before.before
 
-put-requires : tie.Need-put-requires invariant-loop decreases-loop
+put-requires : tie.Need-put-next-requires invariant-loop decreases-loop
 put-requires c κs =
     let s = start c.before.before.before.before in
     let a = s.args in
-    let p = c.before.before.before.before.loop in
+    let p = c.loop-i in
     let room =
-    placed-room a.start a.out.now a.nc a.values.now (length a.values.now) refl s.pre.1.1 p.i
+    placed-room a.start a.out.now a.nc a.values.now (length a.values.now) refl s.requires.1.1 p.i
     p.f p.out p.invariant.1 (omega arith) in
-    ((s.pre.0, p.invariant.1.ready), room)
+    ((s.requires.0, p.invariant.1.ready), room)
 
-add-i : tie.Need-overflow-add-i invariant-loop decreases-loop
+add-i : tie.Need-overflow_add-i invariant-loop decreases-loop
 add-i c = search rules
 
-loop-less : tie.Need-loop-smaller invariant-loop decreases-loop
+loop-less : tie.Need-loop-i-smaller invariant-loop decreases-loop
 loop-less c = search rules
 
 -- the loop's head, seen from where `put` has answered
-abbrev loop : tie.After-put invariant-loop decreases-loop → tie.At-loop invariant-loop decreases-loop
+abbrev loop : tie.After-put-next invariant-loop decreases-loop → tie.At-loop-i invariant-loop decreases-loop
 loop c = c.before.before.before.before.before
 
-loop-again : tie.Need-loop-preserved invariant-loop decreases-loop
+loop-again : tie.Need-loop-i-preserved invariant-loop decreases-loop
 loop-again c =
     let s = start (loop c.before.before) in
     let a = s.args in
-    let p = (loop c.before.before).loop in
-    let q = c.before.before.put in (
+    let p = (loop c.before.before).loop-i in
+    let q = c.put-next in (
       omega arith,
-      placed-next a.start a.out.now a.nc a.values.now p.i p.f p.out p.inv.1 (omega arith) _
-          c.before.before.before.wide.ensures _ _ q.ensures,
+      placed-next a.start a.out.now a.nc a.values.now p.i p.f p.out p.invariant.1 (omega arith) _
+          c.wide.ensures _ _ q.ensures,
     )
 
-same_length : tie.Need-same-length invariant-loop decreases-loop
+same_length : tie.Need-shape_of-out invariant-loop decreases-loop
 same_length c = search rules
 
 returns : tie.Need-returns invariant-loop decreases-loop
 returns c =
     let a = (start c.before).args in
-    let p = c.before.loop in
+    let p = c.loop-i in
     placed_end a.start a.out.now a.nc a.values.now p.i p.f p.out p.invariant.1 (omega arith)
 
-pub put-checks-spec : {M : Type 1} → statement M
-put-checks-spec =
+pub put_checks_spec : {M : Type 1} → statement M
+put_checks_spec =
     tie.close
     (tie.spec
     invariant-loop

@@ -25,52 +25,50 @@ bounds : (c : tie.Start) → Bounds (named c)
 bounds c = legal_bounds (named c) c.requires.0.0
 
 -- where the function starts, seen from where the checks are filled in; and the checks that are put
-abbrev start : tie.After-fill-checks → tie.Start
+abbrev start : tie.After-fill_checks → tie.Start
 start c = c.before.before.before.before
 
-values : (c : tie.After-fill-checks)
-    → take ((start c).args.r - 0) c.fill-checks.new.1.1.1.1.1.0 ≡ checks (named (start c)) (row (start c))
+values : (c : tie.After-fill_checks)
+    → take ((start c).args.r - 0) c.fill_checks.new.out ≡ checks (named (start c)) (row (start c))
 values c =
     let z : (start c).args.r - 0 ≡ (start c).args.r = omega arith in
-    ap (λ (n : ℕ). take n c.fill-checks.new.1.1.1.1.1.0) z ∙ c.fill-checks.ensures
+    ap (λ (n : ℕ). take n c.fill_checks.new.out) z ∙ c.fill_checks.ensures
 
-slice-aggregate-fill-checks : tie.Need-slice-aggregate-fill-checks
+slice-aggregate-fill-checks : tie.Need-slice_bounds-fill_checks-end
 slice-aggregate-fill-checks c = search rules
 
-fill-checks-requires : tie.Need-fill-checks-requires
+fill-checks-requires : tie.Need-fill_checks-requires
 fill-checks-requires c κs =
-    let s = c.before.before.before in
-    (s.requires.0.0, (s.requires.0.1, (bounds s).r_high))
+    (c.requires.0.0, (c.requires.0.1, (bounds c.before.before.before).r_high))
 
-sub-put-checks : tie.Need-overflow-sub-put-checks
+sub-put-checks : tie.Need-slice_bounds-put_checks-count
 sub-put-checks c = search rules
 
-part-put-checks-start : tie.Need-slice-bounds-put-checks-start
+part-put-checks-start : tie.Need-slice_bounds-put_checks-start
 part-put-checks-start c = search rules
 
-part-put-checks-end : tie.Need-slice-bounds-put-checks-end
-part-put-checks-end c = omega (arith, (bounds (start c.before.before)).r_high)
+part-put-checks-end : tie.Need-slice_bounds-put_checks-end
+part-put-checks-end c = omega (arith, (bounds (start c.before)).r_high)
 
-put-checks-requires : tie.Need-put-checks-requires
+put-checks-requires : tie.Need-put_checks-requires
 put-checks-requires c κs =
-    let k = c.before.before.before.before in
-    let s = start k in
-    (omega (arith, (bounds s).nc_high), (s.pre.1.0, rw (values k, length-checks (named s) (row s)) s.pre.1.1))
+    let s = start c.before.before.before in
+    (omega (arith, (bounds s).nc_high), (s.requires.1.0, rw (values c.before.before.before, length-checks (named s) (row s)) s.requires.1.1))
 
-same_length : tie.Need-same-length
+same_length : tie.Need-shape_of-out
 same_length c = search rules
 
 -- where `fill_checks` has answered, seen from where `put_checks` has answered
-abbrev filled : tie.After-put-checks → tie.After-fill-checks
-filled c = c.before.before.before.before.before
+abbrev filled : tie.After-put_checks → tie.After-fill_checks
+filled c = c.before.before.before.before
 
 returns : tie.Need-returns
 returns c =
     let k = filled c.before.before in
-    rw (values k) at c.before.before.put-checks.ensures
+    rw (values k) at c.put_checks.ensures
 
-pub put-row-checks-spec : {M : Type 1} → statement M
-put-row-checks-spec =
+pub put_row_checks_spec : {M : Type 1} → statement M
+put_row_checks_spec =
     tie.close
     (tie.spec
     slice-aggregate-fill-checks
