@@ -1,5 +1,7 @@
 // The sum of the next bits of a string in constant time, from tables of what stands before each place. Contracts cite
 // specs/Windows.antt.
+#![tactic(auto)]
+
 ghost use Rattle.std.specs.Prelude.{◌≡◌, ◌+◌, ◌<◌, ◌≤◌, length, take};
 ghost use Rattle.bits.specs.Bits.{AllBits, longest};
 ghost use Rattle.vt.specs.Sum.{sum};

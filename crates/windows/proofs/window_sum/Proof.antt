@@ -18,57 +18,56 @@ gives s =
     let a = s.args in
     next a.y.now a.p a.w a.totals.now a.counts.now s.requires.0 s.requires.1.1.0 s.requires.1.0
 
-mul-high : tie.Need-overflow-mul-high
+mul-high : tie.Need-offset_bounds-totals-w
 mul-high c = search rules
 
-shared-slice-read-high : tie.Need-shared-slice-read-high
+shared-slice-read-high : tie.Need-bounds-totals-w
 shared-slice-read-high c = search rules
 
-shared-slice-read-high-2 : tie.Need-shared-slice-read-high-2
+shared-slice-read-high-2 : tie.Need-bounds-totals-0
 shared-slice-read-high-2 c = search rules
 
-sub-high : tie.Need-overflow-sub-high
+sub-high : tie.Need-overflow_sub-high
 sub-high c = (gives c.before.before).totals_rise
 
-cast-high : tie.Need-overflow-cast-high
-cast-high c = omega (arith, c.before.shared-slice-known.given c.before.before.args.w)
+cast-high : tie.Need-overflow_cast-high
+cast-high c = omega (arith, c.shared_slice_known-1.given c.args.w)
 
-mul-count : tie.Need-overflow-mul-count
+mul-count : tie.Need-offset_bounds-counts-w
 mul-count c = search rules
 
-shared-slice-read-count : tie.Need-shared-slice-read-count
+shared-slice-read-count : tie.Need-bounds-counts-w
 shared-slice-read-count c = search rules
 
-shared-slice-read-count-2 : tie.Need-shared-slice-read-count-2
+shared-slice-read-count-2 : tie.Need-bounds-counts-0
 shared-slice-read-count-2 c = search rules
 
-sub-count : tie.Need-overflow-sub-count
+sub-count : tie.Need-overflow_sub-count
 sub-count c = (gives c.before.before.before.before).counts_rise
 
-cast-count : tie.Need-overflow-cast-count
-cast-count c = omega (arith, c.before.shared-slice-known3.given c.before.before.before.before.args.w)
+cast-count : tie.Need-overflow_cast-count
+cast-count c = omega (arith, c.shared_slice_known-3-1.given c.args.w)
 
-mul-result : tie.Need-overflow-mul-result
+mul-result : tie.Need-overflow_mul-result
 mul-result c =
-    let s = c.before.before.before.before in
-    let a = s.args in
+    let a = c.args in
     let h : a.w ≤ longest = omega arith in
-    omega (arith, (gives s).product, mul-le-mul_left a.p h)
+    omega (arith, (gives c.before.before.before.before).product, mul-le-mul_left a.p h)
 
-sub-result : tie.Need-overflow-sub-result
+sub-result : tie.Need-overflow_sub-result
 sub-result c = (gives c.before.before.before.before).below
 
-add-result : tie.Need-overflow-add-result
+add-result : tie.Need-overflow_add-result
 add-result c = search rules
 
-rem-result : tie.Need-nonzero-rem-result
+rem-result : tie.Need-nonzero_rem-result
 rem-result c = search rules
 
 returns : tie.Need-returns
 returns c = (gives c.before.before.before.before).sums
 
-pub window-sum-spec : {M : Type 1} → statement M
-window-sum-spec =
+pub window_sum_spec : {M : Type 1} → statement M
+window_sum_spec =
     tie.close
     (tie.spec
     mul-high
