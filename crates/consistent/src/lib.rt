@@ -1,5 +1,7 @@
 // Which rows are consistent with a message and a received row, and the tests that a search makes of a candidate. Contracts cite
 // specs/Consistent.antt and specs/Greedy.antt; strings are unpacked, one byte a bit.
+#![tactic(auto)]
+
 ghost use Rattle.std.specs.Prelude.{◌≡◌, true, [], ◌∷◌, ◌++◌, ◌+◌, ◌-◌, ◌*◌, ◌<◌, ◌≤◌, length, get_or, take, drop};
 ghost use Rattle.bits.specs.Bits.{AllBits, same};
 ghost use Rattle.rows.specs.Deletion.{comes_from};

@@ -5,24 +5,29 @@ use Rattle.consistent.proofs.Steps.{bit_past, bit_other, bit_takes}
 use Rattle.consistent.proofs.after_bit.Statement.{statement}
 use Rattle.consistent.proofs.after_bit.Tie as tie
 
-returns : tie.Need-returns
-returns c = bit_past c.before.args.b c.before.args.y.now c.before.args.j (omega arith) (omega arith)
+returns : tie.Need-returns-then-y-j
+returns c = bit_past c.args.b c.args.y.now c.args.j (omega arith) (omega arith)
 
-shared-slice-read-if2 : tie.Need-shared-slice-read-if2
+shared-slice-read-if2 : tie.Need-bounds-y-j
 shared-slice-read-if2 c = search rules
 
-returns-2 : tie.Need-returns-2
+returns-2 : tie.Need-returns-then-y-j-2
 returns-2 c =
-    let a = c.before.before.before.args in
-    bit_other a.b a.y.now a.j (omega arith) c.if2.true
+    let a = c.args in
+    bit_other a.b a.y.now a.j (omega arith) c.if-y-j-2.true
 
-add-result : tie.Need-overflow-add-result
+add-result : tie.Need-overflow_add-result
 add-result c = search rules
 
-returns-3 : tie.Need-returns-3
+returns-3 : tie.Need-returns
 returns-3 c =
-    let a = c.before.before.before.args in
-    bit_takes a.b a.y.now a.j (omega arith) c.if2.false
+    let a = c.args in
+    bit_takes a.b a.y.now a.j (omega arith) c.if-y-j-2.false
 
-pub after-bit-spec : {M : Type 1} → statement M
-after-bit-spec = tie.close (tie.spec returns shared-slice-read-if2 returns-2 add-result returns-3)
+pub after_bit_spec : {M : Type 1} → statement M
+after_bit_spec = tie.close (tie.spec
+    returns
+    shared-slice-read-if2
+    returns-2
+    add-result
+    returns-3)

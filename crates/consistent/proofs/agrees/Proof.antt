@@ -23,57 +23,54 @@ few : (c : tie.Start) → c.args.l1 * c.args.l2 ≤ most_chunks
 few c = (sizes (named c) (legal_bounds (named c) c.requires.0)).chunks
 
 -- where the function starts, seen from where the chunks are filled in
-abbrev start : tie.After-fill-chunks → tie.Start
+abbrev start : tie.After-fill_chunks → tie.Start
 start c = c.before.before.before.before
 
-slice-aggregate-fill-chunks : tie.Need-slice-aggregate-fill-chunks
+slice-aggregate-fill-chunks : tie.Need-slice_bounds-fill_chunks-end
 slice-aggregate-fill-chunks c = search rules
 
-fill-chunks-requires : tie.Need-fill-chunks-requires
+fill-chunks-requires : tie.Need-fill_chunks-requires
 fill-chunks-requires c κs =
-    let s = c.before.before.before in
-    (s.requires.0, (s.requires.1.0, (s.requires.1.1.0, few s)))
+    (c.requires.0, (c.requires.1.0, (c.requires.1.1.0, few c.before.before.before)))
 
-mul-n : tie.Need-overflow-mul-n
+mul-n : tie.Need-overflow_mul-n
 mul-n c = record { fits = omega (arith, few (start c.before)) }
 
-sub-chunks-agree : tie.Need-overflow-sub-chunks-agree
+sub-chunks-agree : tie.Need-slice_bounds-chunks_agree-count
 sub-chunks-agree c = search rules
 
-part-chunks-agree-start : tie.Need-slice-bounds-chunks-agree-start
+part-chunks-agree-start : tie.Need-slice_bounds-chunks_agree-start
 part-chunks-agree-start c = search rules
 
-part-chunks-agree-end : tie.Need-slice-bounds-chunks-agree-end
-part-chunks-agree-end c = omega (arith, few (start c.before.before))
+part-chunks-agree-end : tie.Need-slice_bounds-chunks_agree-end
+part-chunks-agree-end c = omega (arith, few (start c.before))
 
-chunks-agree-requires : tie.Need-chunks-agree-requires
+chunks-agree-requires : tie.Need-chunks_agree-requires
 chunks-agree-requires c κs =
-    let k = c.before.before.before in
-    let s = start k in
+    let s = start c.before.before in
     let x = s.args.x.now in
-    let e = k.fill-chunks.ensures in (
-      s.pre.0,
+    let e = c.fill_chunks.ensures in (
+      s.requires.0,
       (
-        (length_lent (named s) x s.pre.1.0 _ _ e, chunks_elements (named s) x s.pre.1.0 _ _ e),
-        s.pre.1.1.1,
+        (length_lent (named s) x s.requires.1.0 _ _ e, chunks_elements (named s) x s.requires.1.0 _ _ e),
+        s.requires.1.1.1,
       ),
     )
 
 returns : tie.Need-returns
 returns c =
-    let k = c.before.before.before.before in
-    let s = start k in
+    let s = start c.before.before.before in
     let x : List ℕ = s.args.x.now in
-    let n : length x ≡ row_bits (named s) = s.pre.1.1.0 in
+    let n : length x ≡ row_bits (named s) = s.requires.1.1.0 in
     let again =
-    row_again (named s) x s.pre.1.0 _ _ k.fill-chunks.ensures (omega arith)
+    row_again (named s) x s.requires.1.0 _ _ c.fill_chunks.ensures (omega arith)
     ∙ take_all (row_bits (named s)) x (omega arith) in
-    c.chunks-agree.ensures
+    c.chunks_agree.ensures
     ∙ ap (λ (z : List ℕ). same (block_sums (named s) z ++ string_sums (named s) z ++ checks (named s) z)
     s.args.numbers.now) again
 
-pub agrees-spec : {M : Type 1} → statement M
-agrees-spec =
+pub agrees_spec : {M : Type 1} → statement M
+agrees_spec =
     tie.close
     (tie.spec
     slice-aggregate-fill-chunks

@@ -14,41 +14,39 @@ use Rattle.consistent.proofs.checks_agree.Tie as tie
 bounds : (c : tie.Start) → Bounds (layout c.args.l1 c.args.l2 c.args.nc c.args.r)
 bounds c = legal_bounds (layout c.args.l1 c.args.l2 c.args.nc c.args.r) c.requires.0
 
-slice-aggregate-fill-checks : tie.Need-slice-aggregate-fill-checks
+slice-aggregate-fill-checks : tie.Need-slice_bounds-fill_checks-end
 slice-aggregate-fill-checks c = search rules
 
-fill-checks-requires : tie.Need-fill-checks-requires
+fill-checks-requires : tie.Need-fill_checks-requires
 fill-checks-requires c κs =
-    let s = c.before.before.before in
-    (s.requires.0, (s.requires.1.0, (bounds s).r_high))
+    (c.requires.0, (c.requires.1.0, (bounds c.before.before.before).r_high))
 
-sub-equal : tie.Need-overflow-sub-equal
+sub-equal : tie.Need-slice_bounds-equal-count
 sub-equal c = search rules
 
-part-equal-start : tie.Need-slice-bounds-equal-start
+part-equal-start : tie.Need-slice_bounds-equal-start
 part-equal-start c = search rules
 
 -- where the function starts, seen from where `fill_checks` has answered
-abbrev start : tie.After-fill-checks → tie.Start
+abbrev start : tie.After-fill_checks → tie.Start
 start c = c.before.before.before.before
 
-part-equal-end : tie.Need-slice-bounds-equal-end
-part-equal-end c = omega (arith, (bounds (start c.before.before)).r_high)
+part-equal-end : tie.Need-slice_bounds-equal-end
+part-equal-end c = omega (arith, (bounds (start c.before)).r_high)
 
 equal-requires : tie.Need-equal-requires
 equal-requires c κs = search rules
 
 returns : tie.Need-returns
 returns c =
-    let k = c.before.before.before.before in
-    let s = start c.before.before.before.before in
+    let s = start c.before.before.before in
     let z : s.args.r - 0 ≡ s.args.r = omega arith in
     c.equal.ensures
     ∙ ap (λ (v : List ℕ). same v s.args.numbers.now)
-    (ap (λ (n : ℕ). take n k.fill-checks.new.1.1.1.1.1.0) z ∙ k.fill-checks.ensures)
+    (ap (λ (n : ℕ). take n c.fill_checks.new.out) z ∙ c.fill_checks.ensures)
 
-pub checks-agree-spec : {M : Type 1} → statement M
-checks-agree-spec =
+pub checks_agree_spec : {M : Type 1} → statement M
+checks_agree_spec =
     tie.close
     (tie.spec
     slice-aggregate-fill-checks

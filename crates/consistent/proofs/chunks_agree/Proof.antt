@@ -21,69 +21,66 @@ named c = layout c.args.l1 c.args.l2 c.args.nc c.args.r
 abbrev row : tie.Start → List ℕ
 row c = row_of c.args.nc c.args.chunks.now
 
-add-n : tie.Need-overflow-add-n
+add-n : tie.Need-overflow_add-n
 add-n c = search rules
 
-sub-sums-agree : tie.Need-overflow-sub-sums-agree
+sub-sums-agree : tie.Need-slice_bounds-sums_agree-count
 sub-sums-agree c = search rules
 
-part-sums-agree-start : tie.Need-slice-bounds-sums-agree-start
+part-sums-agree-start : tie.Need-slice_bounds-sums_agree-start
 part-sums-agree-start c = search rules
 
-part-sums-agree-end : tie.Need-slice-bounds-sums-agree-end
+part-sums-agree-end : tie.Need-slice_bounds-sums_agree-end
 part-sums-agree-end c = search rules
 
-sums-agree-requires : tie.Need-sums-agree-requires
+sums-agree-requires : tie.Need-sums_agree-requires
 sums-agree-requires c κs =
-    let s = c.before.before.before in
-    let a = s.args in
+    let a = c.args in
     let n : a.l1 + a.l2 - 0 ≡ a.l1 + a.l2 = omega arith in
-    (s.requires.0, (s.requires.1.0, length-take-le (a.l1 + a.l2 - 0) a.numbers.now (omega (arith, s.requires.1.1)) ∙ n))
+    (c.requires.0, (c.requires.1.0, length-take-le (a.l1 + a.l2 - 0) a.numbers.now (omega (arith, c.requires.1.1)) ∙ n))
 
-returns : tie.Need-returns
+returns : tie.Need-returns-then-not-sums_agree
 returns c =
-    let s = c.before.before.before.before.before in
-    sums_differ (named s) (row s) s.args.numbers.now s.requires.1.1
-    (sym c.before.sums-agree.ensures ∙ not-true _ c.if1.true)
+    sums_differ (named c.before.before.before.before.before) (row c.before.before.before.before.before) c.args.numbers.now c.requires.1.1
+    (sym c.sums_agree.ensures ∙ c.if-not-sums_agree.true)
 
-mul-checks-agree : tie.Need-overflow-mul-checks-agree
+mul-checks-agree : tie.Need-offset_bounds-numbers-n
 mul-checks-agree c = search rules
 
-sub-checks-agree : tie.Need-overflow-sub-checks-agree
+sub-checks-agree : tie.Need-slice_bounds-checks_agree-count
 sub-checks-agree c = search rules
 
-part-checks-agree-start : tie.Need-slice-bounds-checks-agree-start
+part-checks-agree-start : tie.Need-slice_bounds-checks_agree-start
 part-checks-agree-start c = search rules
 
-part-checks-agree-end : tie.Need-slice-bounds-checks-agree-end
+part-checks-agree-end : tie.Need-slice_bounds-checks_agree-end
 part-checks-agree-end c = search rules
 
 -- where the function starts, seen from where the test does not hold
-abbrev start : tie.Else1 → tie.Start
+abbrev start : tie.Else-not-sums_agree → tie.Start
 start c = c.before.before.before.before.before
 
-checks-agree-requires : tie.Need-checks-agree-requires
+checks-agree-requires : tie.Need-checks_agree-requires
 checks-agree-requires c κs =
     let s = start c.before in
     let a = s.args in (
-      s.pre.0,
+      s.requires.0,
       (
-        s.pre.1.0,
+        s.requires.1.0,
         ap length (part_to_end a.numbers.now (a.l1 + a.l2))
-            ∙ omega (arith, length-drop (a.l1 + a.l2) a.numbers.now, s.pre.1.1),
+            ∙ omega (arith, length-drop (a.l1 + a.l2) a.numbers.now, s.requires.1.1),
       ),
     )
 
-returns-2 : tie.Need-returns-2
+returns-2 : tie.Need-returns
 returns-2 c =
     let s = start c.before.before in
-    let e = c.before.before in
-    c.checks-agree.ensures
-    ∙ sums_same (named s) (row s) s.args.numbers.now s.pre.1.1
-    (sym e.before.sums-agree.ensures ∙ not-false _ e.if1.false)
+    c.checks_agree.ensures
+    ∙ sums_same (named s) (row s) s.args.numbers.now s.requires.1.1
+    (sym c.sums_agree.ensures ∙ c.if-not-sums_agree.false)
 
-pub chunks-agree-spec : {M : Type 1} → statement M
-chunks-agree-spec =
+pub chunks_agree_spec : {M : Type 1} → statement M
+chunks_agree_spec =
     tie.close
     (tie.spec
     add-n

@@ -10,57 +10,57 @@ use Rattle.bits.proofs.Laws.{same_next, same_stop, same_end}
 use Rattle.consistent.proofs.equal.Statement.{statement}
 use Rattle.consistent.proofs.equal.Tie as tie
 
-abbrev invariant-loop : tie.invariant-loop
+abbrev invariant-loop : tie.invariant-loop-i
 invariant-loop values numbers i₀ i = (i ≤ length numbers) × (same (drop i values) (drop i numbers) ≡ same values numbers)
 
-abbrev decreases-loop : tie.decreases-loop
+abbrev decreases-loop : tie.decreases-loop-i
 decreases-loop values numbers i₀ i = length numbers - i
 
-loop-holds : tie.Need-loop-init invariant-loop decreases-loop
+loop-holds : tie.Need-loop-i-init invariant-loop decreases-loop
 loop-holds c = (search rules, refl)
 
-shared-slice-read-if1 : tie.Need-shared-slice-read-if1 invariant-loop decreases-loop
+shared-slice-read-if1 : tie.Need-bounds-values-i invariant-loop decreases-loop
 shared-slice-read-if1 c = search rules
 
-cast-if1 : tie.Need-overflow-cast-if1 invariant-loop decreases-loop
-cast-if1 c = record { fits = omega (arith, c.shared-slice-known.given c.before.before.loop.i) }
+cast-if1 : tie.Need-overflow_cast-values invariant-loop decreases-loop
+cast-if1 c = record { fits = omega (arith, c.shared_slice_known-1.given c.loop-i.i) }
 
-mul-if1 : tie.Need-overflow-mul-if1 invariant-loop decreases-loop
+mul-if1 : tie.Need-offset_bounds-numbers-i invariant-loop decreases-loop
 mul-if1 c = search rules
 
-shared-slice-read-if1-2 : tie.Need-shared-slice-read-if1-2 invariant-loop decreases-loop
+shared-slice-read-if1-2 : tie.Need-bounds-numbers-i invariant-loop decreases-loop
 shared-slice-read-if1-2 c = search rules
 
-returns : tie.Need-returns invariant-loop decreases-loop
+returns : tie.Need-returns-then-values-i invariant-loop decreases-loop
 returns c =
-    let a = c.before.before.before.before.before.args in
-    let p = c.before.before.before.before.loop in
+    let a = c.args in
+    let p = c.loop-i in
     sym (sym p.invariant.1
-    ∙ same_stop a.values.now a.numbers.now p.i (omega arith) (omega arith) c.if1.true)
+    ∙ same_stop a.values.now a.numbers.now p.i (omega arith) (omega arith) c.if-values-i.true)
 
-add-i : tie.Need-overflow-add-i invariant-loop decreases-loop
+add-i : tie.Need-overflow_add-i invariant-loop decreases-loop
 add-i c = search rules
 
-loop-less : tie.Need-loop-smaller invariant-loop decreases-loop
+loop-less : tie.Need-loop-i-smaller invariant-loop decreases-loop
 loop-less c = search rules
 
-loop-again : tie.Need-loop-preserved invariant-loop decreases-loop
+loop-again : tie.Need-loop-i-preserved invariant-loop decreases-loop
 loop-again c =
-    let a = c.before.before.before.before.before.args in
-    let p = c.before.before.before.before.loop in (
+    let a = c.args in
+    let p = c.loop-i in (
       omega arith,
-      same_next a.values.now a.numbers.now p.i (omega arith) (omega arith) c.if1.false
+      same_next a.values.now a.numbers.now p.i (omega arith) (omega arith) c.if-values-i.false
           ∙ p.invariant.1,
     )
 
-returns-2 : tie.Need-returns-2 invariant-loop decreases-loop
+returns-2 : tie.Need-returns invariant-loop decreases-loop
 returns-2 c =
-    let a = c.before.before.args in
-    let p = c.before.loop in
+    let a = c.args in
+    let p = c.loop-i in
     sym (sym p.invariant.1 ∙ same_end a.values.now a.numbers.now p.i (omega arith) (omega arith))
 
-pub equal-spec : {M : Type 1} → statement M
-equal-spec =
+pub equal_spec : {M : Type 1} → statement M
+equal_spec =
     tie.close
     (tie.spec
     invariant-loop

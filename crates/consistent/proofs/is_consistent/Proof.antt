@@ -10,21 +10,25 @@ use Rattle.consistent.proofs.is_consistent.Tie as tie
 comes-requires : tie.Need-comes-requires
 comes-requires c κs = search rules
 
-returns : tie.Need-returns
+returns : tie.Need-returns-then-not-comes
 returns c =
-    let a = c.before.before.before.before.before.args in
+    let a = c.args in
     comes_not_candidate (layout a.l1 a.l2 a.nc a.r) a.numbers.now a.y.now a.x.now
-    (sym c.before.comes.ensures ∙ not-true _ c.if1.true)
+    (sym c.comes.ensures ∙ c.if-not-comes.true)
 
 agrees-requires : tie.Need-agrees-requires
 agrees-requires c κs = search rules
 
-returns-2 : tie.Need-returns-2
+returns-2 : tie.Need-returns
 returns-2 c =
-    let a = c.before.before.before.before.before.before.args in
+    let a = c.args in
     c.agrees.ensures
     ∙ comes-candidate (layout a.l1 a.l2 a.nc a.r) a.numbers.now a.y.now a.x.now
-    (sym c.before.before.comes.ensures ∙ not-false _ c.before.if1.false)
+    (sym c.comes.ensures ∙ c.if-not-comes.false)
 
-pub is-consistent-spec : {M : Type 1} → statement M
-is-consistent-spec = tie.close (tie.spec comes-requires returns agrees-requires returns-2)
+pub is_consistent_spec : {M : Type 1} → statement M
+is_consistent_spec = tie.close (tie.spec
+    comes-requires
+    returns
+    agrees-requires
+    returns-2)

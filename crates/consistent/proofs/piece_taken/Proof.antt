@@ -9,17 +9,20 @@ use Rattle.consistent.proofs.piece_taken.Tie as tie
 starts-requires : tie.Need-starts-requires
 starts-requires c κs = search rules
 
-returns : tie.Need-returns
+returns : tie.Need-returns-then-starts
 returns c =
-    let s = c.before.before.before.before.before in
-    let a = s.args in
-    (omega arith, whole_eats a.p.now a.y.now (c.before.starts.ensures c.if2.true))
+    let a = c.args in
+    (omega arith, whole_eats a.p.now a.y.now (c.starts.ensures c.if-starts.true))
 
 taken-requires : tie.Need-taken-requires
 taken-requires c κs = search rules
 
-returns-2 : tie.Need-returns-2
+returns-2 : tie.Need-returns
 returns-2 c = search rules
 
-pub piece-taken-spec : {M : Type 1} → statement M
-piece-taken-spec = tie.close (tie.spec starts-requires returns taken-requires returns-2)
+pub piece_taken_spec : {M : Type 1} → statement M
+piece_taken_spec = tie.close (tie.spec
+    starts-requires
+    returns
+    taken-requires
+    returns-2)

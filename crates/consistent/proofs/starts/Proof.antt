@@ -11,48 +11,49 @@ use lib.ListN.{length, get_or, take}
 use lib.Seq.{ext_get_or, get_or-take, length-take-le}
 use Rattle.consistent.proofs.starts.Statement.{statement}
 use Rattle.consistent.proofs.starts.Tie as tie
+use Rattle.consistent.proofs.starts.Lts.{else-p-i, then-p-i}
 
-abbrev invariant-loop : tie.invariant-loop
+abbrev invariant-loop : tie.invariant-loop-i
 invariant-loop p y differ₀ i₀ differ i = (i ≤ length p) × (differ ≡ 0 → (k : ℕ) → k < i → get_or p k 0 ≡ get_or y k 0)
 
-abbrev decreases-loop : tie.decreases-loop
+abbrev decreases-loop : tie.decreases-loop-i
 decreases-loop p y differ₀ i₀ differ i = length p - i
 
-loop-holds : tie.Need-loop-init invariant-loop decreases-loop
+loop-holds : tie.Need-loop-i-init invariant-loop decreases-loop
 loop-holds c = (search rules, λ e k h. absurd (omega arith))
 
-shared-slice-read-if1 : tie.Need-shared-slice-read-if1 invariant-loop decreases-loop
+shared-slice-read-if1 : tie.Need-bounds-p-i invariant-loop decreases-loop
 shared-slice-read-if1 c = search rules
 
-shared-slice-read-if1-2 : tie.Need-shared-slice-read-if1-2 invariant-loop decreases-loop
+shared-slice-read-if1-2 : tie.Need-bounds-y-i invariant-loop decreases-loop
 shared-slice-read-if1-2 c = search rules
 
-add-i : tie.Need-overflow-add-i invariant-loop decreases-loop
+add-i : tie.Need-overflow_add-i invariant-loop decreases-loop
 add-i c = search rules
 
-loop-less : tie.Need-loop-smaller invariant-loop decreases-loop
+loop-less : tie.Need-loop-i-smaller invariant-loop decreases-loop
 loop-less c = search rules
 
-loop-again : tie.Need-loop-preserved invariant-loop decreases-loop
+loop-again : tie.Need-loop-i-preserved invariant-loop decreases-loop
 loop-again c =
-    let p = c.before.before.before.before.loop in (
+    let p = c.loop-i in (
       omega arith,
-      λ e. ⊎_elim
-          (λ w. absurd (omega (arith, e, w.1)))
-          (λ w. below_more _ _ (p.invariant.1 (omega (arith, e, w.1))) w.0.left)
-          c.if1.branch,
+      λ e. elim c.if-p-i.branch [
+        | then-p-i w ↦ absurd (omega (arith, e, w.differ-is))
+        | else-p-i w ↦ below_more _ _ (p.invariant.1 (omega (arith, e, w.differ-is))) w.if-p-i.false
+      ],
     )
 
 returns : tie.Need-returns invariant-loop decreases-loop
 returns c e =
-    let a = c.before.before.args in
-    let p = c.before.loop in
+    let a = c.args in
+    let p = c.loop-i in
     let n : ℕ = length a.p.now in
-    ext_get_or 0 a.p.now (take n a.y.now) (sym (length-take-le n a.y.now c.before.before.requires))
+    ext_get_or 0 a.p.now (take n a.y.now) (sym (length-take-le n a.y.now c.requires))
     (λ i h. p.invariant.1 (eqb-true p.differ 0 e) i (omega arith) ∙ sym (get_or-take n a.y.now i 0 h))
 
-pub starts-spec : {M : Type 1} → statement M
-starts-spec =
+pub starts_spec : {M : Type 1} → statement M
+starts_spec =
     tie.close
     (tie.spec
     invariant-loop

@@ -20,12 +20,12 @@ abbrev sums : (l1 l2 nc r : ℕ) → List ℕ → List ℕ
 sums l1 l2 nc r chunks =
     block_sums (layout l1 l2 nc r) (row_of nc chunks) ++ string_sums (layout l1 l2 nc r) (row_of nc chunks)
 
-abbrev invariant-loop : tie.invariant-loop
+abbrev invariant-loop : tie.invariant-loop-k
 invariant-loop l1 l2 nc r chunks numbers t k₀ k =
     (k ≤ length numbers)
     × (same (drop k (sums l1 l2 nc r chunks)) (drop k numbers) ≡ same (sums l1 l2 nc r chunks) numbers)
 
-abbrev decreases-loop : tie.decreases-loop
+abbrev decreases-loop : tie.decreases-loop-k
 decreases-loop l1 l2 nc r chunks numbers t k₀ k = length numbers - k
 
 -- those of the function's row, which are as many as the numbers
@@ -37,63 +37,61 @@ count c =
     length-sums (layout c.args.l1 c.args.l2 c.args.nc c.args.r)
     (row_of c.args.nc c.args.chunks.now) ∙ sym c.requires.1.1
 
-weights-requires : tie.Need-weights-requires invariant-loop decreases-loop
+weights-requires : tie.Need-weights-t-requires invariant-loop decreases-loop
 weights-requires c κs = search rules
 
-loop-holds : tie.Need-loop-init invariant-loop decreases-loop
+loop-holds : tie.Need-loop-k-init invariant-loop decreases-loop
 loop-holds c = (search rules, refl)
 
-mul-number : tie.Need-overflow-mul-number invariant-loop decreases-loop
+mul-number : tie.Need-offset_bounds-numbers-k invariant-loop decreases-loop
 mul-number c = search rules
 
-shared-slice-read-number : tie.Need-shared-slice-read-number invariant-loop decreases-loop
+shared-slice-read-number : tie.Need-bounds-numbers-k invariant-loop decreases-loop
 shared-slice-read-number c = search rules
 
-cast-number : tie.Need-overflow-cast-number invariant-loop decreases-loop
-cast-number c = record { fits = omega (arith, c.shared-slice-known3.given c.before.before.loop.k) }
+cast-number : tie.Need-overflow_cast-number invariant-loop decreases-loop
+cast-number c = record { fits = omega (arith, c.shared_slice_known-in-loop-k-1.given c.loop-k.k) }
 
-sum-of-requires : tie.Need-sum-of-requires invariant-loop decreases-loop
+sum-of-requires : tie.Need-sum_of-requires invariant-loop decreases-loop
 sum-of-requires c κs =
-    let w = c.before.before.before.before in
-    let s = w.before.before.before in
-    (w.weights.ensures, (s.requires.0, (s.requires.1.0, omega (arith, s.requires.1.1))))
+    (c.weights-t.ensures, (c.requires.0, (c.requires.1.0, omega (arith, c.requires.1.1))))
 
 -- where the function starts, seen from the loop
-abbrev start : tie.At-loop invariant-loop decreases-loop → tie.Start invariant-loop decreases-loop
+abbrev start : tie.At-loop-k invariant-loop decreases-loop → tie.Start invariant-loop decreases-loop
 start c = c.before.before.before.before
 
-returns : tie.Need-returns invariant-loop decreases-loop
+returns : tie.Need-returns-then-sum_of-number invariant-loop decreases-loop
 returns c =
     let s = start c.before.before.before.before.before in
-    let p = c.before.before.before.before.before.loop in
+    let p = c.loop-k in
     sym (sym p.invariant.1
     ∙ same_stop (own s) s.args.numbers.now p.k (omega (arith, count s)) (omega arith)
-    (λ e. c.if1.true (c.before.sum_of.ensures ∙ e)))
+    (λ e. c.if-sum_of-number.true (c.sum_of.ensures ∙ e)))
 
-add-k : tie.Need-overflow-add-k invariant-loop decreases-loop
+add-k : tie.Need-overflow_add-k invariant-loop decreases-loop
 add-k c = search rules
 
-loop-less : tie.Need-loop-smaller invariant-loop decreases-loop
+loop-less : tie.Need-loop-k-smaller invariant-loop decreases-loop
 loop-less c = search rules
 
-loop-again : tie.Need-loop-preserved invariant-loop decreases-loop
+loop-again : tie.Need-loop-k-preserved invariant-loop decreases-loop
 loop-again c =
     let s = start c.before.before.before.before.before in
-    let p = c.before.before.before.before.before.loop in
-    let equal = sym c.before.sum_of.ensures ∙ c.if1.false in (
+    let p = c.loop-k in
+    let equal = sym c.sum_of.ensures ∙ c.if-sum_of-number.false in (
       omega arith,
       same_next (own s) s.args.numbers.now p.k (omega (arith, count s)) (omega arith) equal
           ∙ p.invariant.1,
     )
 
-returns-2 : tie.Need-returns-2 invariant-loop decreases-loop
+returns-2 : tie.Need-returns invariant-loop decreases-loop
 returns-2 c =
     let s = start c.before in
-    let p = c.before.loop in
+    let p = c.loop-k in
     sym (sym p.invariant.1 ∙ same_end (own s) s.args.numbers.now p.k (omega (arith, count s)) (omega arith))
 
-pub sums-agree-spec : {M : Type 1} → statement M
-sums-agree-spec =
+pub sums_agree_spec : {M : Type 1} → statement M
+sums_agree_spec =
     tie.close
     (tie.spec
     invariant-loop
