@@ -1,5 +1,7 @@
 // A row as the numbers of its chunks, and the lines of chunks that have a sum: blocks and chunk-strings. Contracts cite
 // specs/Lines.antt; strings are unpacked, one byte a bit.
+#![tactic(auto)]
+
 ghost use Rattle.std.specs.Prelude.{◌≡◌, true, List, ◌++◌, ℕ, ◌+◌, ◌-◌, ◌*◌, ◌<◌, ◌≤◌, length, get_or, take, drop};
 ghost use Rattle.bits.specs.Bits.{AllBits, most_chunks, longest_line, number, digits};
 ghost use Rattle.rows.specs.Deletion.{comes_from};

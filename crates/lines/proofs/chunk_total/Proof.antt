@@ -15,32 +15,37 @@ use Rattle.lines.proofs.chunk_total.Tie as tie
 power-requires : tie.Need-power-requires
 power-requires c κs = search rules
 
-sub-ones : tie.Need-overflow-sub-ones
-sub-ones c = omega (arith, c.power.ensures, pow_pos c.before.args.nc)
+sub-ones : tie.Need-overflow_sub-ones
+sub-ones c = omega (arith, c.power.ensures, pow_pos c.args.nc)
 
-cast-ones : tie.Need-overflow-cast-ones
+cast-ones : tie.Need-overflow_cast-ones
 cast-ones c =
-    let n = c.before.args.nc in
-    record { fits = omega (arith, c.power.ensures, pow_mono {i = n} {j = 8} c.before.requires.0.1) }
+    let n = c.args.nc in
+    record { fits = omega (arith, c.power.ensures, pow_mono {i = n} {j = 8} c.requires.0.1) }
 
 -- the number that is weighed
-low : (c : tie.After-power) → let a = c.before.args in bit_and a.v (c.power.result - 1) ≡ a.v % 2 ^ a.nc
-low c = let a = c.before.args in rw c.power.ensures (and_mask a.v a.nc)
+low : (c : tie.After-power) → let a = c.args in bit_and a.v (c.power.result - 1) ≡ a.v % 2 ^ a.nc
+low c = let a = c.args in rw c.power.ensures (and_mask a.v a.nc)
 
-chunk-total-requires : tie.Need-chunk-total-requires
+chunk-total-requires : tie.Need-chunk_total-requires
 chunk-total-requires c κs =
-    let a = c.before.args in
-    let p = c.before.requires in
+    let a = c.args in
+    let p = c.requires in
     (p.0, (rw (low c) (mod-lt a.v (pow_pos a.nc)), p.1))
 
 returns : tie.Need-returns
 returns c =
-    let a = c.before.before.args in
-    let e = c.chunk-total.ensures in (
+    let a = c.args in
+    let e = c.chunk_total.ensures in (
       e.0 ∙ ap (total a.first) (ap (digits a.nc) (low c.before) ∙ digits_low a.nc a.v),
       e.1,
     )
 
-pub chunk-total-spec : {M : Type 1} → statement M
-chunk-total-spec =
-    tie.close (tie.spec power-requires sub-ones cast-ones chunk-total-requires returns)
+pub chunk_total_spec : {M : Type 1} → statement M
+chunk_total_spec =
+    tie.close (tie.spec
+    power-requires
+    sub-ones
+    cast-ones
+    chunk-total-requires
+    returns)

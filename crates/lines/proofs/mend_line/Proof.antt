@@ -34,124 +34,118 @@ small s =
     let before : a.hole * a.nc ≤ longest_line = omega (arith, (stands s).room, i.short) in
     (few, mul-le-mul {n₂ = longest_line} {m₂ = 7} before few.1)
 
-mul_at : tie.Need-overflow-mul-at
-mul_at c = let s = c.before.before in omega (arith, (stands s).stands, s.requires.0.1)
+mul_at : tie.Need-overflow_mul-at
+mul_at c = omega (arith, (stands c.before.before).stands, c.requires.0.1)
 
-add_at : tie.Need-overflow-add-at
-add_at c = let s = c.before.before in omega (arith, (stands s).stands, s.requires.0.1)
+add_at : tie.Need-overflow_add-at
+add_at c = omega (arith, (stands c.before.before).stands, c.requires.0.1)
 
-mul-before : tie.Need-overflow-mul-before
-mul-before c = let s = c.before.before in omega (arith, (stands s).room, s.requires.0.0.short)
+mul-before : tie.Need-overflow_mul-before
+mul-before c = omega (arith, (stands c.before.before).room, c.requires.0.0.short)
 
-add-first : tie.Need-overflow-add-first
-add-first c = let s = c.before.before in omega (arith, (stands s).room, s.requires.0.0.short)
+add-first : tie.Need-overflow_add-first
+add-first c = omega (arith, (stands c.before.before).room, c.requires.0.0.short)
 
-weights-requires : tie.Need-weights-requires
+weights-requires : tie.Need-weights-table-requires
 weights-requires c κs = search rules
 
-line-total-requires : tie.Need-line-total-requires
+line-total-requires : tie.Need-line_total-whole-requires
 line-total-requires c κs = search rules
 
 -- where the function starts, seen from where `line_total` has answered
-abbrev entry : tie.After-line-total → tie.Start
+abbrev entry : tie.After-line_total-whole → tie.Start
 entry c = c.before.before.before.before.before
 
-shared-slice-read-chunk-total : tie.Need-shared-slice-read-chunk-total
+shared-slice-read-chunk-total : tie.Need-bounds-vs-at
 shared-slice-read-chunk-total c = (stands (entry c.before.before)).stands
 
-chunk-total-requires : tie.Need-chunk-total-requires
+chunk-total-requires : tie.Need-chunk_total-own-requires
 chunk-total-requires c κs =
     let s = entry c.before.before in
-    let i = s.pre.0.0 in (
-      (c.before.before.before.before.weights.ensures, i.nc_high),
+    let i = s.requires.0.0 in (
+      (c.weights-table.ensures, i.nc_high),
       (omega arith, omega (arith, (stands s).room, i.short)),
     )
 
-weigh-requires : tie.Need-weigh-requires
+weigh-requires : tie.Need-weigh-w-requires
 weigh-requires c κs = search rules
 
 -- where the bits at hand are weighed: the function's start
-abbrev start : tie.After-weigh → tie.Start
+abbrev start : tie.After-weigh-w → tie.Start
 start c = entry c.before.before.before.before
 
 -- what the chunk brings is part of the line's total, which is not large
-parts : (c : tie.After-weigh) → let a = (start c).args in
-    (c.before.chunk-total.result ≤ c.before.before.before.before.line-total.result)
-    × (c.before.before.before.before.line-total.result ≤ longest_line * (1 + longest_line))
+parts : (c : tie.After-weigh-w) → let a = (start c).args in
+    (c.chunk_total-own.result ≤ c.line_total-whole.result)
+    × (c.line_total-whole.result ≤ longest_line * (1 + longest_line))
 parts c =
     let s = start c in
     let a = s.args in
-    let whole = c.before.before.before.before.line-total.ensures in
-    let own = total-own a.nc a.start a.stride a.count a.hole s.pre.1.0 a.vs.now in
-    let most = total-most a.nc a.start a.stride a.count a.vs.now s.pre.0.0.short in
-    (omega (arith, own, whole, c.before.chunk-total.ensures.0), omega (arith, most, whole))
+    let whole = c.line_total-whole.ensures in
+    let own = total-own a.nc a.start a.stride a.count a.hole s.requires.1.0 a.vs.now in
+    let most = total-most a.nc a.start a.stride a.count a.vs.now s.requires.0.0.short in
+    (omega (arith, own, whole, c.chunk_total-own.ensures.0), omega (arith, most, whole))
 
-sub-short : tie.Need-overflow-sub-short
+sub-short : tie.Need-overflow_sub-short
 sub-short c = (parts c).0
 
-mul-short : tie.Need-overflow-mul-short
+mul-short : tie.Need-overflow_mul-short
 mul-short c =
-    let w = c.before in
-    rw w.weigh.ensures.1 (record { fits = omega (arith, (small (start w)).1) })
+    rw c.weigh-w.ensures.1 (record { fits = omega (arith, (small (start c.before)).1) })
 
-add-short : tie.Need-overflow-add-short
+add-short : tie.Need-overflow_add-short
 add-short c =
-    let w = c.before.before in
-    let l = small (start w) in
-    rw (w.weigh.ensures.1, w.weigh.ensures.0) (record { fits = omega (arith, l.1, l.0.0) })
+    let l = small (start c.before.before) in
+    rw (c.weigh-w.ensures.1, c.weigh-w.ensures.0) (record { fits = omega (arith, l.1, l.0.0) })
 
-add-short-2 : tie.Need-overflow-add-short-2
+add-short-2 : tie.Need-overflow_add-short-2
 add-short-2 c =
-    let w = c.before.before in
-    let l = small (start w) in
-    rw (w.weigh.ensures.1, w.weigh.ensures.0) (record { fits = omega (arith, l.1, l.0.0, (parts w).1) })
+    let l = small (start c.before.before) in
+    rw (c.weigh-w.ensures.1, c.weigh-w.ensures.0) (record { fits = omega (arith, l.1, l.0.0, (parts c.before.before).1) })
 
-mul-lacking : tie.Need-overflow-mul-lacking
+mul-lacking : tie.Need-overflow_mul-count
 mul-lacking c = search rules
 
-lacking-requires : tie.Need-lacking-requires
+lacking-requires : tie.Need-lacking-g-requires
 lacking-requires c κs = search rules
 
-mend-chunk-requires : tie.Need-mend-chunk-requires
+mend-chunk-requires : tie.Need-mend_chunk-requires
 mend-chunk-requires c κs =
-    let w = c.before.before.before in
-    let s = start w in
-    let i = s.pre.0.0 in
-    let n = s.pre.1.1.0.0 in
-    let g = c.lacking.ensures.0 in (
-      ((n, i.nc_high), s.pre.1.1.0.1),
-      ((omega arith, omega (arith, (stands s).room, i.short, n), omega (arith, g, i.short)), w.weigh.ensures),
+    let s = start c.before.before.before in
+    let i = s.requires.0.0 in
+    let n = s.requires.1.1.0.0 in
+    let g = c.lacking-g.ensures.0 in (
+      ((n, i.nc_high), s.requires.1.1.0.1),
+      ((omega arith, omega (arith, (stands s).room, i.short, n), omega (arith, g, i.short)), c.weigh-w.ensures),
     )
 
 returns : tie.Need-returns
 returns c us m =
-    let k = c.before in
-    let w = k.before.before.before in
-    let s = start w in
+    let s = start c.before.before.before.before in
     let a = s.args in
-    let p = s.pre.1 in
+    let p = s.requires.1 in
     let before : ℕ = a.hole * a.nc in
     let y = a.bits.now in
-    let whole = w.before.before.before.before.line-total in
-    let own = w.before.chunk-total in
+    let whole = c.line_total-whole in
+    let own = c.chunk_total-own in
     let rest : ℕ = whole.result - own.result in
-    let e = w.weigh.ensures in
-    let short = weighed rest before w.weigh.result.ones w.weigh.result.total y e.1 e.0 in
+    let e = c.weigh-w.ensures in
+    let short = weighed rest before c.weigh-w.result.ones c.weigh-w.result.total y e.1 e.0 in
     let adds =
     lost_adds a.nc a.start a.stride a.count a.hole a.sum y a.vs.now us p.0 p.1.0.0
-    p.1.0.1 m rest k.lacking.result (omega (arith, (parts w).0, whole.ensures, own.ensures.0))
-    k.lacking.ensures.0
-    (rw short at k.lacking.ensures.1) in
+    p.1.0.1 m rest c.lacking-g.result (omega (arith, (parts c.before.before.before.before).0, whole.ensures, own.ensures.0))
+    c.lacking-g.ensures.0
+    (rw short at c.lacking-g.ensures.1) in
     let x = digits a.nc (get_or us (a.start + a.hole * a.stride) 0) in
-    let r = c.mend-chunk.ensures x (bits-digits a.nc _) m.comes adds in (
+    let r = c.mend_chunk.ensures x (bits-digits a.nc _) m.comes adds in (
       r.0,
       r.1 ∙ lost-number a.nc a.start a.stride a.count a.hole a.sum y a.vs.now us p.0
           p.1.0.0
           p.1.0.1 m,
     )
 
-pub mend-line-spec : {M : Type 1} → statement M
-mend-line-spec =
+pub mend_line_spec : {M : Type 1} → statement M
+mend_line_spec =
     tie.close
     (tie.spec
     mul_at

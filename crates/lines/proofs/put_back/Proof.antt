@@ -18,56 +18,51 @@ sum_low : (s : tie.Start) → s.args.whole % (s.args.nc + 1) ≤ s.args.nc
 sum_low s = omega (arith, mod-lt s.args.whole {m = s.args.nc + 1} (omega arith))
 
 -- the mended bits, seen from behind the call
-mended-bits : (c : tie.After-mend-bits) → let a = c.before.before.before.args in
+mended-bits : (c : tie.After-mend_bits) → let a = c.args in
     let s = a.whole % (a.nc + 1) in
-    (take (a.nc - 0) c.mend-bits.new.1.1.0 ≡ mended a.nc s a.bits.now)
+    (take (a.nc - 0) c.mend_bits.new.out ≡ mended a.nc s a.bits.now)
     × Row a.nc (mended a.nc s a.bits.now)
 mended-bits c =
     let s = c.before.before.before in
     let a = s.args in
-    front_mended a.nc (a.whole % (a.nc + 1)) a.bits.now c.mend-bits.new.1.1.0 _ s.requires.1
+    front_mended a.nc (a.whole % (a.nc + 1)) a.bits.now c.mend_bits.new.out _ s.requires.1
     s.requires.0.0
-    (sum_low s) c.mend-bits.ensures
+    (sum_low s) c.mend_bits.ensures
 
-add-mend-bits : tie.Need-overflow-add-mend-bits
+add-mend-bits : tie.Need-overflow_add-nc
 add-mend-bits c = search rules
 
-rem-mend-bits : tie.Need-nonzero-rem-mend-bits
+rem-mend-bits : tie.Need-nonzero_rem-whole
 rem-mend-bits c = search rules
 
-slice-aggregate-mend-bits : tie.Need-slice-aggregate-mend-bits
+slice-aggregate-mend-bits : tie.Need-slice_bounds-mend_bits-end
 slice-aggregate-mend-bits c = search rules
 
-mend-bits-requires : tie.Need-mend-bits-requires
+mend-bits-requires : tie.Need-mend_bits-requires
 mend-bits-requires c κs =
-    let s = c.before.before in
-    ((s.requires.1, omega (arith, s.requires.0)), (omega (arith, s.requires.0, sum_low s), omega (arith, s.requires.0)))
+    ((c.requires.1, omega (arith, c.requires.0)), (omega (arith, c.requires.0, sum_low c.before.before), omega (arith, c.requires.0)))
 
-sub-number-at : tie.Need-overflow-sub-number-at
+sub-number-at : tie.Need-slice_bounds-number_at-count
 sub-number-at c = search rules
 
-part-number-at-start : tie.Need-slice-bounds-number-at-start
+part-number-at-start : tie.Need-slice_bounds-number_at-start
 part-number-at-start c = search rules
 
-part-number-at-end : tie.Need-slice-bounds-number-at-end
+part-number-at-end : tie.Need-slice_bounds-number_at-end
 part-number-at-end c = search rules
 
-number-at-requires : tie.Need-number-at-requires
+number-at-requires : tie.Need-number_at-requires
 number-at-requires c κs =
-    let m = c.before.before.before in
-    let s = m.before.before.before in
-    let e = mended-bits m in
-    (rw e.0 e.1.1, (s.requires.0.1, rw e.0 (omega (arith, e.1.0))))
+    let e = mended-bits c.before.before in
+    (rw e.0 e.1.1, (c.requires.0.1, rw e.0 (omega (arith, e.1.0))))
 
 returns : tie.Need-returns
 returns c x a comes t =
-    let m = c.before.before.before.before in
-    let s = m.before.before.before in
-    let again = made_again s.args.nc s.args.whole x s.args.bits.now a comes s.requires.0.0 t in
-    (refl, c.number_at.ensures ∙ ap (number s.args.nc) ((mended-bits m).0 ∙ again))
+    let again = made_again c.args.nc c.args.whole x c.args.bits.now a comes c.requires.0.0 t in
+    (refl, c.number_at.ensures ∙ ap (number c.args.nc) ((mended-bits c.before.before.before).0 ∙ again))
 
-pub put-back-spec : {M : Type 1} → statement M
-put-back-spec =
+pub put_back_spec : {M : Type 1} → statement M
+put_back_spec =
     tie.close
     (tie.spec
     add-mend-bits

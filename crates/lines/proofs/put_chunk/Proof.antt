@@ -13,64 +13,62 @@ use Rattle.bits.proofs.Laws.{digits-at, length_digits}
 use Rattle.lines.proofs.put_chunk.Statement.{statement}
 use Rattle.lines.proofs.put_chunk.Tie as tie
 
-abbrev invariant-loop : tie.invariant-loop
+abbrev invariant-loop : tie.invariant-loop-i
 invariant-loop nc v out₀ at i₀ out i = (i ≤ nc) × ((length out ≡ length out₀) × (out ≡ paste out₀ at (digits nc v) i))
 
-abbrev decreases-loop : tie.decreases-loop
+abbrev decreases-loop : tie.decreases-loop-i
 decreases-loop nc v out₀ at i₀ out i = nc - i
 
 -- where the function starts, seen from the loop
-abbrev start : tie.At-loop invariant-loop decreases-loop → tie.Start invariant-loop decreases-loop
+abbrev start : tie.At-loop-i invariant-loop decreases-loop → tie.Start invariant-loop decreases-loop
 start c = c.before.before.before
 
-unpack-byte-requires : tie.Need-unpack-byte-requires invariant-loop decreases-loop
+unpack-byte-requires : tie.Need-unpack_byte-requires invariant-loop decreases-loop
 unpack-byte-requires c κs = search rules
 
-same_length : tie.Need-same-length invariant-loop decreases-loop
+same_length : tie.Need-shape_of-out-then-nc-eq8 invariant-loop decreases-loop
 same_length c = search rules
 
-returns : tie.Need-returns invariant-loop decreases-loop
+returns : tie.Need-returns-then-nc-eq8 invariant-loop decreases-loop
 returns c =
-    let b = c.before.before in
-    let t = b.before.before in
-    let a = t.before.before.args in
-    let e : 8 ≡ a.nc = sym t.if1.true in
-    b.unpack-byte.ensures
+    let a = c.args in
+    let e : 8 ≡ a.nc = sym c.if-nc-eq8.true in
+    c.unpack_byte.ensures
     ∙ ap (λ (n : ℕ). take a.at a.out.now ++ digits n a.v ++ drop (a.at + n) a.out.now) e
 
-loop-holds : tie.Need-loop-init invariant-loop decreases-loop
+loop-holds : tie.Need-loop-i-init invariant-loop decreases-loop
 loop-holds c =
-    let a = c.before.before.args in
+    let a = c.args in
     (search rules, (search rules, paste-zero a.out.now a.at (digits a.nc a.v)))
 
-sub-shift : tie.Need-overflow-sub-shift invariant-loop decreases-loop
+sub-shift : tie.Need-overflow_sub-shift invariant-loop decreases-loop
 sub-shift c = search rules
 
-sub-shift-2 : tie.Need-overflow-sub-shift-2 invariant-loop decreases-loop
+sub-shift-2 : tie.Need-overflow_sub-shift-in-loop-i invariant-loop decreases-loop
 sub-shift-2 c = search rules
 
-cast-out : tie.Need-overflow-cast-out invariant-loop decreases-loop
+cast-out : tie.Need-overflow_cast-out invariant-loop decreases-loop
 cast-out c = search rules
 
-shr-out : tie.Need-overflow-shr-out invariant-loop decreases-loop
+shr-out : tie.Need-overflow_shr-out invariant-loop decreases-loop
 shr-out c = search rules
 
-add-out : tie.Need-overflow-add-out invariant-loop decreases-loop
+add-out : tie.Need-overflow_add-out invariant-loop decreases-loop
 add-out c = search rules
 
-slice-write-out : tie.Need-slice-write-out invariant-loop decreases-loop
+slice-write-out : tie.Need-bounds-out-at invariant-loop decreases-loop
 slice-write-out c = search rules
 
-add-i : tie.Need-overflow-add-i invariant-loop decreases-loop
+add-i : tie.Need-overflow_add-i invariant-loop decreases-loop
 add-i c = search rules
 
-loop-less : tie.Need-loop-smaller invariant-loop decreases-loop
+loop-less : tie.Need-loop-i-smaller invariant-loop decreases-loop
 loop-less c = search rules
 
-loop-again : tie.Need-loop-preserved invariant-loop decreases-loop
+loop-again : tie.Need-loop-i-preserved invariant-loop decreases-loop
 loop-again c =
     let a = (start c.before).args in
-    let p = c.before.loop in
+    let p = c.loop-i in
     let k : ℕ = a.nc in
     let shift : k - 1 - p.i ≡ k - (p.i + 1) = omega arith in
     let bit : a.v / 2 ^ (k - 1 - p.i) % 2 ≡ get_or (digits k a.v) p.i 0 =
@@ -84,21 +82,21 @@ loop-again c =
       ),
     )
 
-same-length-2 : tie.Need-same-length-2 invariant-loop decreases-loop
+same-length-2 : tie.Need-shape_of-out invariant-loop decreases-loop
 same-length-2 c = search rules
 
-returns-2 : tie.Need-returns-2 invariant-loop decreases-loop
+returns-2 : tie.Need-returns invariant-loop decreases-loop
 returns-2 c =
     let a = (start c.before).args in
-    let p = c.before.loop in
+    let p = c.loop-i in
     let e : p.i ≡ a.nc = omega arith in
     let d = digits a.nc a.v in
     let whole : take p.i d ≡ d = take_all p.i d (omega (arith, length_digits a.nc a.v)) in
     p.invariant.1.1
     ∙ ap₂ (λ (u : List ℕ) (n : ℕ). take a.at a.out.now ++ u ++ drop (a.at + n) a.out.now) whole e
 
-pub put-chunk-spec : {M : Type 1} → statement M
-put-chunk-spec =
+pub put_chunk_spec : {M : Type 1} → statement M
+put_chunk_spec =
     tie.close
     (tie.spec
     invariant-loop
