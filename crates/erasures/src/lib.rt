@@ -1,5 +1,7 @@
 // Erased chunks, whose places are known and whose contents are not, found from as many checks. The contracts cite
 // specs/Erasures.antt.
+#![tactic(auto)]
+
 ghost use Rattle.std.specs.Prelude.{◌≡◌, ℕ, suc, ◌+◌, ◌-◌, ◌*◌, ◌^◌, ◌<◌, ◌≤◌, length, get_or};
 ghost use Rattle.std.specs.Int.Bits.{bit_xor};
 ghost use Rattle.field.specs.Field.{Element, Elements, power, times};

@@ -43,78 +43,73 @@ solve-claims t = (
   settle-reads.Learnt,
 )
 
-solve-returns : (t : ℕ) → solve-lts.Need-returns (solve-claims t) (solve-at t) solve.Post
+solve-returns : (t : ℕ) → solve-lts.Need-returns-then-u-n (solve-claims t) (solve-at t) solve.Post
 unfolding power
 solve-returns t c =
-    let b = c.before.before in
-    let p = b.requires.1 in
+    let p = c.requires.1 in
     let z : List ℕ = 0 ∷ 0 ∷ 0 ∷ 0 ∷ 0 ∷ 0 ∷ 0 ∷ 0 ∷ 0 ∷ 0 ∷ 0 ∷ 0 ∷ [] in (
-      λ k. omega (arith, bit_at z (omega arith) k, power_element b.args.nc p.0.1 p.0.2 0),
-      λ e he h w l m. absurd (omega (arith, c.if1.true)),
+      λ k. omega (arith, bit_at z (omega arith) k, power_element c.args.nc p.0.1 p.0.2 0),
+      λ e he h w l m. absurd (omega (arith, c.if-u-n.true)),
     )
 
-solve-array-read-wide : (t : ℕ) → solve-lts.Need-array-read-wide (solve-claims t) (solve-at t) solve.Post
+solve-array-read-wide : (t : ℕ) → solve-lts.Need-bounds-cs-u (solve-claims t) (solve-at t) solve.Post
 solve-array-read-wide t c = search rules
 
 solve-wide-requires : (t : ℕ) → solve-lts.Need-wide-requires (solve-claims t) (solve-at t) solve.Post
 solve-wide-requires t c κs = search rules
 
-solve-sub-take-out : (t : ℕ) → solve-lts.Need-overflow-sub-take-out (solve-claims t) (solve-at t) solve.Post
+solve-sub-take-out : (t : ℕ) → solve-lts.Need-overflow_sub-n (solve-claims t) (solve-at t) solve.Post
 solve-sub-take-out t c = search rules
 
-solve-take-out-requires : (t : ℕ) → solve-lts.Need-take-out-requires (solve-claims t) (solve-at t) solve.Post
+solve-take-out-requires : (t : ℕ) → solve-lts.Need-take_out-left-requires (solve-claims t) (solve-at t) solve.Post
 solve-take-out-requires t c κs =
-    let b = c.before.before.before in
-    let p = b.requires.1 in
-    let a = b.args in
-    let less : a.u < a.n = omega (arith, p.1.0, c.before.if1.false) in
+    let p = c.requires.1 in
+    let a = c.args in
+    let less : a.u < a.n = omega (arith, p.1.0, c.if-u-n.false) in
     let low : c.wide.result + 1 < 2 ^ a.nc = rw c.wide.ensures (p.1.2.low a.u less) in
     (p.0, (low, omega arith, p.1.3))
 
-solve-add-solve : (t : ℕ) → solve-lts.Need-overflow-add-solve (solve-claims t) (solve-at t) solve.Post
+solve-add-solve : (t : ℕ) → solve-lts.Need-overflow_add-u (solve-claims t) (solve-at t) solve.Post
 solve-add-solve t c = search rules
 
-solve-solve-requires : (t : ℕ) → solve-lts.Need-solve-requires (solve-claims t) (solve-at t) solve.Post
+solve-solve-requires : (t : ℕ) → solve-lts.Need-solve-rest-requires (solve-claims t) (solve-at t) solve.Post
 solve-solve-requires t c κs =
-    let b = c.before.before.before.before in
-    let p = b.requires.1 in
-    let a = b.args in
-    let less : a.u < a.n = omega (arith, p.1.0, c.before.before.if1.false) in
-    (omega (arith, b.requires.0), (p.0, (omega arith, p.1.1, p.1.2, c.take_out.ensures.0)))
+    let p = c.requires.1 in
+    let a = c.args in
+    let less : a.u < a.n = omega (arith, p.1.0, c.if-u-n.false) in
+    (omega (arith, c.requires.0), (p.0, (omega arith, p.1.1, p.1.2, c.take_out-left.ensures.0)))
 
-solve-array-read-settle : (t : ℕ) → solve-lts.Need-array-read-settle (solve-claims t) (solve-at t) solve.Post
+solve-array-read-settle : (t : ℕ) → solve-lts.Need-bounds-s-0 (solve-claims t) (solve-at t) solve.Post
 solve-array-read-settle t c = search rules
 
 solve-settle-requires : (t : ℕ) → solve-lts.Need-settle-requires (solve-claims t) (solve-at t) solve.Post
 solve-settle-requires t c κs =
-    let b = c.before.before.before.before.before in
-    let p = b.requires.1 in
-    let a = b.args in
-    let less : a.u < a.n = omega (arith, p.1.0, c.before.before.before.if1.false) in
-    (p.0, (less, p.1.1, p.1.2, p.1.3 0, c.solve.ensures.0))
+    let p = c.requires.1 in
+    let a = c.args in
+    let less : a.u < a.n = omega (arith, p.1.0, c.if-u-n.false) in
+    (p.0, (less, p.1.1, p.1.2, p.1.3 0, c.solve-rest.ensures.0))
 
-solve-returns-2 : (t : ℕ) → solve-lts.Need-returns-2 (solve-claims t) (solve-at t) solve.Post
+solve-returns-2 : (t : ℕ) → solve-lts.Need-returns (solve-claims t) (solve-at t) solve.Post
 solve-returns-2 t c =
-    let b = c.before.before.before.before.before.before in
-    let p = b.requires.1 in
-    let a = b.args in
-    let less : a.u < a.n = omega (arith, p.1.0, c.before.before.before.before.if1.false) in
+    let p = c.requires.1 in
+    let a = c.args in
+    let less : a.u < a.n = omega (arith, p.1.0, c.if-u-n.false) in
     let lo = p.0.1 in
     let hi = p.0.2 in
-    let place : ℕ → ℕ = λ v. get_or a.t4 v 0 in
-    let left = c.before.before.take_out in
-    let is = c.before.before.before.wide.ensures in (
+    let place : ℕ → ℕ = λ v. get_or a.cs v 0 in
+    let left = c.take_out-left in
+    let is = c.wide.ensures in (
       c.settle.ensures.0,
       λ e he h. c.settle.ensures.1 e he
-          (λ w l m. c.before.solve.ensures.1 (scaled a.nc place e a.u)
+          (λ w l m. c.solve-rest.ensures.1 (scaled a.nc place e a.u)
           (scaled_contents a.nc lo hi place e he a.u)
-          (brings-next a.nc lo hi place e he a.t7 left.result a.n a.u less h
+          (brings-next a.nc lo hi place e he a.s left.result a.n a.u less h
           (λ i l. rw is at (left.ensures.1 i l))) w (omega arith) m)
           (h 0 (omega arith)),
     )
 
-pub +solve-spec : {M : Type 1} → statement M
-+solve-spec = close μ-solve λ t. solve-lts.spec (solve-claims t)
+pub +solve_spec : {M : Type 1} → statement M
++solve_spec = close μ-solve λ t. solve-lts.spec (solve-claims t)
     (solve-at t)
     solve.Post
     (solve-returns t)
