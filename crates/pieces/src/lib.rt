@@ -1,5 +1,7 @@
 // One block of a loss pattern: in which order its counts are tried, and the block tried with a count; with none or one loss it is put
 // in the row in hand. Contracts cite specs/Pieces.antt; strings of bits are unpacked, one byte a bit.
+#![tactic(auto)]
+
 ghost use Rattle.std.specs.Prelude.{◌≡◌, true, ◌++◌, ◌+◌, ◌*◌, ◌<◌, ◌≤◌, length, get_or, take, drop};
 ghost use Rattle.bits.specs.Bits.{AllBits};
 ghost use Rattle.message.specs.Layout.{legal, block_bits};

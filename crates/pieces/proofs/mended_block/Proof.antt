@@ -28,67 +28,65 @@ low c =
     omega arith
 
 -- where the function starts, seen from the first test
-abbrev start : tie.After-struct-known → tie.Start
+abbrev start : tie.After-struct_known-1 → tie.Start
 start c = c.before.before.before.before.before
 
-mul-nb : tie.Need-overflow-mul-nb
+mul-nb : tie.Need-overflow_mul-nb
 mul-nb c = omega (arith, (high (start c)).block)
 
-sub-short : tie.Need-overflow-sub-short
+sub-short : tie.Need-overflow_sub-short
 sub-short c = omega (arith, low (start c))
 
-returns : tie.Need-returns
+returns : tie.Need-returns-then-rest-short
 returns c =
     let a = (start c.before).args in
     too_short a.l a.s a.i 1 a.rest.now a.row.now (omega arith)
 
-has-sum-requires : tie.Need-has-sum-requires
-has-sum-requires c κs = let s = start c.before in (s.pre.1.0, s.pre.1.1.0)
+has-sum-requires : tie.Need-has_sum-requires
+has-sum-requires c κs = let s = start c.before in (s.requires.1.0, s.requires.1.1.0)
 
-returns-2 : tie.Need-returns-2
+returns-2 : tie.Need-returns-then-has_sum
 returns-2 c =
-    let h = c.before in
-    let s = start h.before.before in
+    let s = start c.before.before.before in
     let a = s.args in
-    one_not a.l a.s a.i a.rest.now a.row.now s.pre.1.0 (sym h.has_sum.ensures ∙ c.if2.true)
+    one_not a.l a.s a.i a.rest.now a.row.now s.requires.1.0 (sym c.has_sum.ensures ∙ c.if-has_sum.true)
 
-sub-mend-bits : tie.Need-overflow-sub-mend-bits
+sub-mend-bits : tie.Need-slice_bounds-mend_bits-count
 sub-mend-bits c = search rules
 
-part-mend-bits-start : tie.Need-slice-bounds-mend-bits-start
+part-mend-bits-start : tie.Need-slice_bounds-mend_bits-start
 part-mend-bits-start c = search rules
 
-part-mend-bits-end : tie.Need-slice-bounds-mend-bits-end
+part-mend-bits-end : tie.Need-slice_bounds-mend_bits-end
 part-mend-bits-end c = search rules
 
-slice-aggregate-mend-bits : tie.Need-slice-aggregate-mend-bits
+slice-aggregate-mend-bits : tie.Need-slice_bounds-mend_bits-end-2
 slice-aggregate-mend-bits c = search rules
 
 -- the block that is mended
-mended : (c : tie.Else1) → let a = (start c.before).args in MendedNext (block_bits a.l) a.s a.rest.now
+mended : (c : tie.Else-rest-short) → let a = (start c.before).args in MendedNext (block_bits a.l) a.s a.rest.now
 mended c =
     let s = start c.before in
     let a = s.args in
-    mended-next (block_bits a.l) a.s a.rest.now (low s) (omega arith) s.pre.1.0 s.pre.1.1.1.0
+    mended-next (block_bits a.l) a.s a.rest.now (low s) (omega arith) s.requires.1.0 s.requires.1.1.1.0
 
-mend-bits-requires : tie.Need-mend-bits-requires
+mend-bits-requires : tie.Need-mend_bits-requires
 mend-bits-requires c κs =
-    let e = c.before.before.before.before in
-    let s = start e.before in
+    let s = start c.before.before.before.before.before in
     let a = s.args in
     let n = block_bits a.l in
     let y : n - 1 - 0 ≡ n - 1 = omega arith in
-    let k = (mended e).short in
+    let k = (mended c.before.before.before.before).short in
     let h = (high s).block in
-    rw y ((bits-take (n - 1) a.rest.now s.pre.1.0, omega arith), (omega arith, omega arith))
+    rw y ((bits-take (n - 1) a.rest.now s.requires.1.0, omega arith), (omega arith, omega arith))
 
 -- where the rest is long enough, seen from where `mend_bits` has answered
-abbrev enough : tie.After-mend-bits → tie.Else1
+abbrev enough : tie.After-mend_bits → tie.Else-rest-short
 enough c = c.before.before.before.before.before
 
 -- it stands at the start of the slice
-block : (c : tie.After-mend-bits) → let a = (start (enough c).before).args in
-    take (block_bits a.l - 0) c.mend-bits.new.1.1.0
+block : (c : tie.After-mend_bits) → let a = (start (enough c).before).args in
+    take (block_bits a.l - 0) c.mend_bits.new.out
     ≡ mendedBits (block_bits a.l) a.s (take (block_bits a.l - 1) a.rest.now)
 block c =
     let e = enough c in
@@ -97,43 +95,40 @@ block c =
     let n = block_bits a.l in
     let z : n - 0 ≡ n = omega arith in
     let y : n - 1 - 0 ≡ n - 1 = omega arith in
-    rw z (starts-mended n a.s a.rest.now (mended e) c.mend-bits.new.1.1.0 _
-    (rw y at c.mend-bits.ensures))
+    rw z (starts-mended n a.s a.rest.now (mended e) c.mend_bits.new.out _
+    (rw y at c.mend_bits.ensures))
 
-sub-put-block : tie.Need-overflow-sub-put-block
+sub-put-block : tie.Need-slice_bounds-put_block-count
 sub-put-block c = search rules
 
-part-put-block-start : tie.Need-slice-bounds-put-block-start
+part-put-block-start : tie.Need-slice_bounds-put_block-start
 part-put-block-start c = search rules
 
-part-put-block-end : tie.Need-slice-bounds-put-block-end
+part-put-block-end : tie.Need-slice_bounds-put_block-end
 part-put-block-end c =
-    let s = start (enough c.before.before).before in
+    let s = start (enough c.before).before in
     omega (arith, (high s).block)
 
-put-block-requires : tie.Need-put-block-requires
+put-block-requires : tie.Need-put_block-requires
 put-block-requires c κs =
-    let m = c.before.before.before.before in
-    let e = enough m in
+    let e = enough c.before.before.before in
     let s = start e.before in
-    (rw (block m) (mended e).bits, ((bounds s).nc_high, (rw (block m) (mended e).size, s.pre.1.1.1.1)))
+    (rw (block c.before.before.before) (mended e).bits, ((bounds s).nc_high, (rw (block c.before.before.before) (mended e).size, s.requires.1.1.1.1)))
 
-same_length : tie.Need-same-length
+same_length : tie.Need-shape_of-row
 same_length c = search rules
 
-returns-3 : tie.Need-returns-3
+returns-3 : tie.Need-returns
 returns-3 c =
-    let p = c.before.before in
-    let m = p.before.before.before.before.before in
-    let e = enough m in
+    let e = enough c.before.before.before.before.before.before in
     let s = start e.before in
     let a = s.args in
-    one-put a.l a.s a.i a.rest.now a.row.now p.put-block.new.1.1.1.0 (low s) (omega arith)
-    s.pre.1.1.1.1
-    (rw (block m) at p.put-block.ensures)
+    one-put a.l a.s a.i a.rest.now a.row.now c.put_block.new.row (low s) (omega arith)
+    s.requires.1.1.1.1
+    (rw (block c.before.before.before.before.before.before) at c.put_block.ensures)
 
-pub mended-block-spec : {M : Type 1} → statement M
-mended-block-spec =
+pub mended_block_spec : {M : Type 1} → statement M
+mended_block_spec =
     tie.close
     (tie.spec
     mul-nb
