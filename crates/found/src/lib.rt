@@ -1,5 +1,7 @@
 // What a search has found: the list slice as it grows. Contracts cite specs/Given.antt and specs/Sought.antt; strings of bits
 // are unpacked, one byte a bit.
+#![tactic(auto)]
+
 ghost use Rattle.std.specs.Prelude.{◌≡◌, ◌*◌, ◌≤◌, length};
 ghost use Rattle.rows.specs.Order.{Row};
 ghost use Rattle.message.specs.Layout.{row_bits};

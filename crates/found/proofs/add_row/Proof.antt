@@ -21,17 +21,17 @@ bounds s = legal_bounds s.args.l s.requires.0.is_legal
 size : (s : tie.Start) → Sizes s.args.l
 size s = sizes s.args.l (bounds s)
 
-mul-count : tie.Need-overflow-mul-count
+mul-count : tie.Need-overflow_mul-count
 mul-count c = omega (arith, (size c.before.before.before.before.before).chunks)
 
 -- where the function starts, seen from where the sizes of the row are known
-abbrev entry : tie.After-struct-known2 → tie.Start
+abbrev entry : tie.After-struct_known-2-1 → tie.Start
 entry c = c.before.before.before.before.before.before
 
-mul-n : tie.Need-overflow-mul-n
+mul-n : tie.Need-overflow_mul-n
 mul-n c = omega (arith, (size (entry c)).row)
 
-slice-aggregate-spread : tie.Need-slice-aggregate-spread
+slice-aggregate-spread : tie.Need-slice_bounds-spread-end
 slice-aggregate-spread c = search rules
 
 spread-requires : tie.Need-spread-requires
@@ -42,58 +42,56 @@ spread-requires c κs =
       nc_high = (bounds s).nc_high;
       short = (size s).row;
       stride-high = omega arith;
-      last = omega (arith, (size s).chunks, s.pre.1.0);
+      last = omega (arith, (size s).chunks, s.requires.1.0);
     }
     in
     (inside, omega (arith, (size s).row))
 
-sub-add-bits : tie.Need-overflow-sub-add-bits
+sub-add-bits : tie.Need-slice_bounds-add_bits-count
 sub-add-bits c = search rules
 
-part-add-bits-start : tie.Need-slice-bounds-add-bits-start
+part-add-bits-start : tie.Need-slice_bounds-add_bits-start
 part-add-bits-start c = search rules
 
 -- where the function starts, seen from where `spread` has answered
 abbrev begin : tie.After-spread → tie.Start
 begin c = entry c.before.before
 
-part-add-bits-end : tie.Need-slice-bounds-add-bits-end
+part-add-bits-end : tie.Need-slice_bounds-add_bits-end
 part-add-bits-end c =
-    omega (arith, (size (begin c.before.before)).row)
+    omega (arith, (size (begin c.before)).row)
 
 -- where the bits are added: the function's start, and the bits
-abbrev start : tie.After-add-bits-arg2 → tie.Start
-start c = begin c.before.before.before.before
+abbrev start : tie.After-add_bits-arg-2-1 → tie.Start
+start c = begin c.before.before.before
 
-abbrev bits : tie.After-add-bits-arg2 → List ℕ
-bits c = take (row_bits (start c).args.l - 0) c.before.before.before.before.spread.new.1.1.1.1.1.0
+abbrev bits : tie.After-add_bits-arg-2-1 → List ℕ
+bits c = take (row_bits (start c).args.l - 0) c.spread.new.out
 
 -- they are those of the chunks in hand
-bits_are : (c : tie.After-add-bits-arg2) → bits c ≡ hand_bits (start c).args.l (start c).args.row.now
+bits_are : (c : tie.After-add_bits-arg-2-1) → bits c ≡ hand_bits (start c).args.l (start c).args.row.now
 bits_are c =
     let a = (start c).args in
-    let k = c.before.before.before.before.spread in
-    front_part (hand_bits a.l a.row.now) (drop (0 + row_bits a.l) _) k.new.1.1.1.1.1.0 (row_bits a.l)
+    let k = c.spread in
+    front_part (hand_bits a.l a.row.now) (drop (0 + row_bits a.l) _) k.new.out (row_bits a.l)
     (hand-row a.l a.row.now).0 k.ensures
 
-add-bits-requires : tie.Need-add-bits-requires
+add-bits-requires : tie.Need-add_bits-requires
 add-bits-requires c κs =
     let s = start c in
     let row = subst (Row (row_bits s.args.l)) (sym (bits_are c)) (hand-row s.args.l s.args.row.now) in
-    (s.pre.0, (row, s.pre.1.1))
+    (s.requires.0, (row, s.requires.1.1))
 
-same_length : tie.Need-same-length
+same_length : tie.Need-shape_of-list
 same_length c = search rules
 
 returns : tie.Need-returns
 returns c =
-    let k = c.before.before in
-    let i = k.before in
-    let a = (start i).args in
-    grown_weaken (λ x sent h. hand-only a.l a.row.now x sent.0 h ∙ sym (bits_are i)) k.add-bits.ensures
+    let a = (start c.before.before.before).args in
+    grown_weaken (λ x sent h. hand-only a.l a.row.now x sent.0 h ∙ sym (bits_are c.before.before.before)) c.add_bits.ensures
 
-pub add-row-spec : {M : Type 1} → statement M
-add-row-spec =
+pub add_row_spec : {M : Type 1} → statement M
+add_row_spec =
     tie.close
     (tie.spec
     mul-count
