@@ -11,42 +11,44 @@ use Rattle.rowtext.proofs.Put.{put_then}
 use Rattle.rowtext.proofs.output.put_header.Statement.{statement}
 use Rattle.rowtext.proofs.output.put_header.Tie as tie
 
-copy-to-requires : tie.Need-copy-to-requires
+copy-to-requires : tie.Need-copy_to-requires
 copy-to-requires c κs = search rules
 
 -- where the function starts, seen from where `copy_to` has answered
-abbrev start : tie.After-copy-to → tie.Start
+abbrev start : tie.After-copy_to → tie.Start
 start c = c.before.before.before.before
 
 -- the word is put
-word : (c : tie.After-copy-to) → let a = (start c).args in
-    Put a.word.now 0 a.out.now c.copy-to.new.1.0 (length a.word.now)
+word : (c : tie.After-copy_to) → let a = (start c).args in
+    Put a.word.now 0 a.out.now c.copy_to.new.out (length a.word.now)
 word c =
     let a = (start c).args in
-    record { slice = c.copy-to.ensures; after = sym (zero-add (length a.word.now)) }
+    record { slice = c.copy_to.ensures; after = sym (zero-add (length a.word.now)) }
 
-put-decimal-requires : tie.Need-put-decimal-requires
+put-decimal-requires : tie.Need-put_decimal-next-requires
 put-decimal-requires c κs =
     let k = start c.before.before.before in
-    omega (arith, decimal-short 4 k.args.n k.pre.0, k.pre.1)
+    omega (arith, decimal-short 4 k.args.n k.requires.0, k.requires.1)
 
-put-char-requires : tie.Need-put-char-requires
+put-char-requires : tie.Need-put_char-requires
 put-char-requires c κs =
-    let p = c.before.before.before in
-    let k = start p.before.before.before.before in
-    omega (arith, decimal-short 4 k.args.n k.pre.0, k.pre.1, p.put-decimal.ensures.after)
+    let k = start c.before.before.before.before.before.before.before in
+    omega (arith, decimal-short 4 k.args.n k.requires.0, k.requires.1, c.put_decimal-next.ensures.after)
 
-same_length : tie.Need-same-length
+same_length : tie.Need-shape_of-out
 same_length c = search rules
 
 returns : tie.Need-returns
 returns c =
-    let q = c.before.before in
-    let p = q.before.before.before.before in
-    let number = put_then (word p.before.before.before.before) p.put-decimal.ensures (omega arith) in
-    put_then number q.put-char.ensures (omega arith)
+    let number = put_then (word c.before.before.before.before.before.before.before.before.before.before) c.put_decimal-next.ensures (omega arith) in
+    put_then number c.put_char.ensures (omega arith)
 
-pub put-header-spec : {M : Type 1} → statement M
-put-header-spec =
+pub put_header_spec : {M : Type 1} → statement M
+put_header_spec =
     tie.close
-    (tie.spec copy-to-requires put-decimal-requires put-char-requires same_length returns)
+    (tie.spec
+    copy-to-requires
+    put-decimal-requires
+    put-char-requires
+    same_length
+    returns)

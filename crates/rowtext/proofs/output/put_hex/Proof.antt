@@ -5,33 +5,31 @@ use Rattle.rowtext.proofs.Put.{put_then}
 use Rattle.rowtext.proofs.output.put_hex.Statement.{statement}
 use Rattle.rowtext.proofs.output.put_hex.Tie as tie
 
-hex-digit-requires : tie.Need-hex-digit-requires
+hex-digit-requires : tie.Need-hex_digit-requires
 hex-digit-requires c κs = search rules
 
-put-char-requires : tie.Need-put-char-requires
+put-char-requires : tie.Need-put_char-next-requires
 put-char-requires c κs = search rules
 
-hex-digit-requires-2 : tie.Need-hex-digit-requires-2
+hex-digit-requires-2 : tie.Need-hex_digit-requires-2
 hex-digit-requires-2 c κs = search rules
 
-put-char-requires-2 : tie.Need-put-char-requires-2
+put-char-requires-2 : tie.Need-put_char-requires
 put-char-requires-2 c κs = search rules
 
-same_length : tie.Need-same-length
+same_length : tie.Need-shape_of-out
 same_length c = search rules
 
 returns : tie.Need-returns
 returns c =
-    let p = c.before.before.put-char2 in
-    let d = c.before.before.before.before in
-    let q = d.before.before.before in
+    let p = c.put_char in
     rw (
-      q.before.before.hex-digit.ensures,
-      d.hex-digit2.ensures,
-    ) at (put_then q.put-char.ensures p.ensures (omega arith))
+      c.hex_digit.ensures,
+      c.hex_digit-2.ensures,
+    ) at (put_then c.put_char-next.ensures p.ensures (omega arith))
 
-pub put-hex-spec : {M : Type 1} → statement M
-put-hex-spec =
+pub put_hex_spec : {M : Type 1} → statement M
+put_hex_spec =
     tie.close
     (tie.spec
     hex-digit-requires
