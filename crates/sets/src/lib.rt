@@ -1,6 +1,8 @@
 // Sets of residues modulo any number up to 2,041, as the bits of words: a residue is in the set where its bit is one. A set
 // may stand twice, one copy behind the other, so that its residues stand in one piece wherever one starts to read. What is
 // proved of sets is what they hold at least. Contracts cite specs/Sets.antt.
+#![tactic(auto)]
+
 ghost use Rattle.std.specs.Prelude.{◌≡◌, true, ℕ, ◌+◌, ◌*◌, ◌/◌, ◌<◌, ◌≤◌, length};
 ghost use Rattle.sets.specs.Sets.{One, In, Grows, Twice, Moved, Long, Room};
 

@@ -6,31 +6,31 @@ use borrow.Author.Rules.{rules}
 use Rattle.sets.proofs.clear.Statement.{statement}
 use Rattle.sets.proofs.clear.Tie as tie
 
-abbrev invariant-loop : tie.invariant-loop
+abbrev invariant-loop : tie.invariant-loop-i
 invariant-loop set₀ n i₀ set i = (i ≤ n) × (length set ≡ length set₀)
 
-abbrev decreases-loop : tie.decreases-loop
+abbrev decreases-loop : tie.decreases-loop-i
 decreases-loop set₀ n i₀ set i = n - i
 
-loop-holds : tie.Need-loop-init invariant-loop decreases-loop
+loop-holds : tie.Need-loop-i-init invariant-loop decreases-loop
 loop-holds c = search rules
 
-mul-set : tie.Need-overflow-mul-set invariant-loop decreases-loop
+mul-set : tie.Need-offset_bounds-set-i invariant-loop decreases-loop
 mul-set c = search rules
 
-slice-write-set : tie.Need-slice-write-set invariant-loop decreases-loop
+slice-write-set : tie.Need-bounds-set-i invariant-loop decreases-loop
 slice-write-set c = search rules
 
-add-i : tie.Need-overflow-add-i invariant-loop decreases-loop
+add-i : tie.Need-overflow_add-i invariant-loop decreases-loop
 add-i c = search rules
 
-loop-less : tie.Need-loop-smaller invariant-loop decreases-loop
+loop-less : tie.Need-loop-i-smaller invariant-loop decreases-loop
 loop-less c = search rules
 
-loop-again : tie.Need-loop-preserved invariant-loop decreases-loop
+loop-again : tie.Need-loop-i-preserved invariant-loop decreases-loop
 loop-again c = search rules
 
-same_length : tie.Need-same-length invariant-loop decreases-loop
+same_length : tie.Need-shape_of-set invariant-loop decreases-loop
 same_length c = search rules
 
 returns : tie.Need-returns invariant-loop decreases-loop
