@@ -1,6 +1,8 @@
 // The contents of a chunk that lose just so many bits against the received row, listed bit by bit, so that most numbers are never
 // looked at; and those of them that the sum of a line allows, where the rest of the line is in hand. Contracts cite
 // specs/Contents.antt and specs/Asks.antt; strings are unpacked, one byte a bit.
+#![tactic(auto)]
+
 ghost use Rattle.std.specs.Prelude.{◌≡◌, ℕ, ◌+◌, ◌*◌, ◌^◌, ◌<◌, ◌≤◌, length, drop, set};
 ghost use Rattle.bits.specs.Bits.{digits};
 ghost use Rattle.vt.specs.Sum.{sum};

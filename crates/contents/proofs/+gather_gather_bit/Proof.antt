@@ -17,6 +17,7 @@ use Rattle.contents.proofs.+gather_gather_bit.Lts-gather as gather-lts
 use Rattle.contents.proofs.gather_bit.Reads as gather-bit
 use Rattle.contents.proofs.gather_bit.Kinds as gather-bit-kinds
 use Rattle.contents.proofs.+gather_gather_bit.Lts-gather_bit as gather-bit-lts
+use Rattle.contents.proofs.+gather_gather_bit.Lts-gather_bit.{else-p-y, then-p-y+else-y-p}
 use Rattle.contents.proofs.follow.Reads as follow-reads
 use Rattle.contents.proofs.+gather_gather_bit.{statement}
 use Rattle.contents.proofs.+gather_gather_bit.Tie.{close}
@@ -42,6 +43,7 @@ gather-bit-below t =
     and 2 gather-bit-kinds.ps (falls 2 gather-bit-kinds.ps ◌<◌ μ-gather-bit t) gather-bit.Pre
 
 -- what the two functions know of each other
+
 abbrev gather-claims : ℕ → gather-lts.Claims
 gather-claims t = (gather-bit-below t, gather-bit.Post, follow-reads.Asked, follow-reads.Learnt)
 
@@ -55,116 +57,113 @@ more left v n size b h g r =
     let m = more_byte left v b h g r.byte in
     (is_byte (left - 1) (2 * v + b) m, (m, omega (arith, r.entries, half left h)))
 
-gather-returns : (t : ℕ) → gather-lts.Need-returns (gather-claims t) (gather-at t) gather.Post
+gather-returns : (t : ℕ) → gather-lts.Need-returns-then-left-a (gather-claims t) (gather-at t) gather.Post
 gather-returns t c =
-    let a = c.before.before.before.args in
+    let a = c.args in
     gathered_none (2 ^ a.left) a.n _
-    (λ w e. ends-few a.left a.v a.a (drop a.p a.y.now) w c.if1.true e)
+    (λ w e. ends-few a.left a.v a.a (drop a.p a.y.now) w c.if-left-a.true e)
 
-gather-sub-rest : (t : ℕ) → gather-lts.Need-overflow-sub-rest (gather-claims t) (gather-at t) gather.Post
+gather-sub-rest : (t : ℕ) → gather-lts.Need-overflow_sub-rest (gather-claims t) (gather-at t) gather.Post
 gather-sub-rest t c = search rules
 
-gather-mul-gather-bit : (t : ℕ) → gather-lts.Need-overflow-mul-gather-bit (gather-claims t) (gather-at t) gather.Post
+gather-mul-gather-bit : (t : ℕ) → gather-lts.Need-overflow_mul-v (gather-claims t) (gather-at t) gather.Post
 gather-mul-gather-bit t c =
-    let s = c.before.before.before.before in
-    let a = s.args in
-    omega (arith, (more a.left a.v a.n (length a.out.now) 0 (omega arith) (omega arith) s.requires.1.0).0)
+    let a = c.args in
+    omega (arith, (more a.left a.v a.n (length a.out.now) 0 (omega arith) (omega arith) c.requires.1.0).0)
 
 -- where `gather` starts, seen from its first call of `gather_bit`
-abbrev gather-start : (t : ℕ) → gather-lts.After-gather-bit-arg (gather-claims t) (gather-at t) gather.Post
+abbrev gather-start : (t : ℕ) → gather-lts.After-gather_bit-arg-1 (gather-claims t) (gather-at t) gather.Post
     → gather-lts.Start (gather-claims t) (gather-at t) gather.Post
 gather-start t c = c.before.before.before.before.before
 
-gather-gather-bit-requires : (t : ℕ) → gather-lts.Need-gather-bit-requires (gather-claims t) (gather-at t) gather.Post
+gather-gather-bit-requires : (t : ℕ) → gather-lts.Need-gather_bit-next-requires (gather-claims t) (gather-at t) gather.Post
 gather-gather-bit-requires t c κs =
     let s = gather-start t c in
     let a = s.args in
-    let m = more a.left a.v a.n (length a.out.now) 0 (omega arith) (omega arith) s.pre.1.0 in
-    (omega (arith, s.pre.0), (record { byte = omega (arith, m.1.0); entries = omega (arith, m.1.1) }, s.pre.1.1))
+    let m = more a.left a.v a.n (length a.out.now) 0 (omega arith) (omega arith) s.requires.1.0 in
+    (omega (arith, s.requires.0), (record { byte = omega (arith, m.1.0); entries = omega (arith, m.1.1) }, s.requires.1.1))
 
-gather-mul-gather-bit-2 : (t : ℕ) → gather-lts.Need-overflow-mul-gather-bit-2 (gather-claims t) (gather-at t) gather.Post
+gather-mul-gather-bit-2 : (t : ℕ) → gather-lts.Need-overflow_mul-v-then-a-gt0 (gather-claims t) (gather-at t) gather.Post
 gather-mul-gather-bit-2 t c =
     let s = gather-start t c.before.before.before in
     let a = s.args in
-    omega (arith, (more a.left a.v a.n (length a.out.now) 1 (omega arith) (omega arith) s.pre.1.0).0)
+    omega (arith, (more a.left a.v a.n (length a.out.now) 1 (omega arith) (omega arith) s.requires.1.0).0)
 
-gather-add-gather-bit : (t : ℕ) → gather-lts.Need-overflow-add-gather-bit (gather-claims t) (gather-at t) gather.Post
+gather-add-gather-bit : (t : ℕ) → gather-lts.Need-overflow_add-v (gather-claims t) (gather-at t) gather.Post
 gather-add-gather-bit t c =
     let s = gather-start t c.before.before.before in
     let a = s.args in
-    omega (arith, (more a.left a.v a.n (length a.out.now) 1 (omega arith) (omega arith) s.pre.1.0).0)
+    omega (arith, (more a.left a.v a.n (length a.out.now) 1 (omega arith) (omega arith) s.requires.1.0).0)
 
-gather-gather-bit-requires-2 : (t : ℕ) → gather-lts.Need-gather-bit-requires-2 (gather-claims t) (gather-at t) gather.Post
+gather-gather-bit-requires-2 : (t : ℕ) → gather-lts.Need-gather_bit-requires (gather-claims t) (gather-at t) gather.Post
 gather-gather-bit-requires-2 t c κs =
     let s = gather-start t c.before.before.before.before in
     let a = s.args in
-    let m = more a.left a.v a.n (length a.out.now) 1 (omega arith) (omega arith) s.pre.1.0 in
-    let few = c.before.before.before.gather-bit.ensures.few in
-    (omega (arith, s.pre.0), (record { byte = m.1.0; entries = omega (arith, m.1.1) }, s.pre.1.1))
+    let m = more a.left a.v a.n (length a.out.now) 1 (omega arith) (omega arith) s.requires.1.0 in
+    let few = c.gather_bit-next.ensures.few in
+    (omega (arith, s.requires.0), (record { byte = m.1.0; entries = omega (arith, m.1.1) }, s.requires.1.1))
 
-gather-same-length : (t : ℕ) → gather-lts.Need-same-length (gather-claims t) (gather-at t) gather.Post
+gather-same-length : (t : ℕ) → gather-lts.Need-shape_of-out-then-a-gt0 (gather-claims t) (gather-at t) gather.Post
 gather-same-length t c = search rules
 
-gather-returns-2 : (t : ℕ) → gather-lts.Need-returns-2 (gather-claims t) (gather-at t) gather.Post
+gather-returns-2 : (t : ℕ) → gather-lts.Need-returns-then-a-gt0 (gather-claims t) (gather-at t) gather.Post
 gather-returns-2 t c =
-    let o = c.before.before in
-    let f = o.before.before.before.before in
-    let s = gather-start t f.before in
+    let s = gather-start t c.before.before.before.before.before.before.before in
     let a = s.args in
     let some : 0 < a.left = omega arith in
     gathered_then (2 ^ a.left) (2 ^ (a.left - 1)) a.n _ _ a.out.now _ _ (omega (arith, half a.left some))
-    f.gather-bit.ensures o.gather-bit2.ensures
+    c.gather_bit-next.ensures c.gather_bit.ensures
     (λ w e. ends_more a.left a.v a.a (drop a.p a.y.now) w some e)
 
 gather-follow-requires : (t : ℕ) → gather-lts.Need-follow-requires (gather-claims t) (gather-at t) gather.Post
 gather-follow-requires t c κs = search rules
 
-gather-same-length-2 : (t : ℕ) → gather-lts.Need-same-length-2 (gather-claims t) (gather-at t) gather.Post
+gather-same-length-2 : (t : ℕ) → gather-lts.Need-shape_of-out (gather-claims t) (gather-at t) gather.Post
 gather-same-length-2 t c = search rules
 
 -- where no loss is left there is one content at most
-gather-returns-3 : (t : ℕ) → gather-lts.Need-returns-3 (gather-claims t) (gather-at t) gather.Post
+gather-returns-3 : (t : ℕ) → gather-lts.Need-returns (gather-claims t) (gather-at t) gather.Post
 gather-returns-3 t c =
-    let f = c.before.before in
-    let o = f.before.before in
-    let none : o.before.before.before.before.args.a ≡ 0 = omega (arith, o.if2.false) in
-    rw none f.follow.ensures
+    let none : c.args.a ≡ 0 = omega (arith, c.if-a-gt0.false) in
+    rw none c.follow.ensures
 
 -- the bit is not the next one received
-unmatched : (t : ℕ) (c : gather-bit-lts.Joined1 (gather-bit-claims t) (gather-bit-at t) gather-bit.Post) →
-    let a = c.before.before.before.args in a.p < length a.y.now → get_or a.y.now a.p 0 ≡ a.b → ⊥
-unmatched t c i e = ⊎_elim (λ w. w.2.left e) (λ w. absurd (omega (arith, w.left))) c.if1.branch
+unmatched : (t : ℕ) (c : gather-bit-lts.Joined-p-y (gather-bit-claims t) (gather-bit-at t) gather-bit.Post) →
+    let a = c.args in a.p < length a.y.now → get_or a.y.now a.p 0 ≡ a.b → ⊥
+unmatched t c i e = elim c.if-p-y.branch [
+  | then-p-y+else-y-p w ↦ w.if-y-p.false e
+  | else-p-y w ↦ absurd (omega (arith, w.if-p-y.false))
+]
 
 gather-bit-shared-slice-read-if2 : (t : ℕ)
-    → gather-bit-lts.Need-shared-slice-read-if2 (gather-bit-claims t) (gather-bit-at t) gather-bit.Post
+    → gather-bit-lts.Need-bounds-y-p (gather-bit-claims t) (gather-bit-at t) gather-bit.Post
 gather-bit-shared-slice-read-if2 t c = search rules
 
-gather-bit-add-gather : (t : ℕ) → gather-bit-lts.Need-overflow-add-gather (gather-bit-claims t) (gather-bit-at t) gather-bit.Post
+gather-bit-add-gather : (t : ℕ) → gather-bit-lts.Need-overflow_add-p (gather-bit-claims t) (gather-bit-at t) gather-bit.Post
 gather-bit-add-gather t c = search rules
 
 gather-bit-gather-requires : (t : ℕ)
     → gather-bit-lts.Need-gather-requires (gather-bit-claims t) (gather-bit-at t) gather-bit.Post
 gather-bit-gather-requires t c κs = search rules
 
-gather-bit-same-length : (t : ℕ) → gather-bit-lts.Need-same-length (gather-bit-claims t) (gather-bit-at t) gather-bit.Post
+gather-bit-same-length : (t : ℕ) → gather-bit-lts.Need-shape_of-out-then-y-p (gather-bit-claims t) (gather-bit-at t) gather-bit.Post
 gather-bit-same-length t c = search rules
 
-gather-bit-returns : (t : ℕ) → gather-bit-lts.Need-returns (gather-bit-claims t) (gather-bit-at t) gather-bit.Post
+gather-bit-returns : (t : ℕ) → gather-bit-lts.Need-returns-then-y-p (gather-bit-claims t) (gather-bit-at t) gather-bit.Post
 gather-bit-returns t c =
-    let n = c.before.before.before.before in
-    let a = n.before.before.before.before.before.args in
+    let a = c.args in
     gathered_weaken (2 ^ a.left) a.n _ a.out.now _
-    (λ w e. after-taken a.b a.left a.v a.a a.y.now a.p w n.before.before.if1.true
-    n.if2.true e)
-    c.before.before.gather.ensures
+    (λ w e. after-taken a.b a.left a.v a.a a.y.now a.p w c.if-p-y.true
+    c.if-y-p.true e)
+    c.gather.ensures
 
-gather-bit-returns-2 : (t : ℕ) → gather-bit-lts.Need-returns-2 (gather-bit-claims t) (gather-bit-at t) gather-bit.Post
+gather-bit-returns-2 : (t : ℕ) → gather-bit-lts.Need-returns-then-a-eq0 (gather-bit-claims t) (gather-bit-at t) gather-bit.Post
 gather-bit-returns-2 t c =
-    let a = c.before.before.before.before.args in
+    let a = c.args in
     gathered_none (2 ^ a.left) a.n _
     (λ w e. omega (arith, (after-lost a.b a.left a.v a.a a.y.now a.p w (unmatched t c.before) e).0))
 
-gather-bit-sub-gather : (t : ℕ) → gather-bit-lts.Need-overflow-sub-gather (gather-bit-claims t) (gather-bit-at t) gather-bit.Post
+gather-bit-sub-gather : (t : ℕ) → gather-bit-lts.Need-overflow_sub-a (gather-bit-claims t) (gather-bit-at t) gather-bit.Post
 gather-bit-sub-gather t c = search rules
 
 gather-bit-gather-requires-2 : (t : ℕ)
@@ -172,19 +171,18 @@ gather-bit-gather-requires-2 : (t : ℕ)
 gather-bit-gather-requires-2 t c κs = search rules
 
 gather-bit-same-length-2 : (t : ℕ)
-    → gather-bit-lts.Need-same-length-2 (gather-bit-claims t) (gather-bit-at t) gather-bit.Post
+    → gather-bit-lts.Need-shape_of-out (gather-bit-claims t) (gather-bit-at t) gather-bit.Post
 gather-bit-same-length-2 t c = search rules
 
-gather-bit-returns-3 : (t : ℕ) → gather-bit-lts.Need-returns-3 (gather-bit-claims t) (gather-bit-at t) gather-bit.Post
+gather-bit-returns-3 : (t : ℕ) → gather-bit-lts.Need-returns (gather-bit-claims t) (gather-bit-at t) gather-bit.Post
 gather-bit-returns-3 t c =
-    let j = c.before.before.before.before.before in
-    let a = j.before.before.before.args in
+    let a = c.args in
     gathered_weaken (2 ^ a.left) a.n _ a.out.now _
-    (λ w e. (after-lost a.b a.left a.v a.a a.y.now a.p w (unmatched t j) e).1)
-    c.before.before.gather2.ensures
+    (λ w e. (after-lost a.b a.left a.v a.a a.y.now a.p w (unmatched t c.before.before.before.before.before) e).1)
+    c.gather-2.ensures
 
-pub +gather-gather-bit-spec : {M : Type 1} → statement M
-+gather-gather-bit-spec = close μ-gather μ-gather-bit (λ t. gather-lts.spec (gather-claims t)
+pub +gather_gather_bit_spec : {M : Type 1} → statement M
++gather_gather_bit_spec = close μ-gather μ-gather-bit (λ t. gather-lts.spec (gather-claims t)
     (gather-at t)
     gather.Post
     (gather-returns t)

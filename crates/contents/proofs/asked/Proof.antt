@@ -28,63 +28,62 @@ stands c =
       (field_room a.count a.nc a.t h, i.short),
     )
 
-mul_at : tie.Need-overflow-mul-at
+mul_at : tie.Need-overflow_mul-at
 mul_at c = omega (arith, stands c.before)
 
-add_at : tie.Need-overflow-add-at
+add_at : tie.Need-overflow_add-at
 add_at c = omega (arith, stands c.before)
 
-mul-first : tie.Need-overflow-mul-first
+mul-first : tie.Need-overflow_mul-first
 mul-first c = omega (arith, stands c.before)
 
-add-first : tie.Need-overflow-add-first
+add-first : tie.Need-overflow_add-first
 add-first c = omega (arith, stands c.before)
 
-mul-modulus : tie.Need-overflow-mul-modulus
+mul-modulus : tie.Need-overflow_mul-modulus
 mul-modulus c = search rules
 
-add-modulus : tie.Need-overflow-add-modulus
+add-modulus : tie.Need-overflow_add-modulus
 add-modulus c = search rules
 
-weights-requires : tie.Need-weights-requires
+weights-requires : tie.Need-weights-table-requires
 weights-requires c κs = search rules
 
-shared-slice-read-chunk-total : tie.Need-shared-slice-read-chunk-total
+shared-slice-read-chunk-total : tie.Need-bounds-row-at
 shared-slice-read-chunk-total c = (stands c.before.before.before.before).0
 
-chunk-total-requires : tie.Need-chunk-total-requires
+chunk-total-requires : tie.Need-chunk_total-own-requires
 chunk-total-requires c κs =
-    let s = c.before.before.before.before in
-    ((c.before.before.weights.ensures, s.requires.0.nc_high), (omega arith, omega (arith, stands s)))
+    ((c.weights-table.ensures, c.requires.0.nc_high), (omega arith, omega (arith, stands c.before.before.before.before)))
 
-line-total-requires : tie.Need-line-total-requires
+line-total-requires : tie.Need-line_total-whole-requires
 line-total-requires c κs = search rules
 
 -- where the function starts, seen from where `chunk_total` has answered
-abbrev entry : tie.After-chunk-total → tie.Start
+abbrev entry : tie.After-chunk_total-own → tie.Start
 entry c = c.before.before.before.before.before
 
 -- where the function starts, seen from where `line_total` has answered
-abbrev start : tie.After-line-total → tie.Start
+abbrev start : tie.After-line_total-whole → tie.Start
 start c = entry c.before.before
 
 -- what the chunk leaves of the total of the line
-rest : (c : tie.After-line-total) →
+rest : (c : tie.After-line_total-whole) →
     let a = (start c).args in
-    (c.before.before.chunk-total.result ≤ c.line-total.result)
-    × ((c.line-total.result - c.before.before.chunk-total.result) % (a.count * a.nc + 1)
+    (c.chunk_total-own.result ≤ c.line_total-whole.result)
+    × ((c.line_total-whole.result - c.chunk_total-own.result) % (a.count * a.nc + 1)
     ≡ sum (line a.nc a.start a.stride a.count (set a.row.now (a.start + a.t * a.stride) 0)))
 rest c =
     let s = start c in
     let a = s.args in
-    sum-rest a.nc a.start a.stride a.count a.t s.pre.1.1 a.row.now s.pre.1.0
-    (stands s).0 c.line-total.result c.before.before.chunk-total.result
-    c.line-total.ensures c.before.before.chunk-total.ensures.0
+    sum-rest a.nc a.start a.stride a.count a.t s.requires.1.1 a.row.now s.requires.1.0
+    (stands s).0 c.line_total-whole.result c.chunk_total-own.result
+    c.line_total-whole.ensures c.chunk_total-own.ensures.0
 
-sub-t14 : tie.Need-overflow-sub-t14
+sub-t14 : tie.Need-overflow_sub-result
 sub-t14 c = (rest c).0
 
-rem-t20 : tie.Need-nonzero-rem-t20
+rem-t20 : tie.Need-nonzero_rem-result
 rem-t20 c = search rules
 
 returns : tie.Need-returns
@@ -103,12 +102,12 @@ returns c =
         first = omega (arith, h.1);
         modulus = omega arith;
       },
-      λ v k. rw e (sum-set a.nc a.start a.stride a.count a.t s.pre.1.1 a.row.now s.pre.1.0
+      λ v k. rw e (sum-set a.nc a.start a.stride a.count a.t s.requires.1.1 a.row.now s.requires.1.0
           h.0 v ∙ k),
     )
 
-pub asked-spec : {M : Type 1} → statement M
-asked-spec =
+pub asked_spec : {M : Type 1} → statement M
+asked_spec =
     tie.close
     (tie.spec
     mul_at

@@ -18,25 +18,26 @@ wide-requires c κs = search rules
 
 gather-requires : tie.Need-gather-requires
 gather-requires c κs =
-    let s = c.before.before.before.before in
-    let h = few s in
-    (record { byte = omega (arith, one-mul (2 ^ s.args.nc)); entries = omega (arith, s.requires.1.1) }, s.requires.1.0)
+    let h = few c.before.before.before.before in
+    (record { byte = omega (arith, one-mul (2 ^ c.args.nc)); entries = omega (arith, c.requires.1.1) }, c.requires.1.0)
 
-same_length : tie.Need-same-length
+same_length : tie.Need-shape_of-out
 same_length c = search rules
 
 returns : tie.Need-returns
 returns c =
-    let o = c.before.before in
-    let s = o.before.before.before.before.before in
-    let g = o.gather.ensures in
-    let a = o.before.before.wide.ensures in
+    let g = c.gather.ensures in
+    let a = c.wide.ensures in
     record {
       from = g.from;
-      few = omega (arith, g.few, few s);
+      few = omega (arith, g.few, few c.before.before.before.before.before.before.before);
       kept = g.kept;
       all = λ w h. g.all w (div-eq_of_lt h.0, h.1 ∙ sym a);
     }
 
-pub list-behind-spec : {M : Type 1} → statement M
-list-behind-spec = tie.close (tie.spec wide-requires gather-requires same_length returns)
+pub list_behind_spec : {M : Type 1} → statement M
+list_behind_spec = tie.close (tie.spec
+    wide-requires
+    gather-requires
+    same_length
+    returns)
