@@ -1,6 +1,7 @@
 // Strings of bits: packed into bytes, unpacked to one byte a bit, read field by field through a bit cursor, and put into bytes
 // field by field through a filler, both passed by value. Contracts cite specs/Bits.antt and specs/Filling.antt.
 #![tactic(auto)]
+
 ghost use Rattle.std.specs.Prelude.{◌≡◌, ◌++◌, ◌+◌, ◌-◌, ◌*◌, ◌/◌, ◌%◌, ◌^◌, ◌<◌, ◌≤◌, min, length, take, drop, get_or};
 ghost use Rattle.bits.specs.Filling.{filled, Ready, Goes};
 ghost use Rattle.bits.specs.Bits.{AllBits, longest, number, digits, bytes, bytes_for, pack as packed, unpack as unpacked, fits as fit};

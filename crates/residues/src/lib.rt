@@ -1,6 +1,7 @@
 // Sets of residues modulo a small number, each a word: a residue is in the set where its bit is one. Contracts cite
 // specs/Residues.antt.
 #![tactic(auto)]
+
 ghost use Rattle.std.specs.Prelude.{◌≡◌, true, ℕ, ◌+◌, ◌%◌, ◌<◌, ◌≤◌};
 ghost use Rattle.residues.specs.Residues.{Has};
 

@@ -1,6 +1,7 @@
 // Rows: all strings of n bits in dictionary order, those that pass a test, which strings come from which by deletion, and the
 // bounded ordered list of packed rows in a slice. Contracts cite specs/Order.antt, specs/Held.antt and specs/Slice.antt.
 #![tactic(auto)]
+
 ghost use Rattle.std.specs.Prelude.{◌≡◌, [], ◌∷◌, ◌++◌, ◌+◌, ◌*◌, ◌-◌, ◌≤◌, length, take, drop};
 ghost use Rattle.rows.specs.Order.{order, by_order, Ascending};
 ghost use Rattle.rows.specs.Held.{add};

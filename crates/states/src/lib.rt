@@ -1,5 +1,6 @@
 // Loss states: how many losses each of a few blocks has left, as one number of mixed radix. Contracts cite specs/States.antt.
 #![tactic(auto)]
+
 ghost use Rattle.std.specs.Prelude.{◌≡◌, ◌⊎◌, ℕ, ◌+◌, ◌*◌, ◌<◌, ◌≤◌, length, get_or};
 ghost use Rattle.states.specs.States.{stride, state, each, Shaped, state_of};
 ghost use Rattle.states.specs.States.{Valued, added_up, Raised, WithBlock};

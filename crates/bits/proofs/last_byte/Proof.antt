@@ -67,10 +67,11 @@ loop-again c =
       ),
     ) in
     elim c.if-j-bits.branch [
-      then-j-bits w ↦ next c.if-j-bits.v w.v-is
-    | else-j-bits w ↦
-    let z : get_or x (a.at + p.j) 0 ≡ 0 = get_or-eq_default x 0 (omega (arith, w.if-j-bits.false)) in
-    next c.if-j-bits.v (omega (arith, w.v-is)) ]
+      | then-j-bits w ↦ next c.if-j-bits.v w.v-is
+      | else-j-bits w ↦
+          let z : get_or x (a.at + p.j) 0 ≡ 0 = get_or-eq_default x 0 (omega (arith, w.if-j-bits.false)) in
+          next c.if-j-bits.v (omega (arith, w.v-is))
+    ]
 
 returns : tie.Need-returns invariant-loop decreases-loop
 returns c =

@@ -1,4 +1,3 @@
-
 -- `rows::compare` meets its contract. The loop's invariant: the bytes not yet compared are in the order of the whole
 -- rows. Assumes nothing.
 use borrow.Author.Rules.{rules}

@@ -1,4 +1,3 @@
-
 -- `rows::insert` meets its contract. Each way out is one law of Written.antt: the row is held already, there is room,
 -- the last row is pushed out, or the row comes after the last of a full list. Assumes nothing.
 use borrow.Author.Rules.{rules}
@@ -17,6 +16,7 @@ use Rattle.rows.proofs.insert.Lts.{else-at-count, then-at-count+else-compare-eq1
 -- where the function begins, seen from the place where x's place is found
 abbrev start : tie.After-place-at → tie.Start
 start c = c.before.before.before
+
 -- x's place is at most the count
 low : (c : tie.After-place-at) → c.place-at.result ≤ (start c).args.kept.count
 low c =
@@ -42,15 +42,14 @@ row_in c i h =
     omega (arith, row_fits i a.cap (length a.x.now) h, (start c).requires.1.0)
 
 place-requires : tie.Need-place-at-requires
-place-requires c κs =
-    (
-      omega (
-        arith,
-        rows_le c.args.kept.count c.args.cap (length c.args.x.now) c.requires.1.1.0,
-        c.requires.1.0,
-      ),
-      c.requires.1.1.1,
-    )
+place-requires c κs = (
+  omega (
+    arith,
+    rows_le c.args.kept.count c.args.cap (length c.args.x.now) c.requires.1.1.0,
+    c.requires.1.0,
+  ),
+  c.requires.1.1.1,
+)
 
 mul-compare : tie.Need-overflow_mul-at
 mul-compare c = place-fits c.before
@@ -67,10 +66,11 @@ absent c =
     let a = (start c.before).args in
     let p : ℕ = c.place-at.result in
     elim c.if-at-count.branch [
-      then-at-count+else-compare-eq1 k ↦
-        absent_other a.list.now a.kept.count a.x.now p k.compare.result k.if-at-count.true k.compare.ensures
-        (λ e. omega (arith, k.if-compare-eq1.false))
-    | else-at-count k ↦ absent_end a.list.now a.kept.count a.x.now p k.if-at-count.false ]
+      | then-at-count+else-compare-eq1 k ↦
+          absent_other a.list.now a.kept.count a.x.now p k.compare.result k.if-at-count.true k.compare.ensures
+          (λ e. omega (arith, k.if-compare-eq1.false))
+      | else-at-count k ↦ absent_end a.list.now a.kept.count a.x.now p k.if-at-count.false
+    ]
 
 same_length : tie.Need-shape_of-list-then-compare-eq1
 same_length c = search rules

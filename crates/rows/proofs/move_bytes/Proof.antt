@@ -1,4 +1,3 @@
-
 -- `rows::move_bytes` meets its contract. The loop's invariant: the bytes from `i` on are moved. Assumes nothing.
 use borrow.Author.Rules.{rules}
 use Prim.Native.Nat.{ℕ, ◌+◌, ◌-◌, ◌≤◌}

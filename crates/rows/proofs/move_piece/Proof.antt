@@ -1,4 +1,3 @@
-
 -- `rows::move_piece` meets its contract. Assumes nothing.
 use borrow.Author.Rules.{rules}
 use Prim.Native.Nat.{ℕ, ◌+◌, ◌-◌, ◌≤◌}
@@ -40,6 +39,7 @@ copy-to-requires-2 c κs = search rules
 -- where the function starts, seen from where `copy_to` has answered
 abbrev entry : tie.After-copy_to → tie.Start
 entry c = c.before.before.before.before
+
 -- the bytes held are those of the piece
 held-is : (c : tie.After-copy_to) → let a = (entry c).args in
     c.copy_to.new.out ≡ take 64 (drop a.from a.list.now)

@@ -1,4 +1,3 @@
-
 -- `rows::move_up` meets its contract. The loop's invariant: the bytes from `i` on are moved. Assumes nothing.
 use borrow.Author.Rules.{rules}
 use Prim.Native.Nat.{ℕ, ◌+◌, ◌-◌, ◌≤◌}
@@ -66,6 +65,7 @@ loop-again c =
 -- where the function starts, seen from where `move_bytes` has answered
 abbrev entry : tie.After-move_bytes invariant-loop decreases-loop → tie.Start invariant-loop decreases-loop
 entry c = c.before.before.before.before.before
+
 -- the start of the function, and all bytes moved
 abbrev start : tie.After-slice_known-2-1 invariant-loop decreases-loop → tie.Start invariant-loop decreases-loop
 start c = entry c.before.before

@@ -1,4 +1,3 @@
-
 -- `rows::place` meets its contract. The loop's invariant: the place of x lies from `low` to `high`. Assumes nothing.
 use borrow.Author.Rules.{rules}
 use Prim.Native.Nat.{ℕ, ◌+◌, ◌-◌, ◌*◌, ◌/◌, ◌≤◌}

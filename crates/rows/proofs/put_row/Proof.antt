@@ -1,4 +1,3 @@
-
 -- `rows::put_row` meets its contract: what the two callees leave, one after the other. Assumes nothing.
 use borrow.Author.Rules.{rules}
 use Prim.Native.Nat.{ℕ, ◌+◌}

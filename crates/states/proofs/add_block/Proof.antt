@@ -1,4 +1,3 @@
-
 -- `states::add_block` meets its contract. The loop's invariant: the sums are put for the numbers of losses left from d
 -- on. The measure is the number of those that are left. Assumes nothing.
 use Prim.Native.Nat.{ℕ, ◌+◌, ◌-◌, ◌*◌, ◌≤◌}
@@ -20,7 +19,7 @@ abbrev decreases-loop : tie.decreases-loop-d
 decreases-loop sums₀ len size values at d₀ sums d = d
 
 -- the number come to is one of the block, and the sums are put for those above it
-own-low : (c : tie.In-loop-d invariant-loop decreases-loop) → 
+own-low : (c : tie.In-loop-d invariant-loop decreases-loop) →
     c.loop-d.d - 1 ≤ c.args.size
 own-low c = omega (arith, c.loop-d-test.true, c.loop-d.invariant.0.0)
 

@@ -1,4 +1,3 @@
-
 -- `states::add_up` meets its contract. The loop's invariant: the sums of the blocks passed stand at the numbers of
 -- their states. The measure is what is left of the blocks. Assumes nothing.
 use Prim.Native.Nat.{ℕ, suc, ◌+◌, ◌-◌, ◌*◌, ◌<◌, ◌≤◌}

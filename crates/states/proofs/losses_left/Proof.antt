@@ -1,4 +1,3 @@
-
 -- `states::losses_left` meets its contract. The loop's invariant: the losses left of the blocks passed are digits of
 -- the state's number. The measure is what is left of the blocks. Assumes nothing.
 use Prim.Native.Nat.{ℕ, ◌+◌, ◌-◌, ◌/◌, ◌%◌, ◌<◌, ◌≤◌}

@@ -1,4 +1,3 @@
-
 -- `states::next_left` meets its contract. The loop's invariant: one loss more in block s would make the number of the
 -- state after the one at the start. The measure is what is left of the blocks. Assumes nothing.
 use Prim.Native.Nat.{ℕ, ◌+◌, ◌-◌, ◌*◌, ◌<◌, ◌≤◌}

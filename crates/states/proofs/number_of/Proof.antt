@@ -1,4 +1,3 @@
-
 -- `states::number_of` meets its contract. The loop's invariant: the number so far is that of the losses left in the
 -- blocks passed. The measure is what is left of the blocks. Assumes nothing.
 use Prim.Native.Nat.{ℕ, ◌+◌, ◌-◌, ◌*◌, ◌<◌, ◌≤◌}

@@ -1,4 +1,3 @@
-
 -- `states::put_raised` meets its contract. The loop's invariant: the entries passed are put at the place. The measure
 -- is what is left of the entries. Assumes nothing.
 use Prim.Native.Nat.{◌-◌, ◌<◌, ◌≤◌}

@@ -1,4 +1,3 @@
-
 -- `states::shape_of` meets its contract. The loop's invariant: the strides of the blocks passed are as the shape of the
 -- states says, and so is the number of states of these blocks. The measure is what is left of the blocks. Assumes
 -- nothing.
