@@ -1,4 +1,6 @@
 // What chunks that lost bits can bring to the sum of their line, a chunk-string or a block. Contracts cite specs/Weigh.antt.
+#![tactic(auto)]
+
 ghost use Rattle.std.specs.Prelude.{◌≡◌, true, ℕ, ◌+◌, ◌*◌, ◌-◌, ◌%◌, ◌<◌, ◌≤◌, length, take, drop};
 ghost use Rattle.bits.specs.Bits.{AllBits, longest, longest_line};
 ghost use Rattle.windows.specs.Windows.{Tables};
@@ -9,7 +11,7 @@ pub const MOST: usize = 6;
 
 // Chunks of one line that are matched against the received row: of each its place in the line (`block`: the chunk's block in a
 // chunk-string, its column in a block), where its bits start, and how many it lost.
-#[derive(Drop)]
+#[derive(Clone, Copy)]
 pub struct Chunks {
     pub n: usize,
     pub block: [u8; MOST],
@@ -18,14 +20,14 @@ pub struct Chunks {
 }
 
 // The bits of a chunk that were received: the number of their ones, and the total of the positions of these, from 1.
-#[derive(Drop)]
+#[derive(Clone, Copy)]
 pub struct Seen {
     pub ones: usize,
     pub total: usize,
 }
 
 // Twice the least and twice the greatest that some chunks can bring.
-#[derive(Drop)]
+#[derive(Clone, Copy)]
 pub struct Span {
     pub low: usize,
     pub high: usize,

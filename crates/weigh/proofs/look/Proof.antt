@@ -18,59 +18,58 @@ gives s =
     let a = s.args in
     looked a.y.now a.p a.w a.totals.now a.counts.now s.requires.0 s.requires.1.1.1 s.requires.1.1.0
 
-add-ones : tie.Need-overflow-add-ones
+add-ones : tie.Need-overflow_add-ones
 add-ones c = search rules
 
-mul-ones : tie.Need-overflow-mul-ones
+mul-ones : tie.Need-offset_bounds-counts-p
 mul-ones c = search rules
 
-shared-slice-read-ones : tie.Need-shared-slice-read-ones
+shared-slice-read-ones : tie.Need-bounds-counts-p
 shared-slice-read-ones c = search rules
 
-mul-ones-2 : tie.Need-overflow-mul-ones-2
+mul-ones-2 : tie.Need-offset_bounds-counts-p-2
 mul-ones-2 c = search rules
 
-shared-slice-read-ones-2 : tie.Need-shared-slice-read-ones-2
+shared-slice-read-ones-2 : tie.Need-bounds-counts-p-2
 shared-slice-read-ones-2 c = search rules
 
-sub-ones : tie.Need-overflow-sub-ones
+sub-ones : tie.Need-overflow_sub-ones
 sub-ones c = (gives c.before.before).counts_rise
 
-cast-ones : tie.Need-overflow-cast-ones
-cast-ones c = let a = c.before.before.args in omega (arith, c.before.shared-slice-known.given (a.p + a.w))
+cast-ones : tie.Need-overflow_cast-ones
+cast-ones c = let a = c.args in omega (arith, c.shared_slice_known-1.given (a.p + a.w))
 
-add-high : tie.Need-overflow-add-high
+add-high : tie.Need-overflow_add-high
 add-high c = search rules
 
-mul-high : tie.Need-overflow-mul-high
+mul-high : tie.Need-offset_bounds-totals-p
 mul-high c = search rules
 
-shared-slice-read-high : tie.Need-shared-slice-read-high
+shared-slice-read-high : tie.Need-bounds-totals-p
 shared-slice-read-high c = search rules
 
-mul-high-2 : tie.Need-overflow-mul-high-2
+mul-high-2 : tie.Need-offset_bounds-totals-p-2
 mul-high-2 c = search rules
 
-shared-slice-read-high-2 : tie.Need-shared-slice-read-high-2
+shared-slice-read-high-2 : tie.Need-bounds-totals-p-2
 shared-slice-read-high-2 c = search rules
 
-sub-high : tie.Need-overflow-sub-high
+sub-high : tie.Need-overflow_sub-high
 sub-high c = (gives c.before.before.before.before).totals_rise
 
-cast-high : tie.Need-overflow-cast-high
+cast-high : tie.Need-overflow_cast-high
 cast-high c =
-    let a = c.before.before.before.before.args in
-    omega (arith, c.before.shared-slice-known3.given (a.p + a.w))
+    let a = c.args in
+    omega (arith, c.shared_slice_known-3-1.given (a.p + a.w))
 
-mul-t8 : tie.Need-overflow-mul-t8
+mul-t8 : tie.Need-overflow_mul-result
 mul-t8 c =
-    let s = c.before.before.before.before in
-    let a = s.args in
+    let a = c.args in
     let p : a.p ≤ longest = omega arith in
     let w : a.w ≤ longest = omega arith in
-    omega (arith, (gives s).product, mul-le-mul p w)
+    omega (arith, (gives c.before.before.before.before).product, mul-le-mul p w)
 
-sub-t9 : tie.Need-overflow-sub-t9
+sub-t9 : tie.Need-overflow_sub-result
 sub-t9 c = (gives c.before.before.before.before).below
 
 returns : tie.Need-returns

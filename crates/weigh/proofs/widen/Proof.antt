@@ -25,68 +25,68 @@ products s =
       back = mul-le-mul {n₂ = 8} {m₂ = 17} (omega arith) (omega arith);
     }
 
-add-whole : tie.Need-overflow-add-whole
+add-whole : tie.Need-overflow_add-whole
 add-whole c = search rules
 
-mul-whole : tie.Need-overflow-mul-whole
+mul-whole : tie.Need-overflow_mul-whole
 mul-whole c = let q = products c.before in omega (arith, q.whole)
 
-add-whole-2 : tie.Need-overflow-add-whole-2
+add-whole-2 : tie.Need-overflow_add-whole-2
 add-whole-2 c = let q = products c.before.before in omega (arith, q.whole)
 
-mul-whole-2 : tie.Need-overflow-mul-whole-2
+mul-whole-2 : tie.Need-overflow_mul-whole-2
 mul-whole-2 c = let q = products c.before.before in omega (arith, q.whole)
 
-add-t8 : tie.Need-overflow-add-t8
+add-t8 : tie.Need-overflow_add-result
 add-t8 c = let q = products c.before.before.before in omega (arith, q.whole)
 
-mul-t10 : tie.Need-overflow-mul-t10
+mul-t10 : tie.Need-overflow_mul-result
 mul-t10 c = search rules
 
-add-t9 : tie.Need-overflow-add-t9
+add-t9 : tie.Need-overflow_add-result-2
 add-t9 c = search rules
 
-add-t11 : tie.Need-overflow-add-t11
+add-t11 : tie.Need-overflow_add-result-3
 add-t11 c = search rules
 
-mul-t12 : tie.Need-overflow-mul-t12
+mul-t12 : tie.Need-overflow_mul-result-2
 mul-t12 c = let q = products c.before.before.before.before in omega (arith, q.front)
 
-add-t13 : tie.Need-overflow-add-t13
+add-t13 : tie.Need-overflow_add-result-4
 add-t13 c = let q = products c.before.before.before.before in omega (arith, q.whole, q.front)
 
-add-t14 : tie.Need-overflow-add-t14
+add-t14 : tie.Need-overflow_add-result-5
 add-t14 c = let q = products c.before.before.before.before.before in omega (arith, q.whole)
 
-sub-t15 : tie.Need-overflow-sub-t15
+sub-t15 : tie.Need-overflow_sub-result
 sub-t15 c = search rules
 
 -- where the function starts, seen from where all fields are read
-abbrev start : tie.After-struct-known6 → tie.Start
+abbrev start : tie.After-struct_known-6-1 → tie.Start
 start c = c.before.before.before.before.before.before
 
-mul-t16 : tie.Need-overflow-mul-t16
+mul-t16 : tie.Need-overflow_mul-result-3
 mul-t16 c = let q = products (start c) in omega (arith, q.zeros)
 
-mul-t17 : tie.Need-overflow-mul-t17
+mul-t17 : tie.Need-overflow_mul-result-4
 mul-t17 c = let q = products (start c) in omega (arith, q.zeros)
 
-add-t18 : tie.Need-overflow-add-t18
+add-t18 : tie.Need-overflow_add-result-6
 add-t18 c = let q = products (start c) in omega (arith, q.whole, q.zeros)
 
-mul-t19 : tie.Need-overflow-mul-t19
+mul-t19 : tie.Need-overflow_mul-result-5
 mul-t19 c = search rules
 
-add-t20 : tie.Need-overflow-add-t20
+add-t20 : tie.Need-overflow_add-result-7
 add-t20 c = search rules
 
-sub-t21 : tie.Need-overflow-sub-t21
+sub-t21 : tie.Need-overflow_sub-result-2
 sub-t21 c = search rules
 
-mul-t22 : tie.Need-overflow-mul-t22
+mul-t22 : tie.Need-overflow_mul-result-6
 mul-t22 c = let q = products (start c) in omega (arith, q.back)
 
-add-t23 : tie.Need-overflow-add-t23
+add-t23 : tie.Need-overflow_add-result-8
 add-t23 c =
     let q = products (start c) in
     omega (arith, q.whole, q.zeros, q.back)
