@@ -1,6 +1,8 @@
 // The anchor: once one consistent row is held, parts of a search whose rows can differ from it in at most r chunks are left out,
 // since they hold no other consistent row. What is worked out from the anchor stands on a desk, a slice of bytes. Contracts cite
 // specs/Anchor.antt; strings are unpacked, one byte a bit.
+#![tactic(auto)]
+
 ghost use Rattle.std.specs.Prelude.{◌≡◌, true, List, ◌++◌, ℕ, ◌+◌, ◌-◌, ◌*◌, ◌<◌, ◌≤◌, length, get_or, take, drop};
 ghost use Rattle.bits.specs.Bits.{most_chunks, most_in_line, AllBits, bytes_for, unpack as unpacked};
 ghost use Rattle.rows.specs.Held.{Held, Known};

@@ -9,7 +9,7 @@ pub mod writing;
 
 use refusal::Refusal;
 
-#[derive(Drop)]
+#[derive(Clone, Copy)]
 pub struct Layout {
     pub l1: usize,
     pub l2: usize,

@@ -6,29 +6,32 @@ use borrow.Author.Tests.{eqb-true}
 use Rattle.anchor.proofs.reads.Statement.{statement}
 use Rattle.anchor.proofs.reads.Tie as tie
 
-mul_at : tie.Need-overflow-mul-at
+mul_at : tie.Need-overflow_mul-at
 mul_at c =
-    let s = c.before in
-    omega (arith, mul-le-mul s.requires.1.1 s.requires.1.0)
+    omega (arith, mul-le-mul c.requires.1.1 c.requires.1.0)
 
-returns : tie.Need-returns
-returns c = λ e h k. absurd (omega (arith, c.if1.true))
+returns : tie.Need-returns-then-at-t
+returns c = λ e h k. absurd (omega (arith, c.if-at-t.true))
 
-add-if2 : tie.Need-overflow-add-if2
+add-if2 : tie.Need-overflow_add-from
 add-if2 c =
-    let s = c.before.before in
-    omega (arith, mul-le-mul s.requires.1.1 s.requires.1.0)
+    omega (arith, mul-le-mul c.requires.1.1 c.requires.1.0)
 
-returns-2 : tie.Need-returns-2
-returns-2 c = λ e h k. absurd (omega (arith, c.if2.true))
+returns-2 : tie.Need-returns-then-y-from
+returns-2 c = λ e h k. absurd (omega (arith, c.if-y-from.true))
 
-number-at-requires : tie.Need-number-at-requires
+number-at-requires : tie.Need-number_at-requires
 number-at-requires c κs =
-    let s = c.before.before.before in
-    (s.requires.0, (s.requires.1.0, omega (arith, c.if2.false)))
+    (c.requires.0, (c.requires.1.0, omega (arith, c.if-y-from.false)))
 
-returns-3 : tie.Need-returns-3
+returns-3 : tie.Need-returns
 returns-3 c = λ e h k. sym c.number_at.ensures ∙ eqb-true _ _ e
 
-pub reads-spec : {M : Type 1} → statement M
-reads-spec = tie.close (tie.spec mul_at returns add-if2 returns-2 number-at-requires returns-3)
+pub reads_spec : {M : Type 1} → statement M
+reads_spec = tie.close (tie.spec
+    mul_at
+    returns
+    add-if2
+    returns-2
+    number-at-requires
+    returns-3)
