@@ -1,4 +1,6 @@
 // The short chunks of a loss table. Contracts cite specs/Cells.antt.
+#![tactic(auto)]
+
 ghost use Rattle.std.specs.Prelude.{◌≡◌, ◌<◌, ◌≤◌, eqb, length, drop};
 ghost use Rattle.bits.specs.Bits.{digits};
 ghost use Rattle.consistent.specs.Greedy.{losses};

@@ -2,70 +2,70 @@
 -- Assumes nothing.
 use Prim.Native.Nat.{ℕ, ◌-◌, ◌<◌, ◌≤◌}
 use mathlib.Core.Path.{◌≡◌, sym, ◌∙◌}
-use mathlib.Core.Logic.{⊎_elim}
 use native.Mathlib.Omega.{arith}
 use borrow.Author.Count.{below_more}
 use borrow.Author.Rules.{rules}
 use lib.ListN.{length}
-use Rattle.cells.specs.Cells.{share, SingleAt}
+use Rattle.cells.specs.Cells.{SingleAt}
 use Rattle.cells.proofs.Shares.{none_single}
 use Rattle.cells.proofs.single.Statement.{statement}
 use Rattle.cells.proofs.single.Tie as tie
+use Rattle.cells.proofs.single.Lts.{else-lost-z-eq1, then-lost-z-eq1+else-share-eq1}
 
-abbrev invariant-loop : tie.invariant-loop
+abbrev invariant-loop : tie.invariant-loop-z
 invariant-loop keys lost z₀ z = (z ≤ 12) × ((k : ℕ) → k < z → SingleAt keys lost k → ⊥)
 
-abbrev decreases-loop : tie.decreases-loop
+abbrev decreases-loop : tie.decreases-loop-z
 decreases-loop keys lost z₀ z = 12 - z
 
-loop-holds : tie.Need-loop-init invariant-loop decreases-loop
+loop-holds : tie.Need-loop-z-init invariant-loop decreases-loop
 loop-holds c = (omega arith, λ k h. absurd (omega arith))
 
-array-read-key : tie.Need-array-read-key invariant-loop decreases-loop
+array-read-key : tie.Need-bounds-keys-z invariant-loop decreases-loop
 array-read-key c = search rules
 
-array-read-if1 : tie.Need-array-read-if1 invariant-loop decreases-loop
+array-read-if1 : tie.Need-bounds-lost-z invariant-loop decreases-loop
 array-read-if1 c = search rules
 
 share-requires : tie.Need-share-requires invariant-loop decreases-loop
 share-requires c κs = search rules
 
-returns : tie.Need-returns invariant-loop decreases-loop
+returns : tie.Need-returns-then-share-eq1 invariant-loop decreases-loop
 returns c = (
   omega arith,
   (
-    λ h. record { one = c.before.before.if1.true; alone = sym c.before.share.ensures ∙ c.if2.true },
+    λ h. record { one = c.if-lost-z-eq1.true; alone = sym c.share.ensures ∙ c.if-share-eq1.true },
     λ h. absurd (omega arith),
   ),
 )
 
-add-z : tie.Need-overflow-add-z invariant-loop decreases-loop
+add-z : tie.Need-overflow_add-z invariant-loop decreases-loop
 add-z c = search rules
 
-loop-less : tie.Need-loop-smaller invariant-loop decreases-loop
+loop-less : tie.Need-loop-z-smaller invariant-loop decreases-loop
 loop-less c = search rules
 
-loop-again : tie.Need-loop-preserved invariant-loop decreases-loop
+loop-again : tie.Need-loop-z-preserved invariant-loop decreases-loop
 loop-again c =
-    let p = c.before.before.loop in (
+    let p = c.loop-z in (
       omega arith,
       below_more _ _ p.invariant.1
           (λ s.
-          ⊎_elim
-          (λ w. w.2.left (w.1.ensures ∙ s.alone))
-          (λ w. w.left s.one)
-          c.if1.branch),
+          elim c.if-lost-z-eq1.branch [
+            | then-lost-z-eq1+else-share-eq1 w ↦ w.if-share-eq1.false (w.share.ensures ∙ s.alone)
+            | else-lost-z-eq1 w ↦ w.if-lost-z-eq1.false s.one
+          ]),
     )
 
-returns-2 : tie.Need-returns-2 invariant-loop decreases-loop
+returns-2 : tie.Need-returns invariant-loop decreases-loop
 returns-2 c =
-    let a = c.before.before.args in
-    let p = c.before.loop in
-    let l : length a.t1 ≡ 12 = search rules in
-    (omega arith, (λ h. absurd (omega arith), λ h. none_single a.t1 a.t2 (λ z k. p.invariant.1 z (omega arith))))
+    let a = c.args in
+    let p = c.loop-z in
+    let l : length a.keys ≡ 12 = search rules in
+    (omega arith, (λ h. absurd (omega arith), λ h. none_single a.keys a.lost (λ z k. p.invariant.1 z (omega arith))))
 
-pub single-spec : {M : Type 1} → statement M
-single-spec =
+pub single_spec : {M : Type 1} → statement M
+single_spec =
     tie.close
     (tie.spec
     invariant-loop
