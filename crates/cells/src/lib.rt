@@ -8,7 +8,7 @@ ghost use Rattle.cells.specs.Cells.{share as shared, NoSingle, SingleAt};
 
 // At most twelve short chunks: the block and the column of each, its losses, 0 where it is mended or where there is no such cell,
 // and the place in the received row from which it is matched.
-#[derive(Drop)]
+#[derive(Clone, Copy)]
 pub struct Cells {
     pub n: usize,
     pub block: [u8; 12],
