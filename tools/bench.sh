@@ -8,7 +8,7 @@ bench=rust/target/release/bench
 stored=docs/benchmarks
 
 build() {
-    rt staticlib dairyhour && cargo build --manifest-path rust/Cargo.toml --release --offline --locked --quiet --package bench &&
+    tools/prove.sh && cargo build --manifest-path rust/Cargo.toml --release --offline --locked --quiet --package bench &&
         tools/film-cargo.sh build --release --quiet
 }
 

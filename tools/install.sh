@@ -9,7 +9,7 @@ prefix=$2
 case $prefix in /*) ;; *) prefix=$PWD/$prefix ;; esac
 root=${3:-}$prefix
 film=rust/film/target/release/film
-rowlist=target/bin/rowlist
+rowlist=crates/rowlist/out/rowlist
 version=$(sed -n 's/^version = "\(.*\)"$/\1/p' rust/film/Cargo.toml | head -n 1)
 documents=(README.md LICENSE CHANGELOG.md docs/FORMAT.md)
 
@@ -43,7 +43,7 @@ put() {
     tools/prove.sh
     build_film
     install -d "$root/lib/pkgconfig" "$root/include" "$root/bin" "$root/share/doc/dairyhour"
-    install -m 644 target/staticlib/libdairyhour.a "$root/lib/"
+    install -m 644 crates/dairyhour/out/libdairyhour.a "$root/lib/"
     install -m 644 include/dairyhour.h "$root/include/"
     describe >"$root/lib/pkgconfig/dairyhour.pc"
     install -m 755 "$film" "$rowlist" "$root/bin/"

@@ -29,7 +29,7 @@ fn a_c_program_over_the_header() {
         .args(["-std=c99", "-Wall", "-Wextra", "-Werror", "-pedantic", "-I"])
         .arg(top.join("include"))
         .arg(tester.join("tests/header.c"))
-        .arg(top.join("target/staticlib/libdairyhour.a"))
+        .arg(top.join("crates/dairyhour/out/libdairyhour.a"))
         .arg("-o")
         .arg(&program)
         .output()

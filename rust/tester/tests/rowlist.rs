@@ -1,5 +1,5 @@
 //! The program rowlist, run on standard input and compared with the reference. Its path is in the variable
-//! ROWLIST, which `tools/test.sh` sets; without that it is looked for where `rt check` puts it, and where it is not
+//! ROWLIST, which `tools/test.sh` sets; without that it is looked for where `rt run` puts it, and where it is not
 //! there nothing is tested.
 
 use std::io::Write;
@@ -29,7 +29,7 @@ fn program() -> Option<PathBuf> {
         assert!(path.is_file(), "ROWLIST is {}, where no program is", path.display());
         return Some(path);
     }
-    let built = Path::new(env!("CARGO_MANIFEST_DIR")).join("../../target/bin/rowlist");
+    let built = Path::new(env!("CARGO_MANIFEST_DIR")).join("../../crates/rowlist/out/rowlist");
     if !built.is_file() {
         eprintln!("There is no program {}, so it is not run.", built.display());
         return None;
