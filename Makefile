@@ -16,7 +16,7 @@ help:
 	@echo 'make test    prove every crate and run every test; the last line is "N passed, M failed"'
 	@echo 'make bench NAME=.. [MINUTES=40]   time the library beside unproved peers and store the figures in docs/benchmarks'
 	@echo 'make bench-report NAME=.. [BEFORE=..]   make docs/BENCHMARKS.md and its pictures of stored figures'
-	@echo 'make lint    check the layout of all sources, and the Rust side with clippy'
+	@echo 'make lint    check the layout of the Rust sources, and the Rust side with clippy; rt ci looks at the layout of those in Rattle'
 	@echo 'make install PREFIX=..   put library, header, pkg-config file, film, rowlist and man pages in place'
 	@echo 'make uninstall PREFIX=..   take them away again'
 
@@ -33,7 +33,6 @@ bench-report:
 	@tools/bench.sh report '$(NAME)' '$(BEFORE)'
 
 lint:
-	@rt fmt --check
 	@cd rust && cargo fmt --check
 	@cd rust && cargo clippy --release --offline --all-targets -- -D warnings
 	@cd rust/film && cargo fmt --all --check

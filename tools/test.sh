@@ -1,12 +1,8 @@
 #!/usr/bin/env bash
-# Looks at the must-fail edits, proves every crate (rt ci), then builds the static library, runs the Rust tests over it and those
-# of the tool film, and tries the installation. The very last line is 'N passed, M failed', the counts of all together. A step that
-# breaks without saying how many failed counts as one failed. Exit status 0 only if nothing failed.
+# Looks at the must-fail edits, proves every crate (rt ci), then builds the static library and the program, runs the Rust tests over
+# them and those of the tool film, and tries the installation. The very last line is 'N passed, M failed', the counts of all together.
+# A step that breaks without saying how many failed counts as one failed. Exit status 0 only if nothing failed.
 set -u
-
-# rt starts so many checks and waits for all of them before it starts more; a check takes one processor. With more checks than
-# processors none is idle while the longest check of a round goes on.
-export RT_JOBS=${RT_JOBS:-$((3 * $(nproc)))}
 
 cd "$(dirname "${BASH_SOURCE[0]}")/.." || exit 1
 
@@ -36,9 +32,10 @@ broke() {
     finish
 }
 
-# The proofs. Their count is the very last line; it and the status must say the same.
+# The proofs. Their count is the very last line; it and the status must say the same. A must-fail edit that could not be tried as it
+# stands fails nothing there, and is counted as failed here.
 count_proofs() {
-    local status=0 last
+    local status=0 last well
     run rt ci || status=$?
     last=$(tail -n 1 "$log")
     [[ $last =~ ^([0-9]+)\ passed,\ ([0-9]+)\ failed$ ]] || broke "rt ci ended with status $status and no count"
@@ -46,6 +43,12 @@ count_proofs() {
     failed=$((failed + 10#${BASH_REMATCH[2]}))
     [ "$failed" -eq 0 ] || finish
     [ "$status" -eq 0 ] || broke "rt ci ended with status $status"
+    well=$(grep '^rt: ok' "$log" | tail -n 1)
+    [ -n "$well" ] || broke "rt ci has no line 'rt: ok'"
+    if [[ $well =~ ,\ ([0-9]+)\ bad ]]; then
+        failed=$((failed + 10#${BASH_REMATCH[1]}))
+        [ "$failed" -eq 0 ] || { echo "test.sh: must-fail edits that are bad: $failed" && finish; }
+    fi
 }
 
 # Runs a command that runs Rust tests. Each test program writes a line 'test result: ok. N passed; M failed; ..'.
@@ -80,9 +83,10 @@ count_step tools/edits.sh
 compile_ahead &
 count_proofs
 wait
-run rt staticlib dairyhour || broke "the static library could not be built"
+# rt ci proves and keeps no archive, so it is built by itself, over the same sources.
+run tools/prove.sh || broke "the static library could not be built"
 # The program that the proofs were compiled to, for the tests that run it.
-ROWLIST="$PWD/target/bin/rowlist"
+ROWLIST="$PWD/crates/rowlist/out/rowlist"
 export ROWLIST
 count_rust_tests cargo test --manifest-path rust/Cargo.toml --release --offline --locked --no-fail-fast --color never
 count_rust_tests tools/film-cargo.sh test --release --workspace --no-fail-fast --color never
