@@ -1,6 +1,7 @@
 // The program rowlist: reads a message, a bit count and a row from standard input, lists the rows that are consistent with them, and
 // prints their number and each row in hexadecimal, or the number of a refusal. Contracts cite specs/Output.antt.
-ghost use Rattle.std.specs.Prelude.{◌≡◌, ◌≤◌, length};
+#![tactic(auto)]
+ghost use Rattle.std.specs.Prelude.{◌≡◌, ◌≤◌, length, IfOk};
 ghost use Rattle.bits.specs.Bits.{bytes_for};
 ghost use Rattle.io.specs.Counts.{IsPrefixLen};
 ghost use Rattle.consistent.specs.Consistent.{bits_of};
@@ -8,6 +9,8 @@ ghost use Rattle.rowtext.specs.Text.{Put};
 ghost use Rattle.rowlist.specs.Output.{longest_text, printed};
 
 use lister::Listed;
+use std::io;
+use std::io::{Read, Write};
 
 // Only so many bytes of the input are read, and the list slice has as many.
 const BYTES: usize = 4096;
@@ -50,10 +53,26 @@ fn respond(input: &[u8], out: &mut [u8]) -> usize
     }
 }
 
-fn main() {
+// Reads until the slice is full or the input ends, and answers how many bytes it put at its start. A read that fails is the answer.
+fn read_full<R: Read>(reader: &mut R, buf: &mut [u8]) -> io::Result<usize>
+    ensures { IfOk result (λ n. IsPrefixLen n buf.new) }
+{
+    let mut done = 0;
+    while done < buf.len() {
+        let n = reader.read(&mut buf[done..])?;
+        if n == 0 {
+            break;
+        }
+        done += n;
+    }
+    Ok(done)
+}
+
+// A read or a write that fails ends the program with that error.
+fn main(rt: HostRuntime) -> io::Result<()> {
     let mut input: [u8; BYTES] = [0; BYTES];
-    let n = io::read_full(0, &mut input);
+    let n = read_full(&mut rt.stdin(), &mut input)?;
     let mut out: [u8; LONGEST_TEXT] = [0; LONGEST_TEXT];
     let k = respond(&input[..n], &mut out);
-    io::write_all(1, &out[..k]);
+    rt.stdout().write_all(&out[..k])
 }
