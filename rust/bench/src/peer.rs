@@ -243,7 +243,7 @@ mod tests {
     use reference::random::Random;
 
     #[test]
-    fn writes_and_reads_as_the_reference_does() {
+    fn writes_and_reads_as_the_plain_part_does() {
         let mut random = Random::new(1);
         for layout in Layout::every_legal_with_checks(&mut random) {
             let row = pack(&random.bits(layout.row_bits()));
@@ -268,7 +268,7 @@ mod tests {
     }
 
     #[test]
-    fn mends_as_the_reference_does() {
+    fn mends_as_the_plain_part_does() {
         let mut random = Random::new(2);
         for w in 1..=LONGEST_ROW {
             for sum in [0, w, random.below(w + 1)] {

@@ -78,7 +78,7 @@ mod tests {
             let n = layout.l1 * layout.l2 * layout.nc;
             assert!(is_legal(layout) && n >= width, "{width}: {layout:?}");
             assert!(n - width <= width / 8 + 2, "{width}: {layout:?}");
-            assert!(width < 47 || layout.r >= MOST_LOSSES, "{width}: {layout:?}");
+            assert!(width < 47 || layout.r >= 12, "{width}: {layout:?}");
         }
     }
 

@@ -51,5 +51,5 @@ fn long_lists_take_little_memory() {
     assert_eq!(output.status.code(), Some(1), "{said}");
     assert!(text(&output.stdout).contains("refused: more rows than a list holds (9): 500"), "{}", text(&output.stdout));
     let lists = fs::read_to_string(folder.join("lists")).unwrap();
-    assert_eq!(lists.lines().count(), 500 * (1 + dairyhour::LONGEST_LIST / dairyhour::LONGEST_STRING));
+    assert_eq!(lists.lines().count(), 500 * (1 + 65_536 / 255));
 }

@@ -133,10 +133,7 @@ fn rows_with_too_long_lists_are_left_white() {
     ends(0, &folder, "drop film.pbm --layout 15,17,8,0 --burst 4 -o film.rx");
     let report = ends(1, &folder, "list film.rsm film.rx --lists lists.txt -o out.pbm");
     assert!(report.contains("not listed         1 (refused: more rows than a list holds (9): 1)\n"), "{report}");
-    assert_eq!(
-        fs::read_to_string(folder.join("lists.txt")).unwrap().lines().count(),
-        1 + dairyhour::LONGEST_LIST / dairyhour::LONGEST_STRING
-    );
+    assert_eq!(fs::read_to_string(folder.join("lists.txt")).unwrap().lines().count(), 1 + 65_536 / 255);
     assert_eq!(fs::read(folder.join("out.pbm")).unwrap(), [&b"P4\n2040 1\n"[..], &[0; 255]].concat());
 }
 

@@ -3,7 +3,7 @@
 use reference::bits::{bytes_for, pack};
 use reference::layout::HEAD;
 use reference::limits::MOST_LOSSES;
-use reference::message::fields;
+use reference::message::{encode, fields, slots};
 use reference::random::Random;
 use reference::Layout;
 use tester::damage::{self, flip, misfits, some_bytes, sums_above, LAYOUT};
@@ -15,15 +15,45 @@ fn fit() -> Received {
     Received::own(&LAYOUT, &sent, &sent[..12])
 }
 
-/// Every set of faults: the least number is answered. The slice is empty, or a byte too short for the one row.
-#[test]
-fn the_least_number_of_every_set_of_faults() {
-    let spoil = |(received, room): &mut (Received, usize), number, way| match number {
+/// Makes the condition of a refusal true, in one of two ways. Greater numbers are spoilt first.
+fn spoil(received: &mut Received, number: u32, way: usize) {
+    match number {
         7 => received.m = [17, 3][way],
         8 if way == 0 => received.row.push(0),
         8 => received.row[1] |= 1,
-        9 => *room = way,
         _ => damage::spoil(&mut received.message, number, way),
+    }
+}
+
+/// Every set of faults from 1 to 8, each in both ways, with an empty slice and a long one: the least number is
+/// answered.
+#[test]
+fn the_least_number_of_every_set_of_faults() {
+    for set in 0..1_u32 << 8 {
+        for ways in (0..1_u32 << 8).filter(|ways| ways & !set == 0) {
+            let faults: Vec<u32> = (1..=8).filter(|number| set >> (number - 1) & 1 == 1).collect();
+            let mut received = fit();
+            for number in faults.iter().rev() {
+                spoil(&mut received, *number, (ways >> (number - 1) & 1) as usize);
+            }
+            let judged = received.judge();
+            for room in [0, 4096] {
+                let answer = agree_list(&received, &judged, room);
+                match faults.first() {
+                    Some(number) => assert_eq!(answer, Err(*number), "{received}"),
+                    None => assert_eq!(answer, if room == 0 { Err(9) } else { Ok(1) }),
+                }
+            }
+        }
+    }
+}
+
+/// The same with 9 as one more fault: the slice is empty, or a byte too short for the one row.
+#[test]
+fn the_least_number_with_a_short_slice_too() {
+    let spoil = |(received, room): &mut (Received, usize), number, way| match number {
+        9 => *room = way,
+        _ => spoil(received, number, way),
     };
     let fit = (fit(), 4096);
     agree_on_the_least(&[1, 2, 3, 4, 5, 6, 7, 8, 9], &fit, spoil, |(received, room)| {
@@ -88,8 +118,31 @@ fn rows_that_are_not_packed_so() {
         let n = layout.row_bits();
         let sent = random.bits(n);
         let m = n - random.below(n.min(MOST_LOSSES) + 1);
-        let longer = vec![0; bytes_for(n) + 1];
-        for row in misfits(&sent[..m]).into_iter().chain([longer]) {
+        let right = bytes_for(m);
+        for count in [0, right.saturating_sub(1), right + 1, right + 256, bytes_for(n) + 1] {
+            if count != right {
+                let row = vec![0; count];
+                let received = Received { row, m, ..Received::own(&layout, &sent, &sent) };
+                assert_eq!(agree_list(&received, &received.judge(), 0), Err(8));
+            }
+        }
+        for place in m..8 * right {
+            let mut received = Received::own(&layout, &sent, &sent[..m]);
+            received.row[place / 8] |= 0x80 >> (place % 8);
+            assert_eq!(agree_list(&received, &received.judge(), 4096), Err(8));
+        }
+    }
+}
+
+/// The same with rows that are not all 0 in another byte count, with an empty slice and a long one.
+#[test]
+fn rows_in_every_other_packing() {
+    let mut random = Random::new(76);
+    for layout in Layout::every_legal_with_checks(&mut random) {
+        let n = layout.row_bits();
+        let sent = random.bits(n);
+        let m = n - random.below(n.min(MOST_LOSSES) + 1);
+        for row in misfits(&sent[..m]) {
             let received = Received { row, m, ..Received::own(&layout, &sent, &sent) };
             for room in [0, 4096] {
                 assert_eq!(agree_list(&received, &received.judge(), room), Err(8));
@@ -98,10 +151,32 @@ fn rows_that_are_not_packed_so() {
     }
 }
 
-/// Each sum of every legal layout in turn is above its limit, where its bits can spell that.
+/// Each sum of every legal layout in turn is one above its limit, if its bits can spell that.
 #[test]
 fn sums_above_their_limit() {
     let mut random = Random::new(73);
+    let mut refused = 0;
+    for layout in Layout::every_legal_with_checks(&mut random).into_iter().step_by(3) {
+        let sent = random.bits(layout.row_bits());
+        let numbers = fields(&layout, &sent);
+        for (place, slot) in slots(&layout).into_iter().enumerate().take(layout.l1 + layout.l2) {
+            if slot.most + 1 < 1 << slot.width {
+                let mut damaged = numbers.clone();
+                damaged[place] = slot.most as u16 + 1;
+                let message = encode(&layout, &damaged);
+                let received = Received { seed: 0, message, row: pack(&sent), m: sent.len() };
+                assert_eq!(agree_list(&received, &received.judge(), 0), Err(5));
+                refused += 1;
+            }
+        }
+    }
+    assert!(refused > 10_000);
+}
+
+/// The same with sums that are all ones, too.
+#[test]
+fn sums_above_their_limit_in_either_way() {
+    let mut random = Random::new(77);
     let mut refused = 0;
     for layout in Layout::every_legal_with_checks(&mut random).into_iter().step_by(3) {
         let sent = random.bits(layout.row_bits());

@@ -1,6 +1,6 @@
 //! Document 01's marked cases, with the paper's own values.
 
-use dairyhour::{list, mend, read, write, Layout, Refusal, LONGEST_MESSAGE};
+use dairyhour::{list, mend, read, write, Layout, Refusal};
 use reference::bits::pack;
 use reference::message::encode;
 use tester::{agree_list, Received};
@@ -99,7 +99,7 @@ fn case_11() {
 /// "l1 × l2 = 15 with nc = 4 and r = 1 is legal, 16 is refused by 3."
 #[test]
 fn case_12_layouts() {
-    let mut written = [0; LONGEST_MESSAGE];
+    let mut written = [0; 154];
     assert!(write(Layout { l1: 15, l2: 1, nc: 4, r: 1 }, &[0; 8], &mut written).is_ok());
     assert_eq!(write(Layout { l1: 16, l2: 1, nc: 4, r: 1 }, &[0; 8], &mut written), Err(Refusal::Layout));
 

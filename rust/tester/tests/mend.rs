@@ -86,6 +86,28 @@ fn sums_above_their_limit() {
 fn bits_that_are_not_packed_so() {
     let mut random = Random::new(24);
     for w in 1..=LONGEST_ROW {
+        let right = bytes_for(w - 1);
+        let counts = [0, right.saturating_sub(1), right + 1, right + 256];
+        for count in counts.into_iter().filter(|count| *count != right) {
+            for room in [0, bytes_for(w)] {
+                assert_eq!(agree_mend(w, random.below(w + 1), &vec![0; count], room), Err(8));
+            }
+        }
+        for place in w - 1..8 * right {
+            let mut spoiled = pack(&random.bits(w - 1));
+            spoiled[place / 8] |= 0x80 >> (place % 8);
+            for room in [0, bytes_for(w)] {
+                assert_eq!(agree_mend(w, random.below(w + 1), &spoiled, room), Err(8));
+            }
+        }
+    }
+}
+
+/// The same with bits that are not all 0 in another byte count.
+#[test]
+fn bits_in_every_other_packing() {
+    let mut random = Random::new(25);
+    for w in 1..=LONGEST_ROW {
         for bits in misfits(&random.bits(w - 1)) {
             for room in [0, bytes_for(w)] {
                 assert_eq!(agree_mend(w, random.below(w + 1), &bits, room), Err(8));

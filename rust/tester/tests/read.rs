@@ -5,7 +5,7 @@ use reference::limits::MOST_CHECKS;
 use reference::message::{encode, fields, slots};
 use reference::random::Random;
 use reference::Layout;
-use tester::damage::{self, any_fields, flip, some_bytes, sums_above};
+use tester::damage::{self, any_fields, flip, some_bytes};
 use tester::{agree_in_rooms, agree_on_the_least, agree_read, rooms, Read};
 
 /// Every legal (l1, l2, nc) with no check, one, as many as there can be, and more checks than chunks: the
@@ -114,14 +114,23 @@ fn sums_above_their_limit() {
     let mut random = Random::new(16);
     let mut refused = 0;
     for layout in Layout::every_legal_with_checks(&mut random) {
-        for mut message in sums_above(&layout, &any_fields(&layout, &mut random)) {
-            let room = if refused % 2 == 0 { layout.fields() } else { 0 };
-            assert_eq!(agree_read(&message, room), Err(5));
-            if layout.field_bits() % 8 != 0 {
-                *message.last_mut().expect("a message is not empty") |= 1;
+        let values = any_fields(&layout, &mut random);
+        for (place, slot) in slots(&layout).into_iter().enumerate().take(layout.l1 + layout.l2) {
+            for value in [slot.most + 1, (1 << slot.width) - 1] {
+                if value <= slot.most || value >> slot.width != 0 {
+                    continue;
+                }
+                let mut damaged = values.clone();
+                damaged[place] = value as u16;
+                let mut message = encode(&layout, &damaged);
+                let room = if place % 2 == 0 { layout.fields() } else { 0 };
                 assert_eq!(agree_read(&message, room), Err(5));
+                if layout.field_bits() % 8 != 0 {
+                    *message.last_mut().expect("a message is not empty") |= 1;
+                    assert_eq!(agree_read(&message, room), Err(5));
+                }
+                refused += 1;
             }
-            refused += 1;
         }
     }
     assert!(refused > 10_000);

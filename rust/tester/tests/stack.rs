@@ -2,7 +2,6 @@
 
 use std::process::Command;
 
-use reference::limits::MOST_CHUNKS;
 use tester::stack::{table, Case, Line};
 
 /// Lists in a process of its own, so that a stack that is too small shows as a failed test.
@@ -17,7 +16,7 @@ fn the_header_has_the_table() {
     let lines = table();
     assert!(lines.windows(2).all(|pair| pair[0].blocks < pair[1].blocks && pair[0].kb < pair[1].kb), "{lines:?}");
     // No layout has more blocks.
-    assert_eq!(lines.last().map(|line| line.blocks), Some(MOST_CHUNKS));
+    assert_eq!(lines.last().map(|line| line.blocks), Some(255));
     assert_eq!([100, 467].map(Line::to_state), [128, 544]);
 }
 

@@ -72,6 +72,37 @@ fn targets() {
     }
 }
 
+/// Rows with other byte counts, each with targets that are long enough and too short.
+#[test]
+fn rows_of_another_byte_count() {
+    let mut random = Random::new(3);
+    for layout in Layout::every_legal_with_checks(&mut random) {
+        let right = bytes_for(layout.row_bits());
+        for count in [0, right - 1, right + 1, 2 * right, right + 256] {
+            let row: Vec<u8> = (0..count).map(|_| random.number() as u8).collect();
+            for room in [0, layout.message_bytes()] {
+                assert_eq!(agree_write(&layout, &row, room), Err(8));
+            }
+        }
+    }
+}
+
+/// Each spare bit of the row in turn is 1.
+#[test]
+fn spare_bits_of_the_row() {
+    let mut random = Random::new(4);
+    for layout in Layout::every_legal_with_checks(&mut random) {
+        let row = pack(&random.bits(layout.row_bits()));
+        for place in layout.row_bits()..8 * row.len() {
+            let mut spoiled = row.clone();
+            spoiled[place / 8] |= 0x80 >> (place % 8);
+            for room in [0, layout.message_bytes()] {
+                assert_eq!(agree_write(&layout, &spoiled, room), Err(8));
+            }
+        }
+    }
+}
+
 /// Rows with other byte counts, and each spare bit in turn 1, with targets that are long enough and too short.
 #[test]
 fn rows_that_are_not_packed_so() {

@@ -146,7 +146,7 @@ fn decode_head(cursor: &mut Cursor<'_>) -> Result<Head, Fault> {
     let found = cursor.take(4, "the layout")?;
     let layout = [found[0], found[1], found[2], found[3]];
     let bits = row_bits(layout).ok_or_else(|| {
-        Fault::new(place, format!("no row has the layout {layout:?}: l1 × l2 × nc must be from 1 to {LONGEST_ROW}"))
+        Fault::new(place, format!("no row has the layout {layout:?}: l1 × l2 × nc must be from 1 to 2,040"))
     })?;
     let head = Head::new(width, height, layout)
         .ok_or_else(|| Fault::new(6, format!("a film of {width} × {height} has too many rows of {bits} bits")))?;

@@ -67,10 +67,7 @@ impl Received {
         let place = cursor.at();
         let row_bits = cursor.number16("the bits of a row")?;
         if !(1..=LONGEST_ROW).contains(&usize::from(row_bits)) {
-            return Err(Fault::new(
-                place,
-                format!("rows of {row_bits} bits were sent, but a row has 1 to {LONGEST_ROW}"),
-            ));
+            return Err(Fault::new(place, format!("rows of {row_bits} bits were sent, but a row has 1 to 2,040")));
         }
         let count = cursor.number32("the number of rows")?;
         let mut rows = Vec::new();

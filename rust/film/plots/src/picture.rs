@@ -134,10 +134,7 @@ mod tests {
 
     #[test]
     fn a_picture_has_the_names() {
-        let points = vec![
-            Point { k: 0, time: 3.0, is_over: false },
-            Point { k: dairyhour::MOST_LOSSES, time: LIMIT, is_over: true },
-        ];
+        let points = vec![Point { k: 0, time: 3.0, is_over: false }, Point { k: 12, time: LIMIT, is_over: true }];
         let curves = vec![Curve { name: "15 17 8 16".into(), points }];
         let svg = svg("p50", &[Panel { rows: "blank".into(), curves }]).unwrap();
         assert!(svg.starts_with("<svg") && svg.contains("blank") && svg.contains("15 17 8 16"), "{svg}");
