@@ -69,14 +69,14 @@ interrupted
 END
 }
 
-# Rattle gives a program's main nothing to end with.
+# An error that a program's main returns is its only other status.
 status_of_rowlist() {
     cat <<'END'
-A program in Rattle has no exit status to give, so rowlist ends with status 0 whatever came out: also where the input is refused,
-where it could not be read (that is an input that ends there, mostly refused by 1), and where what it prints could not be
-written, as on a full disk. A whole answer is a line "count N" with N lines behind it, or the line "refused N" alone, each ended by
-a newline; anything else, nothing at all too, is an answer that was lost. A script compares them before it takes an answer, or
-lets \fBfilm-row\fP(1) list the row, which has exit statuses.
+rowlist ends with status 0 whatever came out, also where the input is refused. Where the input could not be read, or what it prints
+could not be written, as on a full disk, it names the error on standard error and ends with status 1. A whole answer is a line
+"count N" with N lines behind it, or the line "refused N" alone, each ended by a newline; anything else, nothing at all too, is an
+answer that was lost. A script compares them before it takes an answer, or lets \fBfilm-row\fP(1) list the row, whose exit statuses
+say what came out.
 
 END
 }
