@@ -2,6 +2,7 @@
 //! ROWLIST, which `tools/test.sh` sets; without that it is looked for where `rt run` puts it, and where it is not
 //! there nothing is tested.
 
+use std::fs::File;
 use std::io::Write;
 use std::path::{Path, PathBuf};
 use std::process::{Command, Stdio};
@@ -93,6 +94,23 @@ fn input(received: &Received) -> Vec<u8> {
 fn the_example() {
     assert_eq!(expected(&EXAMPLE), PRINTED);
     agree(&program(), &EXAMPLE);
+}
+
+/// What cannot be read, and an answer that cannot be written, end the program with another status, and nothing is printed.
+#[test]
+fn failing_streams() {
+    let Some(program) = program() else { return };
+    let run = |stdin: Stdio, stdout: Stdio| {
+        let mut command = Command::new(&program);
+        command.stdin(stdin).stdout(stdout).stderr(Stdio::piped()).output().expect("the program runs")
+    };
+    let folder = File::open(env!("CARGO_MANIFEST_DIR")).expect("a folder");
+    let unread = run(folder.into(), Stdio::piped());
+    assert_eq!((unread.status.code(), unread.stdout.is_empty(), unread.stderr.is_empty()), (Some(1), true, false));
+    if let Ok(full) = File::options().write(true).open("/dev/full") {
+        let unwritten = run(Stdio::null(), full.into());
+        assert_eq!((unwritten.status.code(), unwritten.stderr.is_empty()), (Some(1), false));
+    }
 }
 
 /// Stored inputs and what is printed for them, now and in years: `count=2,36,39` stands for three lines.
