@@ -1,5 +1,7 @@
 // One column of a row whose heavy blocks are read from the received row at a loss state: whether it can have its sum,
 // and in how many chunks it can differ from another row. Contracts cite specs/Column.antt.
+#![tactic(auto)]
+
 ghost use Rattle.std.specs.Prelude.{◌≡◌, true, cond, List, ℕ, ◌+◌, ◌-◌, ◌*◌, ◌%◌, ◌<◌, ◌≤◌, eqb, length, get_or, drop};
 ghost use Rattle.bits.specs.Bits.{AllBits, longest, longest_line, number};
 ghost use Rattle.message.specs.Layout.{legal};
@@ -11,7 +13,7 @@ ghost use Rattle.column.specs.Column.{PlaceOf, readable, Placed, Within, AsRead}
 use message::Layout;
 
 // The blocks with two losses or more: each block, and the losses up to its end.
-#[derive(Drop)]
+#[derive(Clone, Copy)]
 pub struct Heavy {
     pub n: usize,
     pub block: [u8; states::MOST_HEAVY],

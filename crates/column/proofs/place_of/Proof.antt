@@ -26,121 +26,111 @@ nowhere l size block j end left next never =
     }
 
 -- where the function starts, seen from where the block is known
-abbrev begin : tie.After-struct-known → tie.Start
+abbrev begin : tie.After-struct_known-1 → tie.Start
 begin c = c.before.before.before.before.before
 
 -- the chunk lies within its row
-lies : (c : tie.After-struct-known) → let a = (begin c).args in Lies a.l c.before.wide2.result a.j
+lies : (c : tie.After-struct_known-1) → let a = (begin c).args in Lies a.l c.wide-2.result a.j
 lies c =
     let s = begin c in
     let a = s.args in
-    subst (λ (i : ℕ). Lies a.l i a.j) (sym c.before.wide2.ensures)
-    (chunk_lies a.l s.pre.0.0 a.block a.j s.pre.1.0 s.pre.1.1)
+    subst (λ (i : ℕ). Lies a.l i a.j) (sym c.wide-2.ensures)
+    (chunk_lies a.l s.requires.0.0 a.block a.j s.requires.1.0 s.requires.1.1)
 
 -- where its bits would start
-from_is : (c : tie.After-wide3) → let k = c.before in let a = (begin k).args in
-    let from = (k.before.wide2.result * a.l.l2 + a.j) * a.l.nc + c.wide3.result in
+from_is : (c : tie.After-wide-3) → let k = c.before in let a = (begin k).args in
+    let from = (k.before.wide-2.result * a.l.l2 + a.j) * a.l.nc + c.wide-3.result in
     (from ≡ start_at a.l a.block a.j a.left) × (from ≤ longest + 255)
 from_is c =
-    let k = c.before in
-    let s = begin k in
+    let s = begin c.before in
     let a = s.args in (
-      ap₂ (λ (u v : ℕ). (u * a.l.l2 + a.j) * a.l.nc + v) k.before.wide2.ensures c.wide3.ensures,
-      omega (arith, (lies k).in_row, c.wide3.ensures, s.fits.left),
+      ap₂ (λ (u v : ℕ). (u * a.l.l2 + a.j) * a.l.nc + v) c.wide-2.ensures c.wide-3.ensures,
+      omega (arith, (lies c.before).in_row, c.wide-3.ensures, s.ranges.left.fits),
     )
 
-returns : tie.Need-returns
+returns : tie.Need-returns-then-left-next
 returns c =
-    let a = c.before.args in
+    let a = c.args in
     nowhere a.l a.size a.block a.j a.end a.left a.next
-    (λ r. omega (arith, r.falls, c.if1.true))
+    (λ r. omega (arith, r.falls, c.if-left-next.true))
 
 wide-requires : tie.Need-wide-requires
 wide-requires c κs = search rules
 
-returns-2 : tie.Need-returns-2
+returns-2 : tie.Need-returns-then-nc-wide
 returns-2 c =
-    let a = c.before.before.before.args in
+    let a = c.args in
     nowhere a.l a.size a.block a.j a.end a.left a.next
-    (λ r. omega (arith, r.few, c.if2.true, c.before.wide.ensures))
+    (λ r. omega (arith, r.few, c.if-nc-wide.true, c.wide.ensures))
 
 wide-requires-2 : tie.Need-wide-requires-2
 wide-requires-2 c κs = search rules
 
-mul-from : tie.Need-overflow-mul-from
+mul-from : tie.Need-overflow_mul-from
 mul-from c = record { fits = omega (arith, (lies c).low) }
 
-add-from : tie.Need-overflow-add-from
+add-from : tie.Need-overflow_add-from
 add-from c = record { fits = omega (arith, (lies c).low) }
 
-mul-from-2 : tie.Need-overflow-mul-from-2
+mul-from-2 : tie.Need-overflow_mul-from-2
 mul-from-2 c = record { fits = omega (arith, (lies c).in_row) }
 
 wide-requires-3 : tie.Need-wide-requires-3
 wide-requires-3 c κs = search rules
 
-add-from-2 : tie.Need-overflow-add-from-2
+add-from-2 : tie.Need-overflow_add-from-2
 add-from-2 c = record { fits = omega (arith, (from_is c).1) }
 
-wide-requires-4 : tie.Need-wide-requires-4
+wide-requires-4 : tie.Need-wide-before-requires
 wide-requires-4 c κs = search rules
 
-returns-3 : tie.Need-returns-3
+returns-3 : tie.Need-returns-then-from-before
 returns-3 c =
-    let e = c.before in
-    let f = e.before in
-    let a = (begin f.before).args in
+    let a = (begin c.before.before.before).args in
     nowhere a.l a.size a.block a.j a.end a.left a.next
-    (λ r. omega (arith, r.starts, c.if3.true, e.wide4.ensures, (from_is f).0))
+    (λ r. omega (arith, r.starts, c.if-from-before.true, c.wide-before.ensures, (from_is c.before.before).0))
 
-add_ok : tie.Need-overflow-add-ok
+add_ok : tie.Need-overflow_add-ok
 add_ok c =
-    let f = c.before.before in
-    let s = begin f.before in
-    record { fits = omega (arith, (from_is f).1, (legal_bounds s.args.l s.pre.0.0).nc_high) }
+    let s = begin c.before.before.before in
+    record { fits = omega (arith, (from_is c.before.before).1, (legal_bounds s.args.l s.requires.0.0).nc_high) }
 
-wide-requires-5 : tie.Need-wide-requires-5
+wide-requires-5 : tie.Need-wide-requires-4
 wide-requires-5 c κs = search rules
 
-add-ok-2 : tie.Need-overflow-add-ok-2
+add-ok-2 : tie.Need-overflow_add-ok-2
 add-ok-2 c =
-    let k = c.before.before.before.before in
-    let two = k.before.before in
-    let s = begin k in
+    let s = begin c.before.before.before.before in
     record {
       fits = omega (
         arith,
-        c.wide5.ensures,
-        s.pre.0.1,
-        two.if2.false,
-        two.before.wide.ensures,
-        (legal_bounds s.args.l s.pre.0.0).nc_high,
+        c.wide-4.ensures,
+        s.requires.0.1,
+        c.if-nc-wide.false,
+        c.wide.ensures,
+        (legal_bounds s.args.l s.requires.0.0).nc_high,
       );
     }
 
-returns-4 : tie.Need-returns-4
+returns-4 : tie.Need-returns
 returns-4 c =
-    let e = c.before.before in
-    let f = e.before in
-    let k = f.before in
-    let two = k.before.before in
-    let s = begin k in
+    let s = begin c.before.before.before.before in
     let a = s.args in
-    let from : ℕ = (k.before.wide2.result * a.l.l2 + a.j) * a.l.nc + f.wide3.result in
-    let reach : ℕ = from - e.wide4.result + a.l.nc in
-    let room : ℕ = a.size + c.wide5.result in
-    let is = (from_is f).0 in
+    let from : ℕ = (c.wide-2.result * a.l.l2 + a.j) * a.l.nc + c.wide-3.result in
+    let reach : ℕ = from - c.wide-before.result + a.l.nc in
+    let room : ℕ = a.size + c.wide-4.result in
+    let is = (from_is c.before.before.before).0 in
     record {
       found = λ r.
-          le-leb reach room (omega (arith, e.wide4.ensures, c.wide5.ensures, r.there, r.falls, r.starts));
-      at_just = λ ok. omega (arith, e.wide4.ensures);
+          le-leb reach room (omega (arith, c.wide-before.ensures, c.wide-4.ensures, r.there, r.falls, r.starts));
+      at_just = λ ok. omega (arith, c.wide-before.ensures);
       lost_just = λ ok. refl;
-      few = λ ok. omega (arith, two.if2.false, two.before.wide.ensures);
-      within = λ ok. omega (arith, leb-true reach room ok, c.wide5.ensures);
+      few = λ ok. omega (arith, c.if-nc-wide.false, c.wide.ensures);
+      within = λ ok. omega (arith, leb-true reach room ok, c.wide-4.ensures);
     }
 
-pub place-of-spec : {M : Type 1} → statement M
-place-of-spec =
+pub place_of_spec : {M : Type 1} → statement M
+place_of_spec =
     tie.close
     (tie.spec
     returns
