@@ -1,5 +1,7 @@
 // The open cells recovered from the checks: at most as many erased chunks as there are checks have one content only.
 // Contracts cite specs/Recover.antt, and the specs of found and of cells.
+#![tactic(auto)]
+
 ghost use Rattle.std.specs.Prelude.{◌≡◌, true, false, ℕ, ◌+◌, ◌*◌, ◌%◌, ◌^◌, ◌<◌, ◌≤◌, List, length, get_or};
 ghost use Rattle.field.specs.Field.{Elements};
 ghost use Rattle.field.specs.Tables.{powers, Logs};
@@ -15,7 +17,7 @@ use message::Layout;
 const PLACES: usize = 255;
 
 // The places of erased chunks, in row order counted from 0, each once.
-#[derive(Drop)]
+#[derive(Clone, Copy)]
 pub struct Erased {
     pub n: usize,
     pub places: [u8; 12],

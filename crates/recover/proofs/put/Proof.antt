@@ -9,56 +9,52 @@ use Rattle.recover.proofs.Spots.{put_next}
 use Rattle.recover.proofs.put.Statement.{statement}
 use Rattle.recover.proofs.put.Tie as tie
 
-abbrev invariant-loop : tie.invariant-loop
+abbrev invariant-loop : tie.invariant-loop-w
 invariant-loop row₀ contents n places w₀ row w = ((w ≤ n) × (length row ≡ length row₀)) × PutAt w places contents row₀ row
 
-abbrev decreases-loop : tie.decreases-loop
+abbrev decreases-loop : tie.decreases-loop-w
 decreases-loop row₀ contents n places w₀ row w = n - w
 
-loop-holds : tie.Need-loop-init invariant-loop decreases-loop
+loop-holds : tie.Need-loop-w-init invariant-loop decreases-loop
 loop-holds c = search rules
 
-array-read-wide : tie.Need-array-read-wide invariant-loop decreases-loop
+array-read-wide : tie.Need-bounds-places-w invariant-loop decreases-loop
 array-read-wide c = search rules
 
-wide-requires : tie.Need-wide-requires invariant-loop decreases-loop
+wide-requires : tie.Need-wide-at-requires invariant-loop decreases-loop
 wide-requires c κs = search rules
 
-array-read-row : tie.Need-array-read-row invariant-loop decreases-loop
+array-read-row : tie.Need-bounds-contents-w invariant-loop decreases-loop
 array-read-row c = search rules
 
-slice-write-row : tie.Need-slice-write-row invariant-loop decreases-loop
+slice-write-row : tie.Need-bounds-row-at invariant-loop decreases-loop
 slice-write-row c =
-    let o = c.before.before in
-    let s = o.before.before.before in
-    omega (arith, s.requires.1.inside o.loop.w c.before.loop-test.true, c.wide.ensures, o.loop.invariant.0.1)
+    omega (arith, c.requires.1.inside c.loop-w.w c.loop-w-test.true, c.wide-at.ensures, c.loop-w.invariant.0.1)
 
-add-w : tie.Need-overflow-add-w invariant-loop decreases-loop
+add-w : tie.Need-overflow_add-w invariant-loop decreases-loop
 add-w c = search rules
 
-loop-less : tie.Need-loop-smaller invariant-loop decreases-loop
+loop-less : tie.Need-loop-w-smaller invariant-loop decreases-loop
 loop-less c = search rules
 
-loop-again : tie.Need-loop-preserved invariant-loop decreases-loop
+loop-again : tie.Need-loop-w-preserved invariant-loop decreases-loop
 loop-again c =
-    let s = c.before.before.before.before.before in
-    let o = c.before.before.loop in
-    let e = s.args.e in
-    let spots : Spots e.n (length o.row) e.places = rw o.invariant.0.1 s.requires.1 in
-    let turn = c.before.loop-test.true in
-    let next = put_next e.places s.args.t3 s.args.row.now e.n o.w o.row spots turn o.invariant.1 in (
-      (omega arith, length-set o.row c.wide.result (get_or s.args.t3 o.w 0) ∙ o.invariant.0.1),
-      rw c.wide.ensures next,
+    let o = c.loop-w in
+    let e = c.args.e in
+    let spots : Spots e.n (length o.row) e.places = rw o.invariant.0.1 c.requires.1 in
+    let turn = c.loop-w-test.true in
+    let next = put_next e.places c.args.contents c.args.row.now e.n o.w o.row spots turn o.invariant.1 in (
+      (omega arith, length-set o.row c.wide-at.result (get_or c.args.contents o.w 0) ∙ o.invariant.0.1),
+      rw c.wide-at.ensures next,
     )
 
-same_length : tie.Need-same-length invariant-loop decreases-loop
-same_length c = c.before.loop.invariant.0.1
+same_length : tie.Need-shape_of-row invariant-loop decreases-loop
+same_length c = c.loop-w.invariant.0.1
 
 returns : tie.Need-returns invariant-loop decreases-loop
 returns c =
-    let s = c.before.before.before.before in
-    let o = c.before.loop in
-    let last : s.args.e.n ≡ o.w = omega arith in
+    let o = c.loop-w in
+    let last : c.args.e.n ≡ o.w = omega arith in
     rw last o.invariant.1
 
 pub put_spec : {M : Type 1} → statement M

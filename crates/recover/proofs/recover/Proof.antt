@@ -48,28 +48,28 @@ spots s row same =
     }
 
 -- where the table is made and where the function starts, seen from where the logs are filled
-abbrev tabled : tie.After-fill-logs → tie.After-table
+abbrev tabled : tie.After-fill_logs → tie.After-table-t
 tabled c = c.before.before.before
 
-abbrev entry : tie.After-fill-logs → tie.Start
+abbrev entry : tie.After-fill_logs → tie.Start
 entry c = (tabled c).before.before.before
 
 -- where the erased chunks are cleared: where the logs are filled, and the row
-abbrev logged : tie.After-put → tie.After-fill-logs
+abbrev logged : tie.After-put → tie.After-fill_logs
 logged c = c.before.before.before
 
 abbrev cleared : tie.After-put → List ℕ
-cleared c = c.put.new.0
+cleared c = c.put.new.row
 
 -- where the row is in the field: where its erased chunks are cleared, the function's start, and the chunks
 abbrev emptied : tie.After-reduce → tie.After-put
-emptied c = c.before.before.before.before.before.before.before
+emptied c = c.before.before.before.before.before.before
 
 abbrev start : tie.After-reduce → tie.Start
 start c = entry (logged (emptied c))
 
 abbrev base : tie.After-reduce → List ℕ
-base c = c.reduce.new.1.1.0
+base c = c.reduce.new.out
 
 -- both are long enough
 same : (c : tie.After-put) → length (cleared c) ≡ length (entry (logged c)).args.row.now
@@ -90,129 +90,119 @@ by-chunk c =
     let l = (start c).args.l in
     rw (sub-zero (l.l1 * l.l2)) at c.reduce.ensures
 
-table-requires : tie.Need-table-requires
+table-requires : tie.Need-table-t-requires
 table-requires c κs = search rules
 
-slice-aggregate-fill-logs : tie.Need-slice-aggregate-fill-logs
+slice-aggregate-fill-logs : tie.Need-slice_bounds-fill_logs-end
 slice-aggregate-fill-logs c = search rules
 
-fill-logs-requires : tie.Need-fill-logs-requires
+fill-logs-requires : tie.Need-fill_logs-requires
 fill-logs-requires c κs =
-    let t = c.before.before in
-    let s = t.before.before.before in
-    let b = bounds s in
-    (t.table.ensures, b.nc_low, b.nc_high, (few s).1)
+    let b = bounds c.before.before.before.before.before in
+    (c.table-t.ensures, b.nc_low, b.nc_high, (few c.before.before.before.before.before).1)
 
 put-requires : tie.Need-put-requires
 put-requires c κs =
     let s = entry c.before.before in
-    (s.pre.1.1.0.0, spots s s.args.row.now refl)
+    (s.requires.1.1.0.0, spots s s.args.row.now refl)
 
-mul-count : tie.Need-overflow-mul-count
+mul-count : tie.Need-overflow_mul-count
 mul-count c =
     let s = entry (logged c.before.before.before) in
     record { fits = omega (arith, few s) }
 
-sub-reduce : tie.Need-overflow-sub-reduce
+sub-reduce : tie.Need-slice_bounds-reduce-count
 sub-reduce c = search rules
 
-part-reduce-start : tie.Need-slice-bounds-reduce-start
+part-reduce-start : tie.Need-slice_bounds-reduce-start
 part-reduce-start c = search rules
 
-part-reduce-end : tie.Need-slice-bounds-reduce-end
+part-reduce-end : tie.Need-slice_bounds-reduce-end
 part-reduce-end c =
-    let k = c.before.before.before.before in
-    omega (arith, same k, (entry (logged k)).requires.1.1.1.1)
+    omega (arith, same c.before.before.before, (entry (logged c.before.before.before)).requires.1.1.1.1)
 
-slice-aggregate-reduce : tie.Need-slice-aggregate-reduce
+slice-aggregate-reduce : tie.Need-slice_bounds-reduce-end-2
 slice-aggregate-reduce c = search rules
 
 reduce-requires : tie.Need-reduce-requires
 reduce-requires c κs =
-    let k = c.before.before.before.before.before.before in
-    let s = entry (logged k) in
+    let s = entry (logged c.before.before.before.before.before) in
     let b = bounds s in
     let l = s.args.l in
-    ((b.nc_low, b.nc_high), omega (arith, length-take (l.l1 * l.l2 - 0) (cleared k), few s))
+    ((b.nc_low, b.nc_high), omega (arith, length-take (l.l1 * l.l2 - 0) (cleared c.before.before.before.before.before), few s))
 
-slice-aggregate-missing : tie.Need-slice-aggregate-missing
+slice-aggregate-missing : tie.Need-slice_bounds-missing-end
 slice-aggregate-missing c = search rules
 
-sub-missing : tie.Need-overflow-sub-missing
+sub-missing : tie.Need-slice_bounds-missing-count
 sub-missing c = search rules
 
-part-missing-start : tie.Need-slice-bounds-missing-start
+part-missing-start : tie.Need-slice_bounds-missing-start
 part-missing-start c = search rules
 
-part-missing-end : tie.Need-slice-bounds-missing-end
+part-missing-end : tie.Need-slice_bounds-missing-end-2
 part-missing-end c =
-    let k = c.before.before.before.before in
-    omega (arith, few (start k), long k)
+    omega (arith, few (start c.before.before.before), long c.before.before.before)
 
-missing-requires : tie.Need-missing-requires
+missing-requires : tie.Need-missing-s-requires
 missing-requires c κs =
-    let k = c.before.before.before.before.before in
-    let f = logged (emptied k) in
-    let s = start k in
+    let f = logged (emptied c.before.before.before.before) in
+    let s = start c.before.before.before.before in
     let l = s.args.l in
     let all = sub-zero (l.l1 * l.l2) in
-    let low = length-take (l.l1 * l.l2) (base k) in (
-      (s.pre.0, s.pre.1.1.0.1.1),
+    let low = length-take (l.l1 * l.l2) (base c.before.before.before.before) in (
+      (s.requires.0, s.requires.1.1.0.1.1),
       (
-        ((tabled f).table.ensures, f.fill-logs.ensures.1, s.pre.1.0),
-        rw all (reduced_elements l.nc (l.l1 * l.l2) (cleared (emptied k)) (base k) (enough k) (by-chunk k), omega (arith, low, few s)),
+        ((tabled f).table-t.ensures, f.fill_logs.ensures.1, s.requires.1.0),
+        rw all (reduced_elements l.nc (l.l1 * l.l2) (cleared (emptied c.before.before.before.before)) (base c.before.before.before.before) (enough c.before.before.before.before) (by-chunk c.before.before.before.before), omega (arith, low, few s)),
       ),
     )
 
-slice-aggregate-solve : tie.Need-slice-aggregate-solve
+slice-aggregate-solve : tie.Need-slice_bounds-solve-end
 slice-aggregate-solve c = search rules
 
 -- where `reduce` has answered, seen from where `missing` has answered
-abbrev reduced : tie.After-missing → tie.After-reduce
-reduced c = c.before.before.before.before.before.before
+abbrev reduced : tie.After-missing-s → tie.After-reduce
+reduced c = c.before.before.before.before.before
 
-solve-requires : tie.Need-solve-requires
+solve-requires : tie.Need-solve-contents-requires
 solve-requires c κs =
-    let m = c.before.before.before in
-    let k = reduced m in
+    let k = reduced c.before.before.before in
     let f = logged (emptied k) in
     let s = start k in
     let b = bounds s in (
-      ((tabled f).table.ensures, b.nc_low, b.nc_high, f.fill-logs.ensures.1),
-      (omega arith, s.pre.1.1.0.0, places s, m.missing.ensures.0),
+      ((tabled f).table-t.ensures, b.nc_low, b.nc_high, f.fill_logs.ensures.1),
+      (omega arith, s.requires.1.1.0.0, places s, c.missing-s.ensures.0),
     )
 
 put-requires-2 : tie.Need-put-requires-2
 put-requires-2 c κs =
     let k = emptied (reduced c.before.before.before.before.before) in
     let s = entry (logged k) in
-    (s.pre.1.1.0.0, spots s (cleared k) (same k))
+    (s.requires.1.1.0.0, spots s (cleared k) (same k))
 
-same_length : tie.Need-same-length
+same_length : tie.Need-shape_of-row
 same_length c = search rules
 
 returns : tie.Need-returns
 returns c =
-    let p = c.before.before in
-    let v = p.before.before in
-    let m = v.before.before.before.before in
-    let k = reduced m in
+    let k = reduced c.before.before.before.before.before.before.before.before in
     let e = emptied k in
     let s = start k in
     let a = s.args in
     let all = sub-zero (a.l.l1 * a.l.l2) in
     let low : a.l.l1 * a.l.l2 ≤ length (base k) = omega (arith, long k, few s) in (
-      put_same e.put.ensures p.put2.ensures,
+      put_same e.put.ensures c.put-2.ensures,
       λ cells collected y x given sent under.
           solved a.l a.numbers.now y x a.row.now cells a.e.n a.e.places given sent under collected
           (replicate 12 0) (cleared e) (base k) low (zeros-at 12) e.put.ensures
           (reduced_at a.l.nc (a.l.l1 * a.l.l2) (cleared e) (base k) (enough k) (by-chunk k))
-          m.missing.result v.solve.result p.put2.new.0 s.pre.1.1.0.1.1
-          (rw all at m.missing.ensures.1) v.solve.ensures.1 p.put2.ensures,
+          c.missing-s.result c.solve-contents.result c.put-2.new.row s.requires.1.1.0.1.1
+          (rw all at c.missing-s.ensures.1) c.solve-contents.ensures.1 c.put-2.ensures,
     )
 
-pub recover-spec : {M : Type 1} → statement M
-recover-spec =
+pub recover_spec : {M : Type 1} → statement M
+recover_spec =
     tie.close
     (tie.spec
     table-requires
