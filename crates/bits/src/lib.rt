@@ -219,7 +219,7 @@ fn start_of(n: usize, at: usize) -> usize
 }
 
 // Bits on their way into packed bytes: so many bytes are whole, and the bits behind them are held as a number.
-#[derive(Drop)]
+#[derive(Clone, Copy)]
 pub struct Filler {
     pub at: usize,
     pub held: usize,
@@ -264,13 +264,13 @@ impl Filler {
 }
 
 // A place among bits.
-#[derive(Drop)]
+#[derive(Clone, Copy)]
 pub struct BitCursor {
     pub at: usize,
 }
 
 // A field that was read, and the cursor after it.
-#[derive(Drop)]
+#[derive(Clone, Copy)]
 pub struct Field {
     pub value: u16,
     pub next: BitCursor,

@@ -11,7 +11,7 @@ use cells::Cells;
 use message::Layout;
 
 // Short chunks of one block, cut out of the row: whether they can be weighed, and a column behind all of theirs.
-#[derive(Drop)]
+#[derive(Clone, Copy)]
 pub struct Cut {
     pub ok: bool,
     pub next: usize,

@@ -12,7 +12,7 @@ use weigh::Span;
 
 // What is seen of a chunk that loses bits: whether it can be matched, where the bits start that it takes, their ones, and how many more ones
 // it can have, at least and at most.
-#[derive(Drop)]
+#[derive(Clone, Copy)]
 pub struct View {
     pub ok: bool,
     pub at: usize,

@@ -74,7 +74,7 @@ pub fn light_sums(
 }
 
 // A chunk that is matched against the received row: whether it can be, where its bits start, and how many it lost.
-#[derive(Drop)]
+#[derive(Clone, Copy)]
 pub struct Place {
     pub ok: bool,
     pub at: usize,
@@ -111,7 +111,7 @@ pub fn place_of(l: Layout, size: usize, block: u8, j: usize, end: u8, left: u8, 
 }
 
 // The chunks of the heavy blocks in a column: whether they can be matched against the received row, and where.
-#[derive(Drop)]
+#[derive(Clone, Copy)]
 pub struct Found {
     pub ok: bool,
     pub chunks: weigh::Chunks,

@@ -100,7 +100,7 @@ pub fn contents(nc: usize, y: &[u8], place: usize, a: u8, out: &mut [u8]) -> usi
 
 // What the sum of a line asks of one of its chunks: the sum of the rest of the line and the total of the chunk's positions, the
 // first of which is given, are so much modulo a number.
-#[derive(Drop)]
+#[derive(Clone, Copy)]
 pub struct Ask {
     pub rest: usize,
     pub first: usize,

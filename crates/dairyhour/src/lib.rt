@@ -15,7 +15,7 @@ use vt::Mended;
 
 // dh_answer: the refusal's number, or 0 and the value.
 #[repr(C)]
-#[derive(Drop)]
+#[derive(Clone, Copy)]
 pub struct Answer {
     pub refusal: u32,
     pub value: usize,
@@ -23,7 +23,7 @@ pub struct Answer {
 
 // What dh_list answers, a dh_answer too: the refusal's number, or 0 and the number of consistent rows.
 #[repr(C)]
-#[derive(Drop)]
+#[derive(Clone, Copy)]
 pub struct ListAnswer {
     pub refusal: u32,
     pub count: usize,
@@ -31,7 +31,7 @@ pub struct ListAnswer {
 
 // dh_layout: the refusal's number, or 0 and the layout.
 #[repr(C)]
-#[derive(Drop)]
+#[derive(Clone, Copy)]
 pub struct LayoutAnswer {
     pub refusal: u32,
     pub l1: usize,

@@ -17,7 +17,7 @@ use rows::Kept;
 const FUEL: usize = 20000;
 
 // Where a guess stands: block i is read from place p of the received row on.
-#[derive(Drop)]
+#[derive(Clone, Copy)]
 pub struct Stand {
     pub i: usize,
     pub p: usize,
@@ -25,7 +25,7 @@ pub struct Stand {
 
 // What is tried in a block: the run that ends at place r of the received row is e bits longer, and an earlier one,
 // which ends at place q, is g bits longer.
-#[derive(Drop)]
+#[derive(Clone, Copy)]
 pub struct Try {
     pub q: usize,
     pub g: usize,
@@ -34,7 +34,7 @@ pub struct Try {
 }
 
 // Whether a consistent row was found, and the fuel that is left.
-#[derive(Drop)]
+#[derive(Clone, Copy)]
 struct Outcome {
     found: bool,
     fuel: usize,

@@ -92,7 +92,7 @@ pub fn line_sum(nc: usize, start: usize, stride: usize, count: usize, vs: &[u8])
 }
 
 // A chunk that was mended in its line: whether it can be, and its number.
-#[derive(Drop)]
+#[derive(Clone, Copy)]
 pub struct Mended {
     pub ok: bool,
     pub value: u8,

@@ -12,7 +12,7 @@ use message::{Layout, Read};
 use refusal::Refusal;
 
 // What listing answers: the number of consistent rows, or a refusal.
-#[derive(Drop)]
+#[derive(Clone, Copy)]
 pub enum Listed {
     Count(usize),
     Refused(Refusal),

@@ -21,7 +21,7 @@ const MOST_COUNTS: usize = 730;
 
 // What is prepared: the shape of the loss states; whether their marks are kept; and whether no row comes through them but those near
 // another row.
-#[derive(Drop)]
+#[derive(Clone, Copy)]
 pub struct Prepared {
     pub shape: Shape,
     pub kept: bool,

@@ -21,14 +21,14 @@ pub struct Layout {
 pub const MOST_NUMBERS: usize = 272;
 
 // What writing answers: the message's length in bytes, or a refusal.
-#[derive(Drop)]
+#[derive(Clone, Copy)]
 pub enum Written {
     Length(usize),
     Refused(Refusal),
 }
 
 // What reading answers: the message's layout, or a refusal.
-#[derive(Drop)]
+#[derive(Clone, Copy)]
 pub enum Read {
     Layout(Layout),
     Refused(Refusal),

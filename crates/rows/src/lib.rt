@@ -9,7 +9,7 @@ ghost use Rattle.bits.specs.Bits.{cut};
 ghost use Rattle.rows.specs.Slice.{held_in, Written, place as placed};
 
 // How many rows the list slice holds, and whether more were found than fit.
-#[derive(Drop)]
+#[derive(Clone, Copy)]
 pub struct Kept {
     pub count: usize,
     pub more: bool,

@@ -19,14 +19,14 @@ use rows::Kept;
 use tables::Table;
 
 // One count for each block, and their sum.
-#[derive(Drop)]
+#[derive(Clone, Copy)]
 pub struct Pattern {
     pub counts: [u8; bits::MOST_IN_LINE],
     pub total: usize,
 }
 
 // The heavy blocks of a pattern, and the losses of each.
-#[derive(Drop)]
+#[derive(Clone, Copy)]
 struct Heavies {
     heavy: Heavy,
     left: [u8; 6],

@@ -18,7 +18,7 @@ pub const LEFTS: usize = 13;
 pub const ENTRIES: usize = 78;
 
 // The loss states: how many losses each block has at most, what one counts in the number of a state, and how many states there are.
-#[derive(Drop)]
+#[derive(Clone, Copy)]
 pub struct Shape {
     pub n: usize,
     pub size: [u8; MOST_HEAVY],

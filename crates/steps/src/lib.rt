@@ -50,7 +50,7 @@ fn above(there: u8, apart: u8) -> u8
 
 // Where a sweep stands: the number of the state that the choices picked so far add up to, what their chunks bring, and how many of these can
 // be others than in z.
-#[derive(Drop)]
+#[derive(Clone, Copy)]
 pub struct Stand {
     pub q: usize,
     pub span: Span,

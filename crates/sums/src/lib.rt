@@ -61,7 +61,7 @@ pub fn with_each(
 
 // What stands beside a chunk in its column: the set of what the others bring, modulo a number; where the chunk's first bit stands; and what
 // they are to bring with it.
-#[derive(Drop)]
+#[derive(Clone, Copy)]
 pub struct Beside {
     pub others: u64,
     pub modulus: usize,

@@ -38,14 +38,14 @@ use states::Shape;
 
 // A table as it is made: the losses that each heavy block has left to share, and the short chunks so far. The chunks in hand are lent beside
 // it: a step writes those that it decides, and leaves the decided ones as they are.
-#[derive(Drop)]
+#[derive(Clone, Copy)]
 pub struct Table {
     pub left: [u8; 6],
     pub cells: Cells,
 }
 
 // What sharing out answers: whether chunks with that many losses can be read, and the table with them.
-#[derive(Drop)]
+#[derive(Clone, Copy)]
 pub struct Share {
     pub ok: bool,
     pub table: Table,

@@ -13,7 +13,7 @@ use rows::Kept;
 
 // A line of chunks with one of them marked: its first chunk, how far its chunks stand apart, how many they are, which one is
 // marked, and which of the numbers given is the line's sum.
-#[derive(Drop)]
+#[derive(Clone, Copy)]
 pub struct Line {
     pub start: usize,
     pub stride: usize,
@@ -23,7 +23,7 @@ pub struct Line {
 }
 
 // What a turn leaves: whether a row can be under the state at all, whether a cell was found, and the cells afterwards.
-#[derive(Drop)]
+#[derive(Clone, Copy)]
 pub struct Turn {
     pub ok: bool,
     pub any: bool,

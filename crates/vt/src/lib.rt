@@ -33,7 +33,7 @@ const WEIGHTS: [u16; 256] = [
 ];
 
 // What one pass over a string finds: the total of the positions of its ones, and their number.
-#[derive(Drop)]
+#[derive(Clone, Copy)]
 pub struct Weight {
     pub total: usize,
     pub ones: usize,
@@ -100,7 +100,7 @@ pub fn weigh(bits: &[u8]) -> Weight
 }
 
 // Where a deleted bit goes back, and which bit it is.
-#[derive(Drop)]
+#[derive(Clone, Copy)]
 struct Place {
     at: usize,
     bit: u8,
@@ -169,7 +169,7 @@ pub fn mend_bits(s: usize, bits: &[u8], out: &mut [u8])
 }
 
 // What mending answers: that it is done, or why it is refused.
-#[derive(Drop)]
+#[derive(Clone, Copy)]
 pub enum Mended {
     Done,
     Refused(Refusal),
@@ -198,7 +198,7 @@ fn check(w: usize, s: usize, bits: &[u8], room: usize) -> Mended
 }
 
 // A part of packed bits, within one byte: the byte, how many of its bits, the ones from its first bit on, and those behind it.
-#[derive(Drop)]
+#[derive(Clone, Copy)]
 struct Part {
     byte: usize,
     size: usize,

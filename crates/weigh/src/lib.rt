@@ -62,7 +62,7 @@ pub fn look(y: &[u8], totals: &[u32], counts: &[u16], p: usize, w: usize) -> See
 }
 
 // How many ones more than were received a chunk can have, at least and at most.
-#[derive(Drop)]
+#[derive(Clone, Copy)]
 pub struct Extra {
     pub first: usize,
     pub last: usize,
