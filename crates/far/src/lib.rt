@@ -1,5 +1,7 @@
 // In how many chunks of a heavy block a row can differ from another one, as its losses are shared among its columns.
 // Contracts cite specs/Far.antt.
+#![tactic(auto)]
+
 ghost use Rattle.std.specs.Prelude.{◌≡◌, ℕ, ◌+◌, ◌*◌, ◌<◌, ◌≤◌, length, get_or};
 ghost use Rattle.states.specs.States.{lefts};
 ghost use Rattle.column.specs.Column.{Fit};

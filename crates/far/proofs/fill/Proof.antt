@@ -14,102 +14,97 @@ use Rattle.far.proofs.Walks.{covered-kept}
 use Rattle.far.proofs.fill.Statement.{statement}
 use Rattle.far.proofs.fill.Tie as tie
 
-abbrev invariant-loop : tie.invariant-loop
+abbrev invariant-loop : tie.invariant-loop-s
 invariant-loop l y numbers heavy z ahead table₀ size n stride s₀ table s =
     ((s ≤ n) × (length table ≡ length table₀))
     × ((k : ℕ) → k < s → Covered l y heavy z k (get_or size k 0) ahead (block_at l.l2 k) l.l2 table)
 
-abbrev decreases-loop : tie.decreases-loop
+abbrev decreases-loop : tie.decreases-loop-s
 decreases-loop l y numbers heavy z ahead table₀ size n stride s₀ table s = n - s
 
 -- the function's entry
-abbrev begin : tie.At-loop invariant-loop decreases-loop → tie.Start invariant-loop decreases-loop
+abbrev begin : tie.At-loop-s invariant-loop decreases-loop → tie.Start invariant-loop decreases-loop
 begin c = c.before.before.before.before.before.before
 
 -- the table of a block ends where that of the next one starts
 next_block : (columns s n : ℕ) → s < n → block_at columns s + (columns + 1) * lefts ≤ block_at columns n
 next_block columns s n h = omega (arith, mul-le-mul_right {m = s + 1} {n = n} ((columns + 1) * lefts) (omega arith))
 
-add-stride : tie.Need-overflow-add-stride invariant-loop decreases-loop
+add-stride : tie.Need-overflow_add-stride invariant-loop decreases-loop
 add-stride c = search rules
 
-mul-stride : tie.Need-overflow-mul-stride invariant-loop decreases-loop
+mul-stride : tie.Need-overflow_mul-stride invariant-loop decreases-loop
 mul-stride c =
-    let s = c.before.before.before.before.before in
-    record { fits = omega (arith, (sizes s.args.l (legal_bounds s.args.l s.requires.0.allowed)).l2_high) }
+    record { fits = omega (arith, (sizes c.args.l (legal_bounds c.args.l c.requires.0.allowed)).l2_high) }
 
-loop-holds : tie.Need-loop-init invariant-loop decreases-loop
+loop-holds : tie.Need-loop-s-init invariant-loop decreases-loop
 loop-holds c = ((omega arith, refl), λ k h. absurd (omega arith))
 
-array-read-wide : tie.Need-array-read-wide invariant-loop decreases-loop
+array-read-wide : tie.Need-bounds-size-s invariant-loop decreases-loop
 array-read-wide c = search rules
 
 wide-requires : tie.Need-wide-requires invariant-loop decreases-loop
 wide-requires c κs = search rules
 
-mul-sweep : tie.Need-overflow-mul-sweep invariant-loop decreases-loop
+mul-sweep : tie.Need-overflow_mul-s invariant-loop decreases-loop
 mul-sweep c =
-    let p = c.before.before in
-    let s = begin p in
+    let s = begin c.before.before in
     record {
       fits = omega (
         arith,
-        s.pre.1.1.1,
-        s.good.1.1.1.1.1.1.1.0,
-        next_block s.args.l.l2 p.loop.s s.args.heavy.n c.before.loop-test.true,
+        s.requires.1.1.1,
+        s.well_formed.1.1.1.1.1.1.1.0,
+        next_block s.args.l.l2 c.loop-s.s s.args.heavy.n c.loop-s-test.true,
       );
     }
 
 sweep-requires : tie.Need-sweep-requires invariant-loop decreases-loop
 sweep-requires c κs =
-    let p = c.before.before.before in
-    let s = begin p in
-    let f = s.pre.0 in
-    let h = c.before.before.loop-test.true in (
+    let s = begin c.before.before.before in
+    let f = s.requires.0 in
+    let h = c.loop-s-test.true in (
       record {
         allowed = f.allowed;
         bits = f.bits;
         short = f.short;
         few = omega (arith, f.few, h);
-        inside = f.inside p.loop.s h;
-        others = s.pre.1.0;
-        small = omega (arith, c.before.wide.ensures, s.pre.1.1.0 p.loop.s h);
+        inside = f.inside c.loop-s.s h;
+        others = s.requires.1.0;
+        small = omega (arith, c.wide.ensures, s.requires.1.1.0 c.loop-s.s h);
       },
-      omega (arith, next_block s.args.l.l2 p.loop.s s.args.heavy.n h, s.pre.1.1.1, p.loop.invariant.0.1),
+      omega (arith, next_block s.args.l.l2 c.loop-s.s s.args.heavy.n h, s.requires.1.1.1, c.loop-s.invariant.0.1),
     )
 
-add-s : tie.Need-overflow-add-s invariant-loop decreases-loop
+add-s : tie.Need-overflow_add-s invariant-loop decreases-loop
 add-s c = search rules
 
-loop-less : tie.Need-loop-smaller invariant-loop decreases-loop
+loop-less : tie.Need-loop-s-smaller invariant-loop decreases-loop
 loop-less c = search rules
 
-loop-again : tie.Need-loop-preserved invariant-loop decreases-loop
+loop-again : tie.Need-loop-s-preserved invariant-loop decreases-loop
 loop-again c =
-    let d = c.before.before.sweep.ensures in
-    let v = c.before.before.before.before in
-    let p = v.before.before in
-    let s = begin p in
+    let d = c.sweep.ensures in
+    let s = begin c.before.before.before.before.before.before in
     let a = s.args in
-    let h = v.before.loop-test.true in
-    let i = p.loop.invariant in (
+    let h = c.loop-s-test.true in
+    let i = c.loop-s.invariant in (
       (omega (arith, h), d.long ∙ i.0.1),
       below_more _ _
           (λ k r.
-          covered-kept a.l a.y.now a.heavy a.z.now k (get_or a.t6 k 0) a.ahead (block_at a.l.l2 k)
-          (s.pre.1.1.0 k (omega (arith, h))) a.l.l2 (omega arith) p.loop.table
-          c.before.before.sweep.new.1.1.1.1.1.1.1.1.0
-          (λ u m. d.before u (omega (arith, m, next_block a.l.l2 k p.loop.s r))) (i.1 k r))
-          (rw v.wide.ensures at d.covered),
+          covered-kept a.l a.y.now a.heavy a.z.now k (get_or a.size k 0) a.ahead (block_at a.l.l2 k)
+          (s.requires.1.1.0 k (omega (arith, h))) a.l.l2 (omega arith) c.loop-s.table
+          c.sweep.new.table
+          (λ u m. d.before u (omega (arith, m, next_block a.l.l2 k c.loop-s.s r))) (i.1 k r))
+          (rw c.wide.ensures at d.covered),
     )
 
-same_length : tie.Need-same-length invariant-loop decreases-loop
+same_length : tie.Need-shape_of-table invariant-loop decreases-loop
 same_length c = search rules
 
 returns : tie.Need-returns invariant-loop decreases-loop
 returns c =
-    let i = c.before.loop.invariant in
-    (λ k h. i.1 k (omega (arith, h, c.loop-test.false)), i.0.1)
+    let i = c.loop-s.invariant in
+    (λ k h. i.1 k (omega (arith, h, c.loop-s-test.false)), i.0.1)
 
 pub fill_spec : {M : Type 1} → statement M
 fill_spec =
