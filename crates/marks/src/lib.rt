@@ -1,6 +1,8 @@
 // Marks of loss states: a byte for each state of each column, which says whether a row can come through the state and in how many chunks such
 // a row can differ from another one. Here is what all passes over the marks share: the table of the losses left in each state, and marks set
 // and read. Contracts cite specs/Marks.antt and specs/Digits.antt.
+#![tactic(auto)]
+
 ghost use Rattle.std.specs.Prelude.{◌≡◌, ◌⊎◌, ℕ, ◌+◌, ◌*◌, ◌<◌, ◌≤◌, length, get_or};
 ghost use Rattle.bits.specs.Bits.{most_in_line};
 ghost use Rattle.states.specs.States.{Shaped};

@@ -17,21 +17,20 @@ use Rattle.marks.proofs.fill_digits.Lts as lts
 use Rattle.marks.proofs.put_digits.Reads as put-digits-reads
 use Rattle.states.proofs.next_left.Reads as next-left-reads
 
-abbrev invariant-loop : tie.invariant-loop
+abbrev invariant-loop : tie.invariant-loop-q
 invariant-loop shape digits₀ size left₀ q₀ digits left q =
     ((q ≤ shape.states) × (length digits ≡ length digits₀))
     × (Tabled shape q digits × (Within shape (each left) × (q < shape.states → state_of shape (each left) ≡ q)))
 
-abbrev decreases-loop : tie.decreases-loop
+abbrev decreases-loop : tie.decreases-loop-q
 decreases-loop shape digits₀ size left₀ q₀ digits left q = shape.states - q
 
-loop-holds : tie.Need-loop-init invariant-loop decreases-loop
+loop-holds : tie.Need-loop-q-init invariant-loop decreases-loop
 loop-holds c =
-    let s = c.before.before in
-    let shape = s.args.shape in
+    let shape = c.args.shape in
     let zeros : List ℕ = replicate 6 0 in
     let none : (t : ℕ) → t < shape.n → get_or zeros t 0 ≡ 0 =
-    λ t h. get_or-replicate {A = ℕ} 6 t 0 0 (omega (arith, s.requires.0)) in (
+    λ t h. get_or-replicate {A = ℕ} 6 t 0 0 (omega (arith, c.requires.0)) in (
       (omega arith, refl),
       (
         record { entry = λ left w h. absurd (omega arith) },
@@ -42,62 +41,55 @@ loop-holds c =
       ),
     )
 
-put-digits-requires : tie.Need-put-digits-requires invariant-loop decreases-loop
+put-digits-requires : tie.Need-put_digits-requires invariant-loop decreases-loop
 put-digits-requires c κs =
-    let i = c.before.before in
-    omega (arith, c.before.if1.true, i.before.loop.invariant.0.1, i.before.before.before.before.requires.1.1)
+    omega (arith, c.loop-q-test.true, c.loop-q.invariant.0.1, c.requires.1.1)
 
-next-left-requires : tie.Need-next-left-requires invariant-loop decreases-loop
+next-left-requires : tie.Need-next_left-next-requires invariant-loop decreases-loop
 next-left-requires c κs =
-    let i = c.before.before.before.before.before.before in
-    (i.before.before.before.requires.0, i.loop.invariant.1.1.0)
+    (c.requires.0, c.loop-q.invariant.1.1.0)
 
-add-q : tie.Need-overflow-add-q invariant-loop decreases-loop
+add-q : tie.Need-overflow_add-q invariant-loop decreases-loop
 add-q c = search rules
 
-loop-less : tie.Need-loop-smaller invariant-loop decreases-loop
+loop-less : tie.Need-loop-q-smaller invariant-loop decreases-loop
 loop-less c = search rules
 
-loop-again : tie.Need-loop-preserved invariant-loop decreases-loop
+loop-again : tie.Need-loop-q-preserved invariant-loop decreases-loop
 loop-again c =
-    let f = c.before.before.before in
-    let i = f.before.before.before.before in
-    let s = i.before.before.before in
-    let shape = s.args.shape in
-    let e = f.put-digits.ensures in
-    let inv = i.loop.invariant in
-    let low = f.before.before.if1.true in
-    let next = c.next-left.ensures in
+    let shape = c.args.shape in
+    let e = c.put_digits.ensures in
+    let inv = c.loop-q.invariant in
+    let low = c.loop-q-test.true in
+    let next = c.next_left-next.ensures in
     let number = inv.1.1.1 low in (
       (omega (arith, low), e.long ∙ inv.0.1),
       (
-        table-next shape s.requires.0 i.loop.digits _ i.loop.q i.loop.left inv.1.0 e
+        table-next shape c.requires.0 c.loop-q.digits _ c.loop-q.q c.loop-q.left inv.1.0 e
             (λ left w is t h.
-            state-only (each shape.size) (each i.loop.left) left shape.n inv.1.1.0 w (number ∙ is) t h),
-        (next.0, λ more. next.1 (omega (arith, more, number, s.requires.1.0.all)) ∙ omega (arith, number)),
+            state-only (each shape.size) (each c.loop-q.left) left shape.n inv.1.1.0 w (number ∙ is) t h),
+        (next.0, λ more. next.1 (omega (arith, more, number, c.requires.1.0.all)) ∙ omega (arith, number)),
       ),
     )
 
-same_length : tie.Need-same-length invariant-loop decreases-loop
-same_length c = c.before.before.loop.invariant.0.1
+same_length : tie.Need-shape_of-digits invariant-loop decreases-loop
+same_length c = c.loop-q.invariant.0.1
 
 returns : tie.Need-returns invariant-loop decreases-loop
 returns c =
-    let i = c.before.before in
-    let s = i.before.before.before in
     record {
-      long = omega (arith, i.loop.invariant.0.1, s.requires.1.1);
-      entry = λ left w t h. i.loop.invariant.1.0.entry left w
+      long = omega (arith, c.loop-q.invariant.0.1, c.requires.1.1);
+      entry = λ left w t h. c.loop-q.invariant.1.0.entry left w
           (omega (
             arith,
-            c.if1.false,
-            state-low (each s.args.shape.size) left s.args.shape.n w,
-            s.requires.1.0.all,
+            c.loop-q-test.false,
+            state-low (each c.args.shape.size) left c.args.shape.n w,
+            c.requires.1.0.all,
           )) t h;
     }
 
-pub fill-digits-spec : {M : Type 1} → statement M
-fill-digits-spec =
+pub fill_digits_spec : {M : Type 1} → statement M
+fill_digits_spec =
     tie.close
     (tie.spec
     invariant-loop
