@@ -1,4 +1,6 @@
 // What the chunk of each heavy block can be in a column, from a loss state, listed as choices. Contracts cite specs/Choices.antt.
+#![tactic(auto)]
+
 ghost use Rattle.std.specs.Prelude.{◌≡◌, true, false, ◌+◌, ◌-◌, ◌*◌, ◌<◌, ◌≤◌, length, get_or};
 ghost use Rattle.states.specs.States.{stride, each};
 ghost use Rattle.weigh.specs.Weigh.{chunk_top};

@@ -4,7 +4,7 @@ use borrow.Author.Rules.{rules}
 use Prim.Native.Nat.{ℕ, ◌+◌, ◌-◌, ◌*◌, ◌<◌, ◌≤◌}
 use mathlib.Core.Path.{◌≡◌, refl, sym, subst, ap, ◌∙◌}
 use mathlib.Core.Bool.{false≢true}
-use mathlib.Core.Logic.{◌⊎◌, inl, inr, ⊎_elim}
+use mathlib.Core.Logic.{inl, inr, ⊎_elim}
 use native.Mathlib.Nat.{mul-le-mul, mul-le-mul_right}
 use native.Mathlib.Omega.{arith}
 use borrow.Author.Tests.{not-true, not-false}
@@ -23,83 +23,82 @@ use Rattle.choices.proofs.Listing.{listed_weaken, listed-none, listed-one, ones-
 use Rattle.choices.proofs.list_share.Statement.{statement}
 use Rattle.choices.proofs.list_share.Tie as tie
 
-abbrev invariant-loop : tie.invariant-loop
+abbrev invariant-loop : tie.invariant-loop-g
 invariant-loop l y totals counts z j b left a one choices₀ t heavy c other adds seen last none g₀ end₀ choices g end =
     (Keeps t choices₀ choices × ((end + g₀ ≡ t + g) × ((g₀ ≤ g) × (g ≤ a + 1))))
     × ChoicesOf l y heavy z j b left one choices t end
     (λ next vs. (left ≡ next b + a) × (ones (digits l.nc (value_at l heavy vs j b)) < seen.ones + g))
 
-abbrev decreases-loop : tie.decreases-loop
+abbrev decreases-loop : tie.decreases-loop-g
 decreases-loop l y totals counts z j b left a one choices₀ t heavy c other adds seen last none g₀ end₀ choices g end =
     a + 1 - g
 
 -- where the function starts and where the chunk was looked at, seen from where it can be matched; and that seen from where
 -- it was compared, from a turn of the loop, and from where its span is known
-abbrev start : tie.After-look-at invariant-loop decreases-loop → tie.Start invariant-loop decreases-loop
+abbrev start : tie.After-look_at-v invariant-loop decreases-loop → tie.Start invariant-loop decreases-loop
 start c = c.before.before.before.before.before.before
 
-abbrev look : tie.Else1 invariant-loop decreases-loop → tie.After-look-at invariant-loop decreases-loop
+abbrev look : tie.Else-not-v invariant-loop decreases-loop → tie.After-look_at-v invariant-loop decreases-loop
 look c = c.before.before
 
-abbrev begin : tie.Else1 invariant-loop decreases-loop → tie.Start invariant-loop decreases-loop
+abbrev begin : tie.Else-not-v invariant-loop decreases-loop → tie.Start invariant-loop decreases-loop
 begin c = start (look c)
 
-abbrev block : tie.After-other invariant-loop decreases-loop → tie.After-wide invariant-loop decreases-loop
+abbrev block : tie.After-other-other invariant-loop decreases-loop → tie.After-wide invariant-loop decreases-loop
 block c = c.before.before.before
 
-abbrev there : tie.After-other invariant-loop decreases-loop → tie.Else1 invariant-loop decreases-loop
+abbrev there : tie.After-other-other invariant-loop decreases-loop → tie.Else-not-v invariant-loop decreases-loop
 there c = (block c).before.before
 
-abbrev other : tie.In-loop invariant-loop decreases-loop → tie.After-other invariant-loop decreases-loop
+abbrev other : tie.In-loop-g invariant-loop decreases-loop → tie.After-other-other invariant-loop decreases-loop
 other c = c.before.before.before.before
 
-abbrev seen : tie.In-loop invariant-loop decreases-loop → tie.Else1 invariant-loop decreases-loop
+abbrev seen : tie.In-loop-g invariant-loop decreases-loop → tie.Else-not-v invariant-loop decreases-loop
 seen c = there (other c)
 
-abbrev turn : tie.After-widen invariant-loop decreases-loop → tie.In-loop invariant-loop decreases-loop
+abbrev turn : tie.After-widen-span invariant-loop decreases-loop → tie.In-loop-g invariant-loop decreases-loop
 turn c = c.before.before.before.before.before
 
 -- what was seen
-viewed : (c : tie.Else1 invariant-loop decreases-loop) → let a = (begin c).args in
-    Viewed a.l a.y.now a.t5 a.j a.b a.left a.a (look c).look_at.result
-viewed c = (look c).look_at.ensures.0 (not-false _ c.if1.false)
+viewed : (c : tie.Else-not-v invariant-loop decreases-loop) → let a = (begin c).args in
+    Viewed a.l a.y.now a.heavy a.j a.b a.left a.a (look c).look_at-v.result
+viewed c = (look c).look_at-v.ensures.0 (not-false _ c.if-not-v.false)
 
 -- the chunk lies within its row
-stands : (c : tie.Else1 invariant-loop decreases-loop) (i : ℕ) → i ≡ get_or (begin c).args.t5.block (begin c).args.b 0
+stands : (c : tie.Else-not-v invariant-loop decreases-loop) (i : ℕ) → i ≡ get_or (begin c).args.heavy.block (begin c).args.b 0
     → Lies (begin c).args.l i (begin c).args.j
 stands c i is =
     let s = begin c in
-    chunk_is s.pre.0.0 s.args.b i s.pre.1.0 is
+    chunk_is s.requires.0.0 s.args.b i s.requires.1.0 is
 
 -- what a choice adds is small
-adds_low : (c : tie.After-wide2 invariant-loop decreases-loop) → let a = (begin (there c.before)).args in
-    c.wide2.result * a.one ≤ 65535
+adds_low : (c : tie.After-wide-2 invariant-loop decreases-loop) → let a = (begin (there c.before)).args in
+    c.wide-2.result * a.one ≤ 65535
 adds_low c =
     let s = begin (there c.before) in
     let a = s.args in
     let top : (a.left - a.a) * a.one ≤ a.left * a.one = mul-le-mul_right a.one (omega arith) in
-    let same : c.wide2.result * a.one ≡ (a.left - a.a) * a.one = ap (λ (k : ℕ). k * a.one) c.wide2.ensures in
-    omega (arith, top, same, s.pre.1.1.1.0)
+    let same : c.wide-2.result * a.one ≡ (a.left - a.a) * a.one = ap (λ (k : ℕ). k * a.one) c.wide-2.ensures in
+    omega (arith, top, same, s.requires.1.1.1.0)
 
-look-at-requires : tie.Need-look-at-requires invariant-loop decreases-loop
+look-at-requires : tie.Need-look_at-v-requires invariant-loop decreases-loop
 look-at-requires c κs =
-    let p = c.before.before.before.before.before.requires in
+    let p = c.requires in
     (p.0.0, (p.1.0, p.1.1.0))
 
-returns : tie.Need-returns invariant-loop decreases-loop
+returns : tie.Need-returns-then-not-v invariant-loop decreases-loop
 returns c =
-    let w = c.before.before in
-    let s = start w in
+    let s = start c.before.before in
     let a = s.args in (
       (keeps_same _ _, (omega arith, λ h. refl)),
       listed-none _ _
           (λ numbers row vs own next e x r.
           let k : next a.b ≡ a.left - a.a = omega (arith, r) in
-          let f = crosses-readable x a.b s.pre.1.0 in
-          false≢true (sym (not-true _ c.if1.true) ∙ w.look_at.ensures.1 (rw (e, k) at f))),
+          let f = crosses-readable x a.b s.requires.1.0 in
+          false≢true (sym (not-true _ c.if-not-v.true) ∙ c.look_at-v.ensures.1 (rw (e, k) at f))),
     )
 
-element-copy-out-wide : tie.Need-element-copy-out-wide invariant-loop decreases-loop
+element-copy-out-wide : tie.Need-bounds-heavy-b invariant-loop decreases-loop
 element-copy-out-wide c =
     let p = (begin c).requires in
     omega (arith, p.0.0.few, p.1.0)
@@ -107,39 +106,34 @@ element-copy-out-wide c =
 wide-requires : tie.Need-wide-requires invariant-loop decreases-loop
 wide-requires c κs = search rules
 
-mul-c : tie.Need-overflow-mul-c invariant-loop decreases-loop
+mul-c : tie.Need-overflow_mul-c invariant-loop decreases-loop
 mul-c c =
-    let k = c.before in
-    record { fits = omega (arith, (stands k.before.before k.wide.result k.wide.ensures).low) }
+    record { fits = omega (arith, (stands c.before.before.before c.wide.result c.wide.ensures).low) }
 
-add-c : tie.Need-overflow-add-c invariant-loop decreases-loop
+add-c : tie.Need-overflow_add-c invariant-loop decreases-loop
 add-c c =
-    let k = c.before in
-    record { fits = omega (arith, (stands k.before.before k.wide.result k.wide.ensures).low) }
+    record { fits = omega (arith, (stands c.before.before.before c.wide.result c.wide.ensures).low) }
 
-shared-slice-read-other : tie.Need-shared-slice-read-other invariant-loop decreases-loop
+shared-slice-read-other : tie.Need-bounds-z-c invariant-loop decreases-loop
 shared-slice-read-other c =
-    let k = c.before.before in
-    let e = k.before.before in
-    omega (arith, (stands e k.wide.result k.wide.ensures).inside, (begin e).requires.0.1)
+    omega (arith, (stands c.before.before.before.before c.wide.result c.wide.ensures).inside, (begin c.before.before.before.before).requires.0.1)
 
-other-requires : tie.Need-other-requires invariant-loop decreases-loop
+other-requires : tie.Need-other-other-requires invariant-loop decreases-loop
 other-requires c κs =
-    let e = c.before.before.before.before in
-    let s = begin e in
-    let g = s.pre.0.0 in
-    ((legal_bounds s.args.l g.allowed).nc_high, ((g.bits, g.short), (g.tables, (viewed e).there)))
+    let s = begin c.before.before.before.before in
+    let g = s.requires.0.0 in
+    ((legal_bounds s.args.l g.allowed).nc_high, ((g.bits, g.short), (g.tables, (viewed c.before.before.before.before).there)))
 
-sub_wide : tie.Need-overflow-sub-wide invariant-loop decreases-loop
-sub_wide c = (begin (there c)).pre.1.1.0
+sub_wide : tie.Need-overflow_sub-left invariant-loop decreases-loop
+sub_wide c = (begin (there c)).requires.1.1.0
 
 wide-requires-2 : tie.Need-wide-requires-2 invariant-loop decreases-loop
 wide-requires-2 c κs = search rules
 
-mul-adds : tie.Need-overflow-mul-adds invariant-loop decreases-loop
+mul-adds : tie.Need-overflow_mul-adds invariant-loop decreases-loop
 mul-adds c = record { fits = omega (arith, adds_low c) }
 
-loop-holds : tie.Need-loop-init invariant-loop decreases-loop
+loop-holds : tie.Need-loop-g-init invariant-loop decreases-loop
 loop-holds c =
     let e = there c.before.before in
     let s = begin e in
@@ -147,127 +141,119 @@ loop-holds c =
       (keeps_same _ _, (refl, (omega arith, omega (arith, v.more.low)))),
       listed-none _ _
           (λ numbers row vs own next e x r.
-          omega (arith, r.1, ones-first x s.pre.1.0 e s.args.a r.0 v)),
+          omega (arith, r.1, ones-first x s.requires.1.0 e s.args.a r.0 v)),
     )
 
-element-copy-out-wide-2 : tie.Need-element-copy-out-wide-2 invariant-loop decreases-loop
+element-copy-out-wide-2 : tie.Need-bounds-heavy-b-in-loop-g invariant-loop decreases-loop
 element-copy-out-wide-2 c =
-    let p = (begin (seen c)).pre in
+    let p = (begin (seen c)).requires in
     omega (arith, p.0.0.few, p.1.0)
 
-wide-requires-3 : tie.Need-wide-requires-3 invariant-loop decreases-loop
+wide-requires-3 : tie.Need-wide-requires-in-loop-g invariant-loop decreases-loop
 wide-requires-3 c κs = search rules
 
-mul-before : tie.Need-overflow-mul-before invariant-loop decreases-loop
+mul-before : tie.Need-overflow_mul-before invariant-loop decreases-loop
 mul-before c =
-    let k = c.before in
-    record { fits = omega (arith, (stands (seen k.before.before) k.wide3.result k.wide3.ensures).in_string) }
+    record { fits = omega (arith, (stands (seen c.before.before.before) c.wide-in-loop-g.result c.wide-in-loop-g.ensures).in_string) }
 
-wide-requires-4 : tie.Need-wide-requires-4 invariant-loop decreases-loop
+wide-requires-4 : tie.Need-wide-requires-in-loop-g-2 invariant-loop decreases-loop
 wide-requires-4 c κs = search rules
 
-widen-requires : tie.Need-widen-requires invariant-loop decreases-loop
+widen-requires : tie.Need-widen-span-requires invariant-loop decreases-loop
 widen-requires c κs =
-    let k = c.before.before in
-    let o = k.before.before in
-    let e = seen o in
+    let e = seen c.before.before.before.before in
     let s = begin e in
     let a = s.args in
     let v = viewed e in
-    let lost = c.wide4.ensures in
-    let nc_high = (legal_bounds a.l s.pre.0.0.allowed).nc_high in
+    let lost = c.wide-in-loop-g-2.ensures in
+    let nc_high = (legal_bounds a.l s.requires.0.0.allowed).nc_high in
     let keeps : a.l.nc - a.a ≤ 8 = omega (arith, nc_high) in
-    let low : (look e).look_at.result.seen.total ≤ 64 =
+    let low : (look e).look_at-v.result.seen.total ≤ 64 =
     omega (arith, v.seen.positions-small, mul-le-mul keeps keeps) in (
-      (nc_high, (stands e k.wide3.result k.wide3.ensures).in_string),
+      (nc_high, (stands e c.wide-in-loop-g.result c.wide-in-loop-g.ensures).in_string),
       (
         (
           omega (arith, v.seen.count_small, v.few, lost),
-          (low, omega (arith, o.loop-test.true, v.more.few, lost)),
+          (low, omega (arith, c.loop-g-test.true, v.more.few, lost)),
         ),
         (omega arith, omega arith),
       ),
     )
 
-put-choice-requires : tie.Need-put-choice-requires invariant-loop decreases-loop
+put-choice-requires : tie.Need-put_choice-requires invariant-loop decreases-loop
 put-choice-requires c κs =
-    let w = c.before in
-    let o = turn w in
+    let o = turn c.before in
     let e = seen o in
     let s = begin e in
     let v = viewed e in
-    let i = o.before.loop.inv in
-    let n = w.widen.ensures in
-    let room = s.pre.1.1.1.1 v.few in (
-      omega (arith, room, i.0.0.long, i.0.1, o.loop-test.taken, v.more.few),
+    let i = o.loop-g.invariant in
+    let n = c.widen-span.ensures in
+    let room = s.requires.1.1.1.1 v.few in (
+      omega (arith, room, i.0.0.long, i.0.1, o.loop-g-test.true, v.more.few),
       (adds_low o.before.before.before, (n.low_small, n.high_small)),
     )
 
-add-end : tie.Need-overflow-add-end invariant-loop decreases-loop
+add-end : tie.Need-overflow_add-end invariant-loop decreases-loop
 add-end c =
-    let w = c.before.before.before.before in
-    let o = turn w in
+    let o = turn c.before.before.before.before in
     let e = seen o in
     let s = begin e in
     let v = viewed e in
-    let i = o.before.loop.inv in
-    let room = s.pre.1.1.1.1 v.few in
-    let long = s.good.1.1.1.1.1.1.1.1.1.1.1.0 in
-    record { fits = omega (arith, room, i.0.1, o.loop-test.taken, v.more.few, long) }
+    let i = o.loop-g.invariant in
+    let room = s.requires.1.1.1.1 v.few in
+    let long = s.well_formed.1.1.1.1.1.1.1.1.1.1.1.0 in
+    record { fits = omega (arith, room, i.0.1, o.loop-g-test.true, v.more.few, long) }
 
-add-g : tie.Need-overflow-add-g invariant-loop decreases-loop
+add-g : tie.Need-overflow_add-g invariant-loop decreases-loop
 add-g c =
     let o = turn c.before.before.before.before in
     let e = seen o in
-    record { fits = omega (arith, o.loop-test.taken, (viewed e).more.few, (begin e).fits.a) }
+    record { fits = omega (arith, o.loop-g-test.true, (viewed e).more.few, (begin e).ranges.a.fits) }
 
-loop-less : tie.Need-loop-smaller invariant-loop decreases-loop
+loop-less : tie.Need-loop-g-smaller invariant-loop decreases-loop
 loop-less c =
     let o = turn c.before.before.before.before in
-    omega (arith, o.loop-test.taken, (viewed (seen o)).more.few)
+    omega (arith, o.loop-g-test.true, (viewed (seen o)).more.few)
 
-loop-again : tie.Need-loop-preserved invariant-loop decreases-loop
+loop-again : tie.Need-loop-g-preserved invariant-loop decreases-loop
 loop-again c =
-    let n = c.before.before in
-    let w = n.before.before in
-    let o = turn w in
+    let o = turn c.before.before.before.before in
     let e = seen o in
     let s = begin e in
     let a = s.args in
     let v = viewed e in
-    let l = o.before.loop in
-    let i = l.inv in
-    let k = w.before.before.before in
-    let had = (look e).look_at.result.seen in
+    let l = o.loop-g in
+    let i = l.invariant in
+    let had = (look e).look_at-v.result.seen in
     let none : Span = record { low = 0; high = 0 } in
-    let span = w.widen.result in
-    let at = w.before.wide4.ensures in
-    let wider : Wider a.l.nc (get_or a.t5.block a.b 0 * a.l.nc) a.a had l.g none span =
-    subst (λ (i : ℕ). Wider a.l.nc (i * a.l.nc) a.a had l.g none span) k.wide3.ensures
-    (subst (λ (v : ℕ). Wider a.l.nc (k.wide3.result * a.l.nc) v had l.g none span) at w.widen.ensures) in
+    let span = c.widen-span.result in
+    let at = c.wide-in-loop-g-2.ensures in
+    let wider : Wider a.l.nc (get_or a.heavy.block a.b 0 * a.l.nc) a.a had l.g none span =
+    subst (λ (i : ℕ). Wider a.l.nc (i * a.l.nc) a.a had l.g none span) c.wide-in-loop-g.ensures
+    (subst (λ (v : ℕ). Wider a.l.nc (c.wide-in-loop-g.result * a.l.nc) v had l.g none span) at c.widen-span.ensures) in
     let d = other o in
     let chunk = ap (λ (i : ℕ). i * a.l.l2 + a.j) (block d).wide.ensures in
-    let like = rw chunk at d.other.ensures.0 in
-    let put = n.put-choice.ensures in
-    let adds = ap (λ (k : ℕ). k * a.one) o.before.before.before.wide2.ensures in
-    let one = listed-one s.pre.1.0 a.a l.g (look e).look_at.result none span _ d.other.result refl refl
-    s.pre.1.1.0 v wider like d.other.ensures.1 adds put.1 in (
+    let like = rw chunk at d.other-other.ensures.0 in
+    let put = c.put_choice.ensures in
+    let adds = ap (λ (c : ℕ). c * a.one) o.wide-2.ensures in
+    let one = listed-one s.requires.1.0 a.a l.g (look e).look_at-v.result none span _ d.other-other.result refl refl
+    s.requires.1.1.0 v wider like d.other-other.ensures.1 adds put.1 in (
       (
         keeps_then (omega (arith, i.0.1)) i.0.0 put.0,
-        (omega (arith, i.0.1), (omega (arith, i.0.1), omega (arith, o.loop-test.taken, v.more.few))),
+        (omega (arith, i.0.1), (omega (arith, i.0.1), omega (arith, o.loop-g-test.true, v.more.few))),
       ),
       listed_then (kept-listed put.0 (omega arith) i.1) one
           (λ numbers row vs own next is x r.
           ⊎_elim (λ u. inl (r.0, u)) (λ u. inr (r.0, omega (arith, r.1, u)))
-          (lt_or_ge (ones (digits a.l.nc (value_at a.l a.t5 vs a.j a.b))) (had.ones + l.g))),
+          (lt_or_ge (ones (digits a.l.nc (value_at a.l a.heavy vs a.j a.b))) (had.ones + l.g))),
     )
 
-same_length : tie.Need-same-length invariant-loop decreases-loop
-same_length c = c.before.loop.invariant.0.0.long
+same_length : tie.Need-shape_of-choices invariant-loop decreases-loop
+same_length c = c.loop-g.invariant.0.0.long
 
-returns-2 : tie.Need-returns-2 invariant-loop decreases-loop
+returns-2 : tie.Need-returns invariant-loop decreases-loop
 returns-2 c =
-    let l = c.before.loop in
+    let l = c.loop-g in
     let e = there c.before.before.before.before in
     let s = begin e in
     let v = viewed e in
@@ -275,11 +261,11 @@ returns-2 c =
       (i.0.0, (omega (arith, i.0.1), λ h. absurd (omega (arith, h, v.few)))),
       listed_weaken i.1
           (λ numbers row vs own next is x r.
-          (r, omega (arith, c.loop-test.false, ones-last x s.pre.1.0 is s.args.a r v))),
+          (r, omega (arith, c.loop-g-test.false, ones-last x s.requires.1.0 is s.args.a r v))),
     )
 
-pub list-share-spec : {M : Type 1} → statement M
-list-share-spec =
+pub list_share_spec : {M : Type 1} → statement M
+list_share_spec =
     tie.close
     (tie.spec
     invariant-loop
