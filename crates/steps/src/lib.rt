@@ -1,5 +1,7 @@
 // The steps over one column from a loss state: all loss states that a row can be at after it are found in one sweep over the choices of its
 // heavy blocks, block by block, and their marks are raised. Contracts cite specs/Steps.antt.
+#![tactic(auto)]
+
 ghost use Rattle.std.specs.Prelude.{◌≡◌, true, List, ℕ, ◌+◌, ◌*◌, ◌<◌, ◌≤◌, length, get_or};
 ghost use Rattle.bits.specs.Bits.{longest_line};
 ghost use Rattle.states.specs.States.{each, most_states, state_of};

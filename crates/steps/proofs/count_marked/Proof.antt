@@ -11,105 +11,90 @@ use Rattle.steps.proofs.Sweeping.{marked-most, counts-next}
 use Rattle.steps.proofs.count_marked.Statement.{statement}
 use Rattle.steps.proofs.count_marked.Tie as tie
 
-abbrev invariant-loop : tie.invariant-loop
+abbrev invariant-loop : tie.invariant-loop-q
 invariant-loop marks at states some₀ q₀ some q =
     ((q ≤ states) × (length some ≡ length some₀)) × Counts marks at q some
 
-abbrev decreases-loop : tie.decreases-loop
+abbrev decreases-loop : tie.decreases-loop-q
 decreases-loop marks at states some₀ q₀ some q = states - q
 
-slice-write-some : tie.Need-slice-write-some invariant-loop decreases-loop
-slice-write-some c = omega (arith, c.before.before.requires.1.0)
+slice-write-some : tie.Need-bounds-some-0 invariant-loop decreases-loop
+slice-write-some c = omega (arith, c.requires.1.0)
 
-loop-holds : tie.Need-loop-init invariant-loop decreases-loop
+loop-holds : tie.Need-loop-q-init invariant-loop decreases-loop
 unfolding marked_below
 loop-holds c =
-    let s = c.before.before in
-    let some = s.args.some.now in
-    let first : get_or (set some 0 0) 0 0 ≡ 0 = get_or-set_same some 0 0 0 (omega (arith, s.requires.1.0)) in
+    let some = c.args.some.now in
+    let first : get_or (set some 0 0) 0 0 ≡ 0 = get_or-set_same some 0 0 0 (omega (arith, c.requires.1.0)) in
     ((omega arith, refl), λ q h. let e : q ≡ 0 = omega arith in rw (e, first))
 
-mul-some : tie.Need-overflow-mul-some invariant-loop decreases-loop
+mul-some : tie.Need-offset_bounds-some-q invariant-loop decreases-loop
 mul-some c = search rules
 
-slice-read-some : tie.Need-slice-read-some invariant-loop decreases-loop
+slice-read-some : tie.Need-bounds-some-q invariant-loop decreases-loop
 slice-read-some c =
-    let p = c.before.before in
-    let s = p.before.before.before in
-    omega (arith, c.before.loop-test.true, s.requires.1.0, p.loop.invariant.0.1, length-set s.args.some.now 0 0)
+    omega (arith, c.loop-q-test.true, c.requires.1.0, c.loop-q.invariant.0.1, length-set c.args.some.now 0 0)
 
-add-one-if : tie.Need-overflow-add-one-if invariant-loop decreases-loop
+add-one-if : tie.Need-overflow_add-at invariant-loop decreases-loop
 add-one-if c = search rules
 
-shared-slice-read-one-if : tie.Need-shared-slice-read-one-if invariant-loop decreases-loop
+shared-slice-read-one-if : tie.Need-bounds-marks-at invariant-loop decreases-loop
 shared-slice-read-one-if c =
-    let t = c.before.before in
-    omega (arith, t.loop-test.true, t.before.before.before.before.requires.0)
+    omega (arith, c.loop-q-test.true, c.requires.0)
 
-one-if-requires : tie.Need-one-if-requires invariant-loop decreases-loop
+one-if-requires : tie.Need-one_if-requires invariant-loop decreases-loop
 one-if-requires c κs = search rules
 
-add-some : tie.Need-overflow-add-some invariant-loop decreases-loop
+add-some : tie.Need-overflow_add-some invariant-loop decreases-loop
 unfolding marked_below
 add-some c =
-    let t = c.before.before.before in
-    let s = t.before.before.before.before in
-    let a = s.args in
-    let i = t.before.loop in
+    let a = c.args in
+    let i = c.loop-q in
     let is = i.invariant.1 i.q (omega arith) in
     let most = marked-most a.marks.now a.at (suc i.q) in
-    record { fits = omega (arith, is, most, t.loop-test.true, s.requires.1.1, c.one-if.ensures) }
+    record { fits = omega (arith, is, most, c.loop-q-test.true, c.requires.1.1, c.one_if.ensures) }
 
-add-some-2 : tie.Need-overflow-add-some-2 invariant-loop decreases-loop
+add-some-2 : tie.Need-overflow_add-some-in-loop-q invariant-loop decreases-loop
 add-some-2 c = search rules
 
-mul-some-2 : tie.Need-overflow-mul-some-2 invariant-loop decreases-loop
+mul-some-2 : tie.Need-offset_bounds-some-q-in-loop-q invariant-loop decreases-loop
 mul-some-2 c =
-    let t = c.before.before.before in
-    let s = t.before.before.before.before in
-    record { fits = omega (arith, t.loop-test.true, s.requires.1.1) }
+    record { fits = omega (arith, c.loop-q-test.true, c.requires.1.1) }
 
-slice-write-some-2 : tie.Need-slice-write-some-2 invariant-loop decreases-loop
+slice-write-some-2 : tie.Need-bounds-some-q-in-loop-q invariant-loop decreases-loop
 slice-write-some-2 c =
-    let t = c.before.before.before in
-    let p = t.before in
-    let s = p.before.before.before in
-    omega (arith, t.loop-test.true, s.requires.1.0, p.loop.invariant.0.1, length-set s.args.some.now 0 0)
+    omega (arith, c.loop-q-test.true, c.requires.1.0, c.loop-q.invariant.0.1, length-set c.args.some.now 0 0)
 
-add-q : tie.Need-overflow-add-q invariant-loop decreases-loop
+add-q : tie.Need-overflow_add-q invariant-loop decreases-loop
 add-q c = search rules
 
-loop-less : tie.Need-loop-smaller invariant-loop decreases-loop
+loop-less : tie.Need-loop-q-smaller invariant-loop decreases-loop
 loop-less c = search rules
 
-loop-again : tie.Need-loop-preserved invariant-loop decreases-loop
+loop-again : tie.Need-loop-q-preserved invariant-loop decreases-loop
 loop-again c =
-    let t = c.before.before.before in
-    let p = t.before in
-    let s = p.before.before.before in
-    let a = s.args in
-    let some = p.loop.some in
-    let q = p.loop.q in
-    let d = c.one-if.result in
+    let a = c.args in
+    let some = c.loop-q.some in
+    let q = c.loop-q.q in
+    let d = c.one_if.result in
     let room : q + 1 < length some =
-    omega (arith, t.loop-test.true, s.requires.1.0, p.loop.invariant.0.1, length-set a.some.now 0 0)
+    omega (arith, c.loop-q-test.true, c.requires.1.0, c.loop-q.invariant.0.1, length-set a.some.now 0 0)
     in (
-      (omega (arith, t.loop-test.true), length-set some (q + 1) (get_or some q 0 + d) ∙ p.loop.invariant.0.1),
-      counts-next a.marks.now a.at q d some room c.one-if.ensures p.loop.invariant.1,
+      (omega (arith, c.loop-q-test.true), length-set some (q + 1) (get_or some q 0 + d) ∙ c.loop-q.invariant.0.1),
+      counts-next a.marks.now a.at q d some room c.one_if.ensures c.loop-q.invariant.1,
     )
 
-same_length : tie.Need-same-length invariant-loop decreases-loop
-same_length c = c.before.loop.invariant.0.1 ∙ length-set c.before.before.before.before.args.some.now 0 0
+same_length : tie.Need-shape_of-some invariant-loop decreases-loop
+same_length c = c.loop-q.invariant.0.1 ∙ length-set c.args.some.now 0 0
 
 returns : tie.Need-returns invariant-loop decreases-loop
 returns c =
-    let p = c.before in
-    let a = p.before.before.before.args in
-    let end : p.loop.q ≡ a.states = omega (arith, p.loop.invariant.0.0, c.loop-test.false) in
-    (p.loop.invariant.0.1 ∙ length-set a.some.now 0 0, λ q h. p.loop.invariant.1 q (omega (arith, end)))
+    let a = c.args in
+    let end : c.loop-q.q ≡ a.states = omega (arith, c.loop-q.invariant.0.0, c.loop-q-test.false) in
+    (c.loop-q.invariant.0.1 ∙ length-set a.some.now 0 0, λ q h. c.loop-q.invariant.1 q (omega (arith, end)))
 
-pub count-marked-spec : {M : Type 1} → statement M
-count-marked-spec =
+pub count_marked_spec : {M : Type 1} → statement M
+count_marked_spec =
     tie.close
     (tie.spec
     invariant-loop

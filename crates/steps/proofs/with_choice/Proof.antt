@@ -6,85 +6,83 @@ use Rattle.steps.proofs.with_choice.Statement.{statement}
 use Rattle.steps.proofs.with_choice.Tie as tie
 
 -- where the first of the numbers was read, seen from where all of them were, and where the function starts
-abbrev first : tie.After-struct-known → tie.After-shared-slice-known
+abbrev first : tie.After-struct_known-1 → tie.After-shared_slice_known-1
 first c = c.before.before.before.before.before
 
-abbrev start : tie.After-struct-known → tie.Start
+abbrev start : tie.After-struct_known-1 → tie.Start
 start c = (first c).before
 
-mul_at : tie.Need-overflow-mul-at
+mul_at : tie.Need-overflow_mul-at
 mul_at c = search rules
 
-mul-adds : tie.Need-overflow-mul-adds
+mul-adds : tie.Need-offset_bounds-choices-at
 mul-adds c = search rules
 
-shared-slice-read-adds : tie.Need-shared-slice-read-adds
+shared-slice-read-adds : tie.Need-bounds-choices-at
 shared-slice-read-adds c = search rules
 
-cast-adds : tie.Need-overflow-cast-adds
-cast-adds c = record { fits = omega (arith, c.shared-slice-known.given (4 * c.before.args.t)) }
+cast-adds : tie.Need-overflow_cast-adds
+cast-adds c = record { fits = omega (arith, c.shared_slice_known-1.given (4 * c.args.t)) }
 
-add-least : tie.Need-overflow-add-least
+add-least : tie.Need-overflow_add-least
 add-least c = search rules
 
-mul-least : tie.Need-overflow-mul-least
+mul-least : tie.Need-offset_bounds-choices-at-2
 mul-least c = search rules
 
-shared-slice-read-least : tie.Need-shared-slice-read-least
+shared-slice-read-least : tie.Need-bounds-choices-at-2
 shared-slice-read-least c = search rules
 
-cast-least : tie.Need-overflow-cast-least
-cast-least c = record { fits = omega (arith, c.shared-slice-known2.given (4 * c.before.before.args.t + 1)) }
+cast-least : tie.Need-overflow_cast-least
+cast-least c = record { fits = omega (arith, c.shared_slice_known-2-1.given (4 * c.args.t + 1)) }
 
-add_most : tie.Need-overflow-add-most
+add_most : tie.Need-overflow_add-most
 add_most c = search rules
 
-mul_most : tie.Need-overflow-mul-most
+mul_most : tie.Need-offset_bounds-choices-at-3
 mul_most c = search rules
 
-shared-slice-read-most : tie.Need-shared-slice-read-most
+shared-slice-read-most : tie.Need-bounds-choices-at-3
 shared-slice-read-most c = search rules
 
-cast-most : tie.Need-overflow-cast-most
-cast-most c = record { fits = omega (arith, c.shared-slice-known3.given (4 * c.before.before.before.args.t + 2)) }
+cast-most : tie.Need-overflow_cast-most
+cast-most c = record { fits = omega (arith, c.shared_slice_known-3-1.given (4 * c.args.t + 2)) }
 
-add-other : tie.Need-overflow-add-other
+add-other : tie.Need-overflow_add-other
 add-other c = search rules
 
-mul-other : tie.Need-overflow-mul-other
+mul-other : tie.Need-offset_bounds-choices-at-4
 mul-other c = search rules
 
-shared-slice-read-other : tie.Need-shared-slice-read-other
+shared-slice-read-other : tie.Need-bounds-choices-at-4
 shared-slice-read-other c = search rules
 
-cast-other : tie.Need-overflow-cast-other
+cast-other : tie.Need-overflow_cast-other
 cast-other c = search rules
 
-add-t11 : tie.Need-overflow-add-t11
+add-t11 : tie.Need-overflow_add-wider
 add-t11 c =
     let s = start c in
-    record { fits = omega (arith, s.pre.1.0.least-low, (first c).shared-slice-known.given (4 * s.args.t + 1)) }
+    record { fits = omega (arith, s.requires.1.0.least-low, (first c).shared_slice_known-1.given (4 * s.args.t + 1)) }
 
-add-t14 : tie.Need-overflow-add-t14
+add-t14 : tie.Need-overflow_add-wider-2
 add-t14 c =
-    let k = c.before in
-    let s = start k in
-    record { fits = omega (arith, s.pre.1.0.most-low, (first k).shared-slice-known.given (4 * s.args.t + 2)) }
+    let s = start c.before in
+    record { fits = omega (arith, s.requires.1.0.most-low, (first c.before).shared_slice_known-1.given (4 * s.args.t + 2)) }
 
-add-t11-2 : tie.Need-overflow-add-t11-2
+add-t11-2 : tie.Need-overflow_add-result
 add-t11-2 c =
-    let k = c.before.before in
-    let s = start k in
-    record { fits = omega (arith, s.pre.1.0.q_low, (first k).shared-slice-known.given (4 * s.args.t)) }
+    let s = start c.before.before in
+    record { fits = omega (arith, s.requires.1.0.q_low, (first c.before.before).shared_slice_known-1.given (4 * s.args.t)) }
 
-add-t18 : tie.Need-overflow-add-t18
+add-t18 : tie.Need-overflow_add-result-2
 add-t18 c = search rules
 
 returns : tie.Need-returns
 returns c = search rules
 
-pub with-choice-spec : {M : Type 1} → statement M
-with-choice-spec =
+pub with_choice_spec : {M : Type 1} → statement M
+with_choice_spec =
     tie.close
     (tie.spec
     mul_at
