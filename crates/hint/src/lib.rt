@@ -3,6 +3,8 @@
 // sums. Where a row repeats itself after as many bits as were lost, the guess repeats it once more. It promises only that
 // what it adds is consistent. Contracts cite specs/Tries.antt and found's specs/Given.antt; strings of bits are unpacked,
 // one byte a bit.
+#![tactic(auto)]
+
 ghost use Rattle.std.specs.Prelude.{◌≡◌, ◌+◌, ◌*◌, ◌<◌, ◌≤◌, length};
 ghost use Rattle.bits.specs.Bits.{AllBits, longest};
 ghost use Rattle.consistent.specs.Consistent.{most_losses};

@@ -7,48 +7,47 @@ use Rattle.hint.proofs.Places.{stands_start}
 use Rattle.hint.proofs.add_prolonged.Statement.{statement}
 use Rattle.hint.proofs.add_prolonged.Tie as tie
 
-sub-left : tie.Need-overflow-sub-left
-sub-left c = let s = c.before.before.before.before in omega (arith, s.requires.0.short, s.requires.1.0.size)
+sub-left : tie.Need-overflow_sub-left
+sub-left c = omega (arith, c.requires.0.short, c.requires.1.0.size)
 
-mul-prolong : tie.Need-overflow-mul-prolong
-mul-prolong c = let s = c.before.before.before.before in omega (arith, s.requires.0.few, s.requires.1.0.size)
+mul-prolong : tie.Need-overflow_mul-left
+mul-prolong c = omega (arith, c.requires.0.few, c.requires.1.0.size)
 
 -- where the function starts, seen from the call of `prolong`
-abbrev entry : tie.After-prolong-arg → tie.Start
+abbrev entry : tie.After-prolong-arg-1 → tie.Start
 entry c = c.before.before.before.before.before
 
-prolong-requires : tie.Need-prolong-requires
+prolong-requires : tie.Need-prolong-o-requires
 prolong-requires c κs =
     let s = entry c in
-    let g = s.pre.0 in
-    ((g, omega (arith, g.few, s.pre.1.0.size)), (stands_start s.args.l, s.pre.1.0))
+    let g = s.requires.0 in
+    ((g, omega (arith, g.few, s.requires.1.0.size)), (stands_start s.args.l, s.requires.1.0))
 
-same_length : tie.Need-same-length
+same_length : tie.Need-shape_of-x-then-not-o
 same_length c = search rules
 
-returns : tie.Need-returns
+returns : tie.Need-returns-then-not-o
 returns c =
     let s = entry c.before.before.before.before.before in
-    grown_nothing s.pre.1.1 (λ z k u. u)
+    grown_nothing s.requires.1.1 (λ z k u. u)
 
-add-bits-requires : tie.Need-add-bits-requires
+add-bits-requires : tie.Need-add_bits-requires
 add-bits-requires c κs =
-    let k = c.before.before.before.before.before.before in
-    let s = entry k.before in
-    let hand = k.prolong.ensures.0 in
-    (s.pre.0, ((hand.size, hand.bits), s.pre.1.1))
+    let s = entry c.before.before.before.before.before.before in
+    let hand = c.prolong-o.ensures.0 in
+    (s.requires.0, ((hand.size, hand.bits), s.requires.1.1))
 
-same-length-2 : tie.Need-same-length-2
+same-length-2 : tie.Need-shape_of-x
 same-length-2 c = search rules
 
-same-length-3 : tie.Need-same-length-3
+same-length-3 : tie.Need-shape_of-list
 same-length-3 c = search rules
 
-returns-2 : tie.Need-returns-2
-returns-2 c = grown_weaken (λ z s u. absurd u) c.before.before.add-bits.ensures
+returns-2 : tie.Need-returns
+returns-2 c = grown_weaken (λ z s u. absurd u) c.add_bits.ensures
 
-pub add-prolonged-spec : {M : Type 1} → statement M
-add-prolonged-spec =
+pub add_prolonged_spec : {M : Type 1} → statement M
+add_prolonged_spec =
     tie.close
     (tie.spec
     sub-left

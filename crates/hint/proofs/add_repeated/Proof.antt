@@ -10,52 +10,48 @@ use Rattle.hint.proofs.add_repeated.Statement.{statement}
 use Rattle.hint.proofs.add_repeated.Tie as tie
 
 -- where the function starts, seen from where the blocks are read; and that place, seen from where the row is made
-abbrev entry : tie.After-as-read → tie.Start
+abbrev entry : tie.After-as_read-here → tie.Start
 entry c = c.before.before.before.before.before.before
 
-abbrev read : tie.After-repeat-at → tie.After-as-read
+abbrev read : tie.After-repeat_at → tie.After-as_read-here
 read c = c.before.before.before.before
 
-as-read-requires : tie.Need-as-read-requires
+as-read-requires : tie.Need-as_read-here-requires
 as-read-requires c κs =
-    let s = c.before.before.before.before.before in
-    (s.requires.0, (stands_start s.args.l, s.requires.1.0))
+    (c.requires.0, (stands_start c.args.l, c.requires.1.0))
 
-sub-repeat-at : tie.Need-overflow-sub-repeat-at
+sub-repeat-at : tie.Need-overflow_sub-row
 sub-repeat-at c =
-    let r = c.before.before in
-    omega (arith, (entry r).requires.0.short, r.as_read.ensures.0.size)
+    omega (arith, (entry c.before.before).requires.0.short, c.as_read-here.ensures.0.size)
 
-repeat-at-requires : tie.Need-repeat-at-requires
+repeat-at-requires : tie.Need-repeat_at-requires
 repeat-at-requires c κs =
-    let r = c.before.before.before in
-    ((entry r).requires.0.bits, r.as_read.ensures.0.bits)
+    ((entry c.before.before.before).requires.0.bits, c.as_read-here.ensures.0.bits)
 
 -- the row that is made is one in hand
-made : (c : tie.After-repeat-at) → Hand (entry (read c)).args.l c.repeat-at.new.1.1.1.0
+made : (c : tie.After-repeat_at) → Hand (entry (read c)).args.l c.repeat_at.new.x
 made c =
     record {
-      bits = c.repeat-at.ensures;
-      size = c.repeat-at.auto.1.1.1.0 ∙ (read c).as_read.ensures.0.size;
+      bits = c.repeat_at.ensures;
+      size = c.repeat_at.auto.x ∙ (read c).as_read-here.ensures.0.size;
     }
 
-add-bits-requires : tie.Need-add-bits-requires
+add-bits-requires : tie.Need-add_bits-requires
 add-bits-requires c κs =
-    let r = c.before.before.before.before in
-    let s = entry (read r) in
-    (s.pre.0, (((made r).size, (made r).bits), s.pre.1.1))
+    let s = entry (read c.before.before.before) in
+    (s.requires.0, (((made c.before.before.before).size, (made c.before.before.before).bits), s.requires.1.1))
 
-same_length : tie.Need-same-length
+same_length : tie.Need-shape_of-row
 same_length c = search rules
 
-same-length-2 : tie.Need-same-length-2
+same-length-2 : tie.Need-shape_of-list
 same-length-2 c = search rules
 
 returns : tie.Need-returns
-returns c = grown_weaken (λ z s u. absurd u) c.before.before.add-bits.ensures
+returns c = grown_weaken (λ z s u. absurd u) c.add_bits.ensures
 
-pub add-repeated-spec : {M : Type 1} → statement M
-add-repeated-spec =
+pub add_repeated_spec : {M : Type 1} → statement M
+add_repeated_spec =
     tie.close
     (tie.spec
     as-read-requires

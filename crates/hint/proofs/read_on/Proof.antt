@@ -6,26 +6,26 @@ use Rattle.bits.proofs.Laws.{bit_at}
 use Rattle.hint.proofs.read_on.Statement.{statement}
 use Rattle.hint.proofs.read_on.Tie as tie
 
-shared-slice-read-result : tie.Need-shared-slice-read-result
+shared-slice-read-result : tie.Need-bounds-y-j
 shared-slice-read-result c = search rules
 
-returns : tie.Need-returns
-returns c = let s = c.before.before in bit_at s.args.y.now s.requires s.args.j
+returns : tie.Need-returns-then-j-y
+returns c = bit_at c.args.y.now c.requires c.args.j
 
-returns-2 : tie.Need-returns-2
+returns-2 : tie.Need-returns-then-y-eq0
 returns-2 c = search rules
 
-sub-result : tie.Need-overflow-sub-result
+sub-result : tie.Need-overflow_sub-result
 sub-result c = search rules
 
-shared-slice-read-result-2 : tie.Need-shared-slice-read-result-2
+shared-slice-read-result-2 : tie.Need-bounds-y-y
 shared-slice-read-result-2 c = search rules
 
-returns-3 : tie.Need-returns-3
-returns-3 c = let s = c.before.before.before in bit_at s.args.y.now s.requires (length s.args.y.now - 1)
+returns-3 : tie.Need-returns
+returns-3 c = bit_at c.args.y.now c.requires (length c.args.y.now - 1)
 
-pub read-on-spec : {M : Type 1} → statement M
-read-on-spec =
+pub read_on_spec : {M : Type 1} → statement M
+read_on_spec =
     tie.close
     (tie.spec
     shared-slice-read-result
