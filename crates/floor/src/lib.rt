@@ -1,6 +1,8 @@
 // The floor: the least row that can be under the first counts of a loss pattern. Once more rows were found than fit,
 // parts of a search whose rows all come after the last row held are left out. Contracts cite specs/Floor.antt; the
 // received row is unpacked, one byte a bit, the rows held are packed.
+#![tactic(auto)]
+
 ghost use Rattle.std.specs.Prelude.{◌≡◌, true, List, ℕ, ◌+◌, ◌*◌, ◌<◌, ◌≤◌, length, drop};
 ghost use Rattle.bits.specs.Bits.{longest, AllBits, bytes_for, number, unpack as unpacked};
 ghost use Rattle.rows.specs.Held.{Known};

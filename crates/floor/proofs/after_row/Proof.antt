@@ -22,17 +22,17 @@ use Rattle.floor.proofs.Floor.{own-loses, next-at-least}
 use Rattle.floor.proofs.after_row.Statement.{statement}
 use Rattle.floor.proofs.after_row.Tie as tie
 
-abbrev invariant-loop : tie.invariant-loop
+abbrev invariant-loop : tie.invariant-loop-b
 invariant-loop l y counts row i last d₀ b₀ d b =
     ((b ≤ i) × ((d ≡ in_all (take b counts)) × (d ≤ 255 * b)))
     × ((x : List ℕ) → Row (row_bits l) x → OwnCounts l y counts i x → LightInHand l counts i row x
     → AtLeast (b * block_bits l) (unpack last) x)
 
-abbrev decreases-loop : tie.decreases-loop
+abbrev decreases-loop : tie.decreases-loop-b
 decreases-loop l y counts row i last d₀ b₀ d b = i - b
 
 -- where the function starts, seen from the loop
-abbrev start : tie.At-loop invariant-loop decreases-loop → tie.Start invariant-loop decreases-loop
+abbrev start : tie.At-loop-b invariant-loop decreases-loop → tie.Start invariant-loop decreases-loop
 start t = t.before.before.before.before.before
 
 -- there are as many counts as blocks
@@ -43,81 +43,75 @@ many : (s : tie.Start invariant-loop decreases-loop) → s.args.i ≤ length s.a
 many s = omega (arith, s.requires.1.1.0.1, s.requires.1.1.1.0)
 
 -- a count is a byte
-byte : (c : tie.After-wide invariant-loop decreases-loop) → c.wide.result ≤ 255
-byte c = omega (arith, c.wide.ensures, c.before.shared-slice-known5.given c.before.before.before.loop.b)
+byte : (c : tie.After-wide-a invariant-loop decreases-loop) → c.wide-a.result ≤ 255
+byte c = omega (arith, c.wide-a.ensures, c.shared_slice_known-in-loop-b-1.given c.loop-b.b)
 
-loop-holds : tie.Need-loop-init invariant-loop decreases-loop
+loop-holds : tie.Need-loop-b-init invariant-loop decreases-loop
 loop-holds c =
-    let a = c.before.before.before.before.args in
+    let a = c.args in
     let none = zero-mul (block_bits a.l) in
     ((omega arith, (sym (total-none a.counts.now), omega arith)), λ x r own light. rw none (inr refl))
 
-shared-slice-read-wide : tie.Need-shared-slice-read-wide invariant-loop decreases-loop
+shared-slice-read-wide : tie.Need-bounds-counts-b invariant-loop decreases-loop
 shared-slice-read-wide c = omega (arith, many (start c.before.before))
 
-wide-requires : tie.Need-wide-requires invariant-loop decreases-loop
+wide-requires : tie.Need-wide-a-requires invariant-loop decreases-loop
 wide-requires c κs = search rules
 
-compare-block-requires : tie.Need-compare-block-requires invariant-loop decreases-loop
+compare-block-requires : tie.Need-compare_block-order-requires invariant-loop decreases-loop
 compare-block-requires c κs =
     let s = start c.before.before.before in
-    let h = c.before.before.loop-test.true in
-    (s.pre.0, (s.pre.1.0, (omega (arith, s.pre.1.1.1.0), (s.pre.1.1.0.0, s.pre.1.1.1.1))))
+    let h = c.loop-b-test.true in
+    (s.requires.0, (s.requires.1.0, (omega (arith, s.requires.1.1.1.0), (s.requires.1.1.0.0, s.requires.1.1.1.1))))
 
 -- what the comparison of block b says of a row under the counts
-compared : (c : tie.After-compare-block invariant-loop decreases-loop)
+compared : (c : tie.After-compare_block-order invariant-loop decreases-loop)
     → let t = c.before.before.before.before in let a = (start t).args in
     (x : List ℕ) → Row (row_bits a.l) x → OwnCounts a.l a.y.now a.counts.now a.i x
     → LightInHand a.l a.counts.now a.i a.row.now x
-    → BlockCompared a.l t.loop.b (unpack a.last.now) x c.compare-block.result
+    → BlockCompared a.l t.loop-b.b (unpack a.last.now) x c.compare_block-order.result
 compared c x r own light =
-    let t = c.before.before.before.before in
-    let s = start t in
+    let s = start c.before.before.before.before in
     let a = s.args in
-    let inside = c.before.before.before.loop-test.true in
+    let inside = c.loop-b-test.true in
     let n = many s in
-    let loses = own-loses a.l a.y.now a.counts.now a.i x own t.loop.b inside (omega arith) in
-    c.compare-block.ensures x r (rw (t.loop.invariant.0.1.0, c.before.wide.ensures) loses)
-    (λ h j k. light t.loop.b j inside k (omega (arith, c.before.wide.ensures)))
+    let loses = own-loses a.l a.y.now a.counts.now a.i x own c.loop-b.b inside (omega arith) in
+    c.compare_block-order.ensures x r (rw (c.loop-b.invariant.0.1.0, c.wide-a.ensures) loses)
+    (λ h j k. light c.loop-b.b j inside k (omega (arith, c.wide-a.ensures)))
 
-returns : tie.Need-returns invariant-loop decreases-loop
+returns : tie.Need-returns-then-order-ne1 invariant-loop decreases-loop
 returns c =
-    let t = c.before.before.before.before.before in
-    λ e x r own light. (compared c.before x r own light).after (eqb-true _ _ e) (t.loop.invariant.1 x r own light)
+    λ e x r own light. (compared c.before x r own light).after (eqb-true _ _ e) (c.loop-b.invariant.1 x r own light)
 
-add-d : tie.Need-overflow-add-d invariant-loop decreases-loop
+add-d : tie.Need-overflow_add-d invariant-loop decreases-loop
 add-d c =
-    let w = c.before.before in
-    let t = w.before.before.before in
-    omega (arith, t.loop.invariant.0.1.1, byte w, few (start t), w.before.before.loop-test.true)
+    omega (arith, c.loop-b.invariant.0.1.1, byte c.before.before, few (start c.before.before.before.before.before), c.loop-b-test.true)
 
-add-b : tie.Need-overflow-add-b invariant-loop decreases-loop
+add-b : tie.Need-overflow_add-b invariant-loop decreases-loop
 add-b c = search rules
 
-loop-less : tie.Need-loop-smaller invariant-loop decreases-loop
+loop-less : tie.Need-loop-b-smaller invariant-loop decreases-loop
 loop-less c = search rules
 
-loop-again : tie.Need-loop-preserved invariant-loop decreases-loop
+loop-again : tie.Need-loop-b-preserved invariant-loop decreases-loop
 loop-again c =
-    let w = c.before.before in
-    let t = w.before.before.before in
-    let s = start t in
+    let s = start c.before.before.before.before.before in
     let a = s.args in
-    let inside = w.before.before.loop-test.true in
+    let inside = c.loop-b-test.true in
     let n = many s in
-    let next = total-next a.counts.now t.loop.b (omega arith) in
-    let own = t.loop.invariant.0.1 in (
-      (omega arith, (omega (arith, own.0, w.wide.ensures), omega (arith, own.1, byte w))),
+    let next = total-next a.counts.now c.loop-b.b (omega arith) in
+    let own = c.loop-b.invariant.0.1 in (
+      (omega arith, (omega (arith, own.0, c.wide-a.ensures), omega (arith, own.1, byte c.before.before))),
       λ x r own light.
-          next-at-least t.loop.b (block_bits a.l) (unpack a.last.now) x
-          ((compared c.before x r own light).same c.if1.false (t.loop.invariant.1 x r own light)),
+          next-at-least c.loop-b.b (block_bits a.l) (unpack a.last.now) x
+          ((compared c.before x r own light).same c.if-order-ne1.false (c.loop-b.invariant.1 x r own light)),
     )
 
-returns-2 : tie.Need-returns-2 invariant-loop decreases-loop
+returns-2 : tie.Need-returns invariant-loop decreases-loop
 returns-2 c = λ e. absurd (false≢true e)
 
-pub after-row-spec : {M : Type 1} → statement M
-after-row-spec =
+pub after_row_spec : {M : Type 1} → statement M
+after_row_spec =
     tie.close
     (tie.spec
     invariant-loop

@@ -29,20 +29,20 @@ record Under (y z : List ℕ) (from nb d a : ℕ) (x : List ℕ) : Type 0 where
   inside : losses (take (from + nb) x) y ≡ d + a
   least : AtLeast from z x
 
-abbrev invariant-loop : tie.invariant-loop
+abbrev invariant-loop : tie.invariant-loop-u
 invariant-loop y b d a last nb from p₀ left₀ u₀ p left u =
     ((u ≤ nb) × ((left ≤ a) × (p + (d + a) ≡ from + u + left)))
     × ((x : List ℕ) → Under y (unpack last) from nb d a x → Stands y (unpack last) x (from + u) left (d + a))
 
-abbrev decreases-loop : tie.decreases-loop
+abbrev decreases-loop : tie.decreases-loop-u
 decreases-loop y b d a last nb from p₀ left₀ u₀ p left u = nb - u
 
 -- where the function starts, seen from the loop
-abbrev start : tie.At-loop invariant-loop decreases-loop → tie.Start invariant-loop decreases-loop
+abbrev start : tie.At-loop-u invariant-loop decreases-loop → tie.Start invariant-loop decreases-loop
 start t = t.before.before.before.before.before
 
 -- the loop, seen from a turn in which a bit was read
-abbrev turn : tie.After-number-in invariant-loop decreases-loop → tie.At-loop invariant-loop decreases-loop
+abbrev turn : tie.After-number_in-held invariant-loop decreases-loop → tie.At-loop-u invariant-loop decreases-loop
 turn n = n.before.before.before.before.before
 
 size : (s : tie.Start invariant-loop decreases-loop) → Sizes s.args.l
@@ -72,8 +72,8 @@ asked s x r q k =
     record { bits = r.1; long = omega (arith, r.0); before = q.before; inside = q.inside; least = k }
 
 -- what the bit that was read says of such a row
-module _ (n : tie.After-number-in invariant-loop decreases-loop) where
-  abbrev t : tie.At-loop invariant-loop decreases-loop
+module _ (n : tie.After-number_in-held invariant-loop decreases-loop) where
+  abbrev t : tie.At-loop-u invariant-loop decreases-loop
   t = turn n
 
   abbrev s : tie.Start invariant-loop decreases-loop
@@ -83,18 +83,18 @@ module _ (n : tie.After-number-in invariant-loop decreases-loop) where
   z = unpack s.args.last.now
 
   abbrev at-bit : ℕ
-  at-bit = s.args.b * block_bits s.args.l + t.loop.u
+  at-bit = s.args.b * block_bits s.args.l + t.loop-u.u
 
   abbrev w : ℕ
-  w = block_bits s.args.l - t.loop.u
+  w = block_bits s.args.l - t.loop-u.u
 
   abbrev all : ℕ
   all = s.args.d + s.args.a
 
-  taken : t.loop.u < block_bits s.args.l
-  taken = n.before.before.before.before.loop-test.taken
+  taken : t.loop-u.u < block_bits s.args.l
+  taken = n.loop-u-test.true
 
-  rest : (x : List ℕ) → Asked s x → Rest s.args.y.now z x at-bit w t.loop.left all t.loop.p
+  rest : (x : List ℕ) → Asked s x → Rest s.args.y.now z x at-bit w t.loop-u.left all t.loop-u.p
   rest x q =
       let h = taken in
       let e : at-bit + w ≡ s.args.b * block_bits s.args.l + block_bits s.args.l = omega arith in
@@ -102,126 +102,118 @@ module _ (n : tie.After-number-in invariant-loop decreases-loop) where
         some = omega arith;
         in_z = omega (arith, room s, long s);
         in_x = omega (arith, q.long);
-        place = t.loop.inv.0.1.1;
+        place = t.loop-u.invariant.0.1.1;
         end = rw e q.inside;
       }
 
-  bit : Bit s.args.y.now t.loop.p t.loop.left w n.before.before.before.next_bit.result
-      n.before.before.least-lost.result n.before.bit-of.result
+  bit : Bit s.args.y.now t.loop-u.p t.loop-u.left w n.next_bit-next.result
+      n.least_lost-lost.result n.bit_of-least.result
   bit =
       record {
-        next_is = n.before.before.before.next_bit.ensures.0;
-        lost_is = n.before.before.least-lost.ensures.0;
-        bit_is = n.before.bit-of.ensures;
+        next_is = n.next_bit-next.ensures.0;
+        lost_is = n.least_lost-lost.ensures.0;
+        bit_is = n.bit_of-least.ensures;
       }
 
-  above : n.number_in.result < n.before.bit-of.result → (x : List ℕ) → Asked s x → Less z x
+  above : n.number_in-held.result < n.bit_of-least.result → (x : List ℕ) → Asked s x → Less z x
   above h x q =
-      bit_after z x (bits-unpack s.args.last.now) q.bits s.args.y.now s.pre.1.0 (rest x q) bit
-      (omega (arith, n.number_in.ensures)) (t.loop.inv.1 x q)
+      bit_after z x (bits-unpack s.args.last.now) q.bits s.args.y.now s.requires.1.0 (rest x q) bit
+      (omega (arith, n.number_in-held.ensures)) (t.loop-u.invariant.1 x q)
 
-  agrees : n.before.bit-of.result ≡ n.number_in.result → (x : List ℕ) → Asked s x
-      → Stands s.args.y.now z x (at-bit + 1) (t.loop.left - n.before.before.least-lost.result) all
+  agrees : n.bit_of-least.result ≡ n.number_in-held.result → (x : List ℕ) → Asked s x
+      → Stands s.args.y.now z x (at-bit + 1) (t.loop-u.left - n.least_lost-lost.result) all
   agrees h x q =
-      bit_same z x (bits-unpack s.args.last.now) q.bits s.args.y.now s.pre.1.0 (rest x q) bit
-      (h ∙ n.number_in.ensures) (t.loop.left - n.before.before.least-lost.result)
-      (omega (arith, n.before.before.least-lost.ensures.1.1)) (t.loop.inv.1 x q)
+      bit_same z x (bits-unpack s.args.last.now) q.bits s.args.y.now s.requires.1.0 (rest x q) bit
+      (h ∙ n.number_in-held.ensures) (t.loop-u.left - n.least_lost-lost.result)
+      (omega (arith, n.least_lost-lost.ensures.1.1)) (t.loop-u.invariant.1 x q)
 
-mul-nb : tie.Need-overflow-mul-nb invariant-loop decreases-loop
+mul-nb : tie.Need-overflow_mul-nb invariant-loop decreases-loop
 mul-nb c = omega (arith, (size c.before.before.before).block)
 
-mul-from : tie.Need-overflow-mul-from invariant-loop decreases-loop
-mul-from c = let s = c.before.before.before in omega (arith, room s, (size s).row)
+mul-from : tie.Need-overflow_mul-from invariant-loop decreases-loop
+mul-from c = omega (arith, room c.before.before.before, (size c.before.before.before).row)
 
-returns : tie.Need-returns invariant-loop decreases-loop
+returns : tie.Need-returns-then-from-d invariant-loop decreases-loop
 returns c = λ x r q. compared_before
 
-loop-holds : tie.Need-loop-init invariant-loop decreases-loop
+loop-holds : tie.Need-loop-u-init invariant-loop decreases-loop
 loop-holds c =
-    let s = c.before.before.before.before in
-    let a = s.args in
+    let a = c.args in
     let e : a.b * block_bits a.l + 0 ≡ a.b * block_bits a.l = omega arith in (
-      (omega arith, (omega arith, omega (arith, c.if1.false))),
+      (omega arith, (omega arith, omega (arith, c.if-from-d.false))),
       λ x q. rw e (⊎_elim inl (λ k. inr (k, omega (arith, q.before))) q.least),
     )
 
-next-bit-requires : tie.Need-next-bit-requires invariant-loop decreases-loop
-next-bit-requires c κs = (start c.before).pre.1.0
+next-bit-requires : tie.Need-next_bit-next-requires invariant-loop decreases-loop
+next-bit-requires c κs = (start c.before).requires.1.0
 
-sub-least-lost : tie.Need-overflow-sub-least-lost invariant-loop decreases-loop
+sub-least-lost : tie.Need-overflow_sub-nb invariant-loop decreases-loop
 sub-least-lost c = search rules
 
-least-lost-requires : tie.Need-least-lost-requires invariant-loop decreases-loop
-least-lost-requires c κs = c.next_bit.ensures.1
+least-lost-requires : tie.Need-least_lost-lost-requires invariant-loop decreases-loop
+least-lost-requires c κs = c.next_bit-next.ensures.1
 
-bit-of-requires : tie.Need-bit-of-requires invariant-loop decreases-loop
-bit-of-requires c κs = c.before.next_bit.ensures.1
+bit-of-requires : tie.Need-bit_of-least-requires invariant-loop decreases-loop
+bit-of-requires c κs = c.next_bit-next.ensures.1
 
-add-number-in : tie.Need-overflow-add-number-in invariant-loop decreases-loop
+add-number-in : tie.Need-overflow_add-from invariant-loop decreases-loop
 add-number-in c =
-    let i = c.before.before.before in
-    let s = start i.before in
-    omega (arith, room s, (size s).row, i.loop-test.true)
+    let s = start c.before.before.before.before in
+    omega (arith, room s, (size s).row, c.loop-u-test.true)
 
-number-in-requires : tie.Need-number-in-requires invariant-loop decreases-loop
+number-in-requires : tie.Need-number_in-held-requires invariant-loop decreases-loop
 number-in-requires c κs =
-    let i = c.before.before.before in
-    let s = start i.before in
-    let h = i.loop-test.true in
-    (omega arith, (omega (arith, s.pre.1.1.1, (size s).row), omega (arith, s.pre.1.1.1, room s)))
+    let s = start c.before.before.before.before in
+    let h = c.loop-u-test.true in
+    (omega arith, (omega (arith, s.requires.1.1.1, (size s).row), omega (arith, s.requires.1.1.1, room s)))
 
-returns-2 : tie.Need-returns-2 invariant-loop decreases-loop
+returns-2 : tie.Need-returns-then-least-held invariant-loop decreases-loop
 returns-2 c = λ x r q. compared_before
 
-returns-3 : tie.Need-returns-3 invariant-loop decreases-loop
+returns-3 : tie.Need-returns-then-held-least invariant-loop decreases-loop
 returns-3 c =
     let n = c.before.before in
-    λ x r q. compared_after (λ k. above n c.if3.true x (asked (start (turn n)) x r q k))
+    λ x r q. compared_after (λ k. above n c.if-held-least.true x (asked (start (turn n)) x r q k))
 
-sub-p : tie.Need-overflow-sub-p invariant-loop decreases-loop
-sub-p c = let o = c.before.before.before.before.least-lost.ensures in omega (arith, o.1.0)
+sub-p : tie.Need-overflow_sub-p-in-loop-u invariant-loop decreases-loop
+sub-p c = let o = c.least_lost-lost.ensures in omega (arith, o.1.0)
 
-add-p : tie.Need-overflow-add-p invariant-loop decreases-loop
+add-p : tie.Need-overflow_add-p invariant-loop decreases-loop
 add-p c =
-    let n = c.before.before in
-    let t = turn n in
-    let s = start t in
-    omega (arith, t.loop.inv.0.1.1, t.loop.inv.0.1.0, room s, (size s).row, taken n)
+    let s = start (turn c.before.before) in
+    let v = c.loop-u.invariant.0.1 in
+    omega (arith, v.1, v.0, room s, (size s).row, c.loop-u-test.true)
 
-sub-left : tie.Need-overflow-sub-left invariant-loop decreases-loop
-sub-left c = let o = c.before.before.before.before.least-lost.ensures in omega (arith, o.1.1)
+sub-left : tie.Need-overflow_sub-left invariant-loop decreases-loop
+sub-left c = let o = c.least_lost-lost.ensures in omega (arith, o.1.1)
 
-add-u : tie.Need-overflow-add-u invariant-loop decreases-loop
+add-u : tie.Need-overflow_add-u invariant-loop decreases-loop
 add-u c =
-    let n = c.before.before in
-    omega (arith, (size (start (turn n))).block, taken n)
+    omega (arith, (size (start (turn c.before.before))).block, c.loop-u-test.true)
 
-loop-less : tie.Need-loop-smaller invariant-loop decreases-loop
+loop-less : tie.Need-loop-u-smaller invariant-loop decreases-loop
 loop-less c = search rules
 
-loop-again : tie.Need-loop-preserved invariant-loop decreases-loop
+loop-again : tie.Need-loop-u-preserved invariant-loop decreases-loop
 loop-again c =
-    let n = c.before.before in
-    let t = turn n in
-    let lost = n.before.before.least-lost.ensures.1 in
-    let own = t.loop.inv.0.1 in
-    let from : ℕ = (start t).args.b * block_bits (start t).args.l in
-    let same : n.before.bit-of.result ≡ n.number_in.result = omega arith in
-    let next : from + (t.loop.u + 1) ≡ from + t.loop.u + 1 = omega arith in (
-      (omega (arith, taken n), (omega (arith, own.0), omega (arith, own.1, lost.0, lost.1))),
-      λ x q. rw next (agrees n same x q),
+    let lost = c.least_lost-lost.ensures.1 in
+    let own = c.loop-u.invariant.0.1 in
+    let from : ℕ = c.args.b * block_bits c.args.l in
+    let same : c.bit_of-least.result ≡ c.number_in-held.result = omega arith in
+    let next : from + (c.loop-u.u + 1) ≡ from + c.loop-u.u + 1 = omega arith in (
+      (omega (arith, c.loop-u-test.true), (omega (arith, own.0), omega (arith, own.1, lost.0, lost.1))),
+      λ x q. rw next (agrees c.before.before same x q),
     )
 
-returns-4 : tie.Need-returns-4 invariant-loop decreases-loop
+returns-4 : tie.Need-returns invariant-loop decreases-loop
 returns-4 c =
-    let t = c.before in
-    let s = start t in
+    let s = start c.before in
     let nb : ℕ = block_bits s.args.l in
-    let e : t.loop.u ≡ nb = omega (arith, t.loop.invariant.0.0, c.loop-test.false) in
-    λ x r q. compared_same (λ k. ⊎_elim inl (λ w. inr (rw e at w.0)) (t.loop.invariant.1 x (asked s x r q k)))
+    let e : c.loop-u.u ≡ nb = omega (arith, c.loop-u.invariant.0.0, c.loop-u-test.false) in
+    λ x r q. compared_same (λ k. ⊎_elim inl (λ w. inr (rw e at w.0)) (c.loop-u.invariant.1 x (asked s x r q k)))
 
-pub heavy-block-spec : {M : Type 1} → statement M
-heavy-block-spec =
+pub heavy_block_spec : {M : Type 1} → statement M
+heavy_block_spec =
     tie.close
     (tie.spec
     invariant-loop

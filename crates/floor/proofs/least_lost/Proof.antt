@@ -5,22 +5,25 @@ use borrow.Author.Tests.{eq-eqb, ne_eqb}
 use Rattle.floor.proofs.least_lost.Statement.{statement}
 use Rattle.floor.proofs.least_lost.Tie as tie
 
-returns : tie.Need-returns
-returns c = (simp (eq-eqb c.before.args.left 0 c.if1.true), (omega arith, omega arith))
+returns : tie.Need-returns-then-left-eq0
+returns c = (simp (eq-eqb c.args.left 0 c.if-left-eq0.true), (omega arith, omega arith))
 
-returns-2 : tie.Need-returns-2
+returns-2 : tie.Need-returns-then-left-bits
 returns-2 c =
-    let a = c.before.before.args in
-    let some = c.before.if1.false in
-    let all : a.left ≡ a.bits = omega (arith, c.if2.true) in
+    let a = c.args in
+    let some = c.if-left-eq0.false in
+    let all : a.left ≡ a.bits = omega (arith, c.if-left-bits.true) in
     (simp (ne_eqb a.left 0 some, eq-eqb a.left a.bits all), (omega arith, omega (arith, some)))
 
-returns-3 : tie.Need-returns-3
+returns-3 : tie.Need-returns
 returns-3 c =
-    let a = c.before.before.args in
-    let some = c.before.if1.false in
-    let low = c.before.before.requires in
-    (simp (ne_eqb a.left 0 some, ne_eqb a.left a.bits c.if2.false), (low, omega (arith, some, low)))
+    let a = c.args in
+    let some = c.if-left-eq0.false in
+    let low = c.requires in
+    (simp (ne_eqb a.left 0 some, ne_eqb a.left a.bits c.if-left-bits.false), (low, omega (arith, some, low)))
 
-pub least-lost-spec : {M : Type 1} → statement M
-least-lost-spec = tie.close (tie.spec returns returns-2 returns-3)
+pub least_lost_spec : {M : Type 1} → statement M
+least_lost_spec = tie.close (tie.spec
+    returns
+    returns-2
+    returns-3)

@@ -15,22 +15,25 @@ either [] p h = absurd (omega arith)
 either (b ∷ y) zero h = refl
 either (b ∷ y) (suc p) h = either y p (omega arith)
 
-returns : tie.Need-returns
-returns c = (sym (get_or-eq_default c.before.before.args.y.now 1 c.if1.true), omega arith)
+returns : tie.Need-returns-then-y-p
+returns c = (sym (get_or-eq_default c.args.y.now 1 c.if-y-p.true), omega arith)
 
-shared-slice-read-wide : tie.Need-shared-slice-read-wide
+shared-slice-read-wide : tie.Need-bounds-y-p
 shared-slice-read-wide c = search rules
 
 wide-requires : tie.Need-wide-requires
 wide-requires c κs = search rules
 
-returns-2 : tie.Need-returns-2
+returns-2 : tie.Need-returns
 returns-2 c =
-    let s = c.before.before.before.before in
-    let a = s.args in (
-      c.wide.ensures ∙ either a.y.now a.p c.before.before.if1.false,
-      omega (arith, c.wide.ensures, bit_at a.y.now s.requires a.p),
+    let a = c.args in (
+      c.wide.ensures ∙ either a.y.now a.p c.if-y-p.false,
+      omega (arith, c.wide.ensures, bit_at a.y.now c.requires a.p),
     )
 
-pub next-bit-spec : {M : Type 1} → statement M
-next-bit-spec = tie.close (tie.spec returns shared-slice-read-wide wide-requires returns-2)
+pub next_bit_spec : {M : Type 1} → statement M
+next_bit_spec = tie.close (tie.spec
+    returns
+    shared-slice-read-wide
+    wide-requires
+    returns-2)
