@@ -2,6 +2,8 @@
 // from these; while there are more, every content is tried that loses just their counts and meets the sums. However many are
 // erased, every fill that meets all sums and checks is listed. Contracts cite specs/Fill.antt, and the specs of found and of
 // cells.
+#![tactic(auto)]
+
 ghost use Rattle.std.specs.Prelude.{◌≡◌, true, List, ℕ, ◌+◌, ◌*◌, ◌<◌, ◌≤◌, eqb, length, get_or, set};
 ghost use Rattle.message.specs.Layout.{legal};
 ghost use Rattle.lines.specs.Lines.{values};

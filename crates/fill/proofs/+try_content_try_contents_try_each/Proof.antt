@@ -79,6 +79,7 @@ try-each-below t =
     and 4 try-each-kinds.ps (falls 4 try-each-kinds.ps ◌<◌ μ-try-each t) try-each.Pre
 
 -- what the functions know of those that they call
+
 abbrev try-content-claims : ℕ → try-content-lts.Claims
 try-content-claims t = (
   chunk-of-reads.Asked,
@@ -114,7 +115,7 @@ abbrev Content-start : ℕ → Type 0
 Content-start t = try-content-lts.Start (try-content-claims t) (try-content-at t) try-content.Post
 
 abbrev Content-chunk : ℕ → Type 0
-Content-chunk t = try-content-lts.After-chunk-of (try-content-claims t) (try-content-at t) try-content.Post
+Content-chunk t = try-content-lts.After-chunk_of-at (try-content-claims t) (try-content-at t) try-content.Post
 
 -- where `try_content` starts, seen from where the chunk of the cell is known
 abbrev content-start : (t : ℕ) → Content-chunk t → Content-start t
@@ -124,83 +125,76 @@ content-start t c = c.before.before.before.before.before
 found-under : (t : ℕ) (c : Content-chunk t) →
     let a = (content-start t c).args in
     (x : List ℕ) → With a.l a.y.now a.cells a.row.now a.z a.v x
-    → Under a.l a.y.now (found a.cells a.z) (set a.row.now c.chunk_of.result a.v) x
+    → Under a.l a.y.now (found a.cells a.z) (set a.row.now c.chunk_of-at.result a.v) x
 found-under t c x w =
     let s = content-start t c in
     let a = s.args in
-    let e = c.chunk_of.ensures in
-    with_found a.l a.y.now a.cells a.row.now a.z a.v c.chunk_of.result e.0
-    (omega (arith, e.1, s.pre.1.0.1)) w
+    let e = c.chunk_of-at.ensures in
+    with_found a.l a.y.now a.cells a.row.now a.z a.v c.chunk_of-at.result e.0
+    (omega (arith, e.1, s.requires.1.0.1)) w
 
 -- only the cell's chunk is changed
 content-set : (t : ℕ) (c : Content-chunk t) →
     let a = (content-start t c).args in
-    SameBut a.l (OpenAt a.cells) a.row.now (set a.row.now c.chunk_of.result a.v)
+    SameBut a.l (OpenAt a.cells) a.row.now (set a.row.now c.chunk_of-at.result a.v)
 content-set t c =
     let s = content-start t c in
     let a = s.args in
-    let o = s.pre.1.1.1.1 in
+    let o = s.requires.1.1.1.1 in
     subst (λ (at : ℕ). SameBut a.l (OpenAt a.cells) a.row.now (set a.row.now at a.v))
-    (sym c.chunk_of.ensures.0) (cell_set a.l a.cells a.z a.v o (s.pre.1.1.1.0 a.z o).1.0)
+    (sym c.chunk_of-at.ensures.0) (cell_set a.l a.cells a.z a.v o (s.requires.1.1.1.0 a.z o).1.0)
 
 try-content-chunk-of-requires : (t : ℕ)
-    → try-content-lts.Need-chunk-of-requires (try-content-claims t) (try-content-at t) try-content.Post
+    → try-content-lts.Need-chunk_of-at-requires (try-content-claims t) (try-content-at t) try-content.Post
 try-content-chunk-of-requires t c κs =
-    let s = c.before.before.before.before in
-    let o = s.requires.1.1.1.1 in
-    let q = s.requires.1.1.1.0 s.args.z o in
-    (s.requires.1.0.0.is_legal, (o.0, (q.0, q.1.0)))
+    let o = c.requires.1.1.1.1 in
+    let q = c.requires.1.1.1.0 c.args.z o in
+    (c.requires.1.0.0.is_legal, (o.0, (q.0, q.1.0)))
 
 try-content-slice-write-row : (t : ℕ)
-    → try-content-lts.Need-slice-write-row (try-content-claims t) (try-content-at t) try-content.Post
-try-content-slice-write-row t c = omega (arith, c.chunk_of.ensures.1, (content-start t c).requires.1.0.1)
+    → try-content-lts.Need-bounds-row-at (try-content-claims t) (try-content-at t) try-content.Post
+try-content-slice-write-row t c = omega (arith, c.chunk_of-at.ensures.1, (content-start t c).requires.1.0.1)
 
 try-content-element-write-next : (t : ℕ)
-    → try-content-lts.Need-element-write-next (try-content-claims t) (try-content-at t) try-content.Post
+    → try-content-lts.Need-bounds-next-z (try-content-claims t) (try-content-at t) try-content.Post
 try-content-element-write-next t c = search rules
 
 try-content-try-contents-requires : (t : ℕ)
-    → try-content-lts.Need-try-contents-requires (try-content-claims t) (try-content-at t) try-content.Post
+    → try-content-lts.Need-try_contents-requires (try-content-claims t) (try-content-at t) try-content.Post
 try-content-try-contents-requires t c κs =
-    let k = c.before.before in
-    let s = content-start t k in
+    let s = content-start t c.before.before in
     let a = s.args in
-    let p = s.pre.1 in
-    let long : a.l.l1 * a.l.l2 ≤ length (set a.row.now k.chunk_of.result a.v) =
-    omega (arith, length-set a.row.now k.chunk_of.result a.v, p.0.1)
+    let p = s.requires.1 in
+    let long : a.l.l1 * a.l.l2 ≤ length (set a.row.now c.chunk_of-at.result a.v) =
+    omega (arith, length-set a.row.now c.chunk_of-at.result a.v, p.0.1)
     in (
-      omega (arith, s.pre.0, lost-less a.cells a.z p.1.1.1),
+      omega (arith, s.requires.0, lost-less a.cells a.z p.1.1.1),
       ((p.0.0, long), (p.1.0, placed-found a.l (length a.y.now) a.cells a.z p.1.1.0)),
     )
 
 -- the length of the row stays
 content-size : (t : ℕ)
-    (c : try-content-lts.After-try-contents (try-content-claims t) (try-content-at t) try-content.Post) →
-    let k = c.before.before.before in
-    let a = (content-start t k).args in
-    length c.try-contents.new.1.1.1.1.0 ≡ length (set a.row.now k.chunk_of.result a.v)
+    (c : try-content-lts.After-try_contents (try-content-claims t) (try-content-at t) try-content.Post) →
+    let a = (content-start t c.before.before.before).args in
+    length c.try_contents.new.row ≡ length (set a.row.now c.chunk_of-at.result a.v)
 content-size t c = search rules
 
 try-content-same-length : (t : ℕ)
-    → try-content-lts.Need-same-length (try-content-claims t) (try-content-at t) try-content.Post
+    → try-content-lts.Need-shape_of-row (try-content-claims t) (try-content-at t) try-content.Post
 try-content-same-length t c =
-    let r = c.before.before.before.before in
-    let k = r.before.before.before in
-    let a = (content-start t k).args in
-    content-size t r ∙ length-set a.row.now k.chunk_of.result a.v
+    let a = (content-start t c.before.before.before.before.before.before.before).args in
+    content-size t c.before.before.before.before ∙ length-set a.row.now c.chunk_of-at.result a.v
 
 try-content-same-length-2 : (t : ℕ)
-    → try-content-lts.Need-same-length-2 (try-content-claims t) (try-content-at t) try-content.Post
+    → try-content-lts.Need-shape_of-list (try-content-claims t) (try-content-at t) try-content.Post
 try-content-same-length-2 t c = search rules
 
 try-content-returns : (t : ℕ)
     → try-content-lts.Need-returns (try-content-claims t) (try-content-at t) try-content.Post
 try-content-returns t c =
-    let r = c.before.before.before.before in
-    let k = r.before.before.before in
-    let a = (content-start t k).args in (
-      grown_weaken (λ x s w. found-under t k x w) r.try-contents.ensures.0,
-      same_trans (content-set t k) (same-found a.cells a.z r.try-contents.ensures.1),
+    let a = (content-start t c.before.before.before.before.before.before.before).args in (
+      grown_weaken (λ x s w. found-under t c.before.before.before.before.before.before.before x w) c.try_contents.ensures.0,
+      same_trans (content-set t c.before.before.before.before.before.before.before) (same-found a.cells a.z c.try_contents.ensures.1),
     )
 
 -- ---- the open cells
@@ -208,176 +202,164 @@ abbrev Contents-start : ℕ → Type 0
 Contents-start t = try-contents-lts.Start (try-contents-claims t) (try-contents-at t) try-contents.Post
 
 abbrev Contents-counted : ℕ → Type 0
-Contents-counted t = try-contents-lts.After-open-cells (try-contents-claims t) (try-contents-at t) try-contents.Post
+Contents-counted t = try-contents-lts.After-open_cells-open (try-contents-claims t) (try-contents-at t) try-contents.Post
 
 abbrev Contents-some : ℕ → Type 0
-Contents-some t = try-contents-lts.Else1 (try-contents-claims t) (try-contents-at t) try-contents.Post
+Contents-some t = try-contents-lts.Else-open-eq0 (try-contents-claims t) (try-contents-at t) try-contents.Post
 
 -- where `try_contents` starts, seen from where the open cells are counted
 abbrev contents-start : (t : ℕ) → Contents-counted t → Contents-start t
 contents-start t c = c.before.before.before.before.before.before
 
 try-contents-open-cells-requires : (t : ℕ)
-    → try-contents-lts.Need-open-cells-requires (try-contents-claims t) (try-contents-at t) try-contents.Post
+    → try-contents-lts.Need-open_cells-open-requires (try-contents-claims t) (try-contents-at t) try-contents.Post
 try-contents-open-cells-requires t c κs = search rules
 
 try-contents-add-row-requires : (t : ℕ)
-    → try-contents-lts.Need-add-row-requires (try-contents-claims t) (try-contents-at t) try-contents.Post
+    → try-contents-lts.Need-add_row-requires (try-contents-claims t) (try-contents-at t) try-contents.Post
 try-contents-add-row-requires t c κs =
-    let p = (contents-start t c.before.before.before).pre.1 in
+    let p = (contents-start t c.before.before).requires.1 in
     (p.0.0, (p.0.1, p.1.0))
 
 try-contents-same-length : (t : ℕ)
-    → try-contents-lts.Need-same-length (try-contents-claims t) (try-contents-at t) try-contents.Post
+    → try-contents-lts.Need-shape_of-row-then-open-eq0 (try-contents-claims t) (try-contents-at t) try-contents.Post
 try-contents-same-length t c = search rules
 
 try-contents-same-length-2 : (t : ℕ)
-    → try-contents-lts.Need-same-length-2 (try-contents-claims t) (try-contents-at t) try-contents.Post
+    → try-contents-lts.Need-shape_of-list-then-open-eq0 (try-contents-claims t) (try-contents-at t) try-contents.Post
 try-contents-same-length-2 t c = search rules
 
 try-contents-returns : (t : ℕ)
-    → try-contents-lts.Need-returns (try-contents-claims t) (try-contents-at t) try-contents.Post
+    → try-contents-lts.Need-returns-then-open-eq0 (try-contents-claims t) (try-contents-at t) try-contents.Post
 try-contents-returns t c =
-    let r = c.before.before in
-    let closed = r.before.before.before in
-    let k = closed.before in
-    let none = sym k.open-cells.ensures.0 ∙ closed.if1.true in (
-      grown_weaken (λ x s u. closed_in_hand (contents-start t k).requires.1.0.0.is_legal none u) r.add_row.ensures,
+    let none = sym c.open_cells-open.ensures.0 ∙ c.if-open-eq0.true in (
+      grown_weaken (λ x s u. closed_in_hand (contents-start t c.before.before.before.before.before).requires.1.0.0.is_legal none u) c.add_row.ensures,
       same_refl,
     )
 
 -- some cells are open
-some-open : (t : ℕ) (c : Contents-some t) → 0 < c.before.open-cells.result
-some-open t c = omega (arith, c.if1.false)
+some-open : (t : ℕ) (c : Contents-some t) → 0 < c.before.open_cells-open.result
+some-open t c = omega (arith, c.if-open-eq0.false)
 
 try-contents-add-recovered-requires : (t : ℕ)
-    → try-contents-lts.Need-add-recovered-requires (try-contents-claims t) (try-contents-at t) try-contents.Post
+    → try-contents-lts.Need-add_recovered-requires (try-contents-claims t) (try-contents-at t) try-contents.Post
 try-contents-add-recovered-requires t c κs =
-    let few = c.before.before in
-    let some = few.before.before in
-    let k = some.before in
-    let e = k.open-cells.ensures.0 in
-    let p = (contents-start t k).requires.1 in
-    (p.0, (p.1.0, (p.1.1, (omega (arith, e, some-open t some), omega (arith, e, few.if2.true)))))
+    let e = c.open_cells-open.ensures.0 in
+    let p = (contents-start t c.before.before.before.before.before).requires.1 in
+    (p.0, (p.1.0, (p.1.1, (omega (arith, e, some-open t c.before.before.before.before), omega (arith, e, c.if-open-l.true)))))
 
 try-contents-same-length-3 : (t : ℕ)
-    → try-contents-lts.Need-same-length-3 (try-contents-claims t) (try-contents-at t) try-contents.Post
+    → try-contents-lts.Need-shape_of-row-then-open-l (try-contents-claims t) (try-contents-at t) try-contents.Post
 try-contents-same-length-3 t c = search rules
 
 try-contents-same-length-4 : (t : ℕ)
-    → try-contents-lts.Need-same-length-4 (try-contents-claims t) (try-contents-at t) try-contents.Post
+    → try-contents-lts.Need-shape_of-list-then-open-l (try-contents-claims t) (try-contents-at t) try-contents.Post
 try-contents-same-length-4 t c = search rules
 
 try-contents-returns-2 : (t : ℕ)
-    → try-contents-lts.Need-returns-2 (try-contents-claims t) (try-contents-at t) try-contents.Post
-try-contents-returns-2 t c = c.before.before.before.before.add-recovered.ensures
+    → try-contents-lts.Need-returns-then-open-l (try-contents-claims t) (try-contents-at t) try-contents.Post
+try-contents-returns-2 t c = c.add_recovered.ensures
 
 try-contents-choose-requires : (t : ℕ)
-    → try-contents-lts.Need-choose-requires (try-contents-claims t) (try-contents-at t) try-contents.Post
+    → try-contents-lts.Need-choose-z-requires (try-contents-claims t) (try-contents-at t) try-contents.Post
 try-contents-choose-requires t c κs = search rules
 
 cells-lost : (t : ℕ) (c : Contents-start t) → length c.args.cells.lost ≡ 12
 cells-lost t c = search rules
 
 -- so one of them is chosen
-chosen : (t : ℕ) (c : try-contents-lts.After-choose (try-contents-claims t) (try-contents-at t) try-contents.Post)
-    → c.choose.result < 12
-chosen t c = go (lt_or_ge c.choose.result 12)
+chosen : (t : ℕ) (c : try-contents-lts.After-choose-z (try-contents-claims t) (try-contents-at t) try-contents.Post)
+    → c.choose-z.result < 12
+chosen t c = go (lt_or_ge c.choose-z.result 12)
   where
-    go : (c.choose.result < 12) ⊎ (12 ≤ c.choose.result) → c.choose.result < 12
+    go : (c.choose-z.result < 12) ⊎ (12 ≤ c.choose-z.result) → c.choose-z.result < 12
     go (inl h) = h
     go (inr h) =
-        let some = c.before.before.before in
-        let k = some.before in
-        let s = contents-start t k in
-        let last : c.choose.result ≡ 12 = omega (arith, c.choose.ensures.0) in
-        let q = weight-some s.args.cells.lost (omega (arith, k.open-cells.ensures.0, some-open t some)) in
+        let s = contents-start t c.before.before.before.before in
+        let last : c.choose-z.result ≡ 12 = omega (arith, c.choose-z.ensures.0) in
+        let q = weight-some s.args.cells.lost (omega (arith, c.open_cells-open.ensures.0, some-open t c.before.before.before)) in
         let low : q.0 < 12 = omega (arith, q.1.0, cells-lost t s) in
-        absurd (omega (arith, c.choose.ensures.1.1 last q.0 low, q.1.1))
+        absurd (omega (arith, c.choose-z.ensures.1.1 last q.0 low, q.1.1))
 
 try-contents-try-each-requires : (t : ℕ)
-    → try-contents-lts.Need-try-each-requires (try-contents-claims t) (try-contents-at t) try-contents.Post
+    → try-contents-lts.Need-try_each-requires (try-contents-claims t) (try-contents-at t) try-contents.Post
 try-contents-try-each-requires t c κs =
-    let k = c.before.before in
-    let s = contents-start t k.before.before.before.before in
-    let p = s.pre.1 in
-    let z = chosen t k in
-    (omega (arith, s.pre.0), (p.0, (p.1.0, (p.1.1, (z, k.choose.ensures.1.0 z)))))
+    let s = contents-start t c.before.before.before.before.before.before in
+    let p = s.requires.1 in
+    let z = chosen t c.before.before in
+    (omega (arith, s.requires.0), (p.0, (p.1.0, (p.1.1, (z, c.choose-z.ensures.1.0 z)))))
 
 try-contents-same-length-5 : (t : ℕ)
-    → try-contents-lts.Need-same-length-5 (try-contents-claims t) (try-contents-at t) try-contents.Post
+    → try-contents-lts.Need-shape_of-row (try-contents-claims t) (try-contents-at t) try-contents.Post
 try-contents-same-length-5 t c = search rules
 
 try-contents-same-length-6 : (t : ℕ)
-    → try-contents-lts.Need-same-length-6 (try-contents-claims t) (try-contents-at t) try-contents.Post
+    → try-contents-lts.Need-shape_of-list (try-contents-claims t) (try-contents-at t) try-contents.Post
 try-contents-same-length-6 t c = search rules
 
 try-contents-returns-3 : (t : ℕ)
-    → try-contents-lts.Need-returns-3 (try-contents-claims t) (try-contents-at t) try-contents.Post
-try-contents-returns-3 t c = c.before.before.before.before.try-each.ensures
+    → try-contents-lts.Need-returns (try-contents-claims t) (try-contents-at t) try-contents.Post
+try-contents-returns-3 t c = c.try_each.ensures
 
 -- ---- the contents of one cell
-abbrev try-each-Inv-loop : try-each-lts.invariant-loop
+abbrev try-each-Inv-loop : try-each-lts.invariant-loop-u
 try-each-Inv-loop l y numbers cells row₀ z cap list₀ tried n held₀ u₀ row list held u =
     Grown l numbers y cap (Tried l y cells row₀ z tried u) list₀ held₀.count held₀.more list held.count
     held.more
     × (SameBut l (OpenAt cells) row₀ row × (length row ≡ length row₀))
 
-abbrev try-each-μ-loop : try-each-lts.decreases-loop
+abbrev try-each-μ-loop : try-each-lts.decreases-loop-u
 try-each-μ-loop l y numbers cells row₀ z cap list₀ tried n held₀ u₀ row list held u = 256 - u
 
 try-each-slice-aggregate-list-contents : (t : ℕ)
-    → try-each-lts.Need-slice-aggregate-list-contents (try-each-claims t) (try-each-at t) try-each.Post
+    → try-each-lts.Need-slice_bounds-list_contents-end (try-each-claims t) (try-each-at t) try-each.Post
     try-each-Inv-loop try-each-μ-loop
 try-each-slice-aggregate-list-contents t c = search rules
 
 try-each-list-contents-requires : (t : ℕ)
-    → try-each-lts.Need-list-contents-requires (try-each-claims t) (try-each-at t) try-each.Post try-each-Inv-loop
+    → try-each-lts.Need-list_contents-n-requires (try-each-claims t) (try-each-at t) try-each.Post try-each-Inv-loop
     try-each-μ-loop
 try-each-list-contents-requires t c κs =
-    let p = c.before.before.before.before.before.before.requires.1 in
+    let p = c.requires.1 in
     (p.0, (p.1.1, search rules))
 
 -- where `try_each` starts, seen from where `list_contents` has answered
 abbrev try-each-start : (t : ℕ)
-    → try-each-lts.After-list-contents (try-each-claims t) (try-each-at t) try-each.Post try-each-Inv-loop try-each-μ-loop
+    → try-each-lts.After-list_contents-n (try-each-claims t) (try-each-at t) try-each.Post try-each-Inv-loop try-each-μ-loop
     → try-each-lts.Start (try-each-claims t) (try-each-at t) try-each.Post try-each-Inv-loop try-each-μ-loop
-try-each-start t c = c.before.before.before.before.before.before.before
+try-each-start t c = c.before.before.before.before.before.before
 
 try-each-loop-holds : (t : ℕ)
-    → try-each-lts.Need-loop-init (try-each-claims t) (try-each-at t) try-each.Post try-each-Inv-loop try-each-μ-loop
+    → try-each-lts.Need-loop-u-init (try-each-claims t) (try-each-at t) try-each.Post try-each-Inv-loop try-each-μ-loop
 try-each-loop-holds t c =
     let s = try-each-start t c.before in
-    (grown_nothing s.pre.1.1.0 (λ x r b. omega (arith, b.1.1.1.0)), (same_refl, refl))
+    (grown_nothing s.requires.1.1.0 (λ x r b. omega (arith, b.1.1.1.0)), (same_refl, refl))
 
 try-each-array-read-try-content : (t : ℕ)
-    → try-each-lts.Need-array-read-try-content (try-each-claims t) (try-each-at t) try-each.Post try-each-Inv-loop
+    → try-each-lts.Need-bounds-tried-u (try-each-claims t) (try-each-at t) try-each.Post try-each-Inv-loop
     try-each-μ-loop
 try-each-array-read-try-content t c =
-    let turn = c.before in
-    omega (arith, turn.loop-test.true, turn.before.before.before.list-contents.ensures.0)
+    omega (arith, c.loop-u-test.true, c.list_contents-n.ensures.0)
 
 try-each-try-content-requires : (t : ℕ)
-    → try-each-lts.Need-try-content-requires (try-each-claims t) (try-each-at t) try-each.Post try-each-Inv-loop
+    → try-each-lts.Need-try_content-held-requires (try-each-claims t) (try-each-at t) try-each.Post try-each-Inv-loop
     try-each-μ-loop
 try-each-try-content-requires t c κs =
-    let o = c.before.before.before in
-    let s = try-each-start t o.before.before in
-    let p = s.pre.1 in
-    let i = o.loop.invariant in (
-      omega (arith, s.pre.0),
+    let s = try-each-start t c.before.before.before.before.before in
+    let p = s.requires.1 in
+    let i = c.loop-u.invariant in (
+      omega (arith, s.requires.0),
       ((p.0.0, omega (arith, i.1.1, p.0.1)), (grown_holding p.1.0 i.0, p.1.1)),
     )
 
 try-each-add-u : (t : ℕ)
-    → try-each-lts.Need-overflow-add-u (try-each-claims t) (try-each-at t) try-each.Post try-each-Inv-loop try-each-μ-loop
+    → try-each-lts.Need-overflow_add-u (try-each-claims t) (try-each-at t) try-each.Post try-each-Inv-loop try-each-μ-loop
 try-each-add-u t c = search rules
 
 try-each-loop-less : (t : ℕ)
-    → try-each-lts.Need-loop-smaller (try-each-claims t) (try-each-at t) try-each.Post try-each-Inv-loop try-each-μ-loop
+    → try-each-lts.Need-loop-u-smaller (try-each-claims t) (try-each-at t) try-each.Post try-each-Inv-loop try-each-μ-loop
 try-each-loop-less t c =
-    let turn = c.before.before.before.before.before.before.before in
-    omega (arith, turn.loop-test.true, turn.before.before.before.list-contents.ensures.0)
+    omega (arith, c.loop-u-test.true, c.list_contents-n.ensures.0)
 
 -- a row with a content is under the state also for the row in hand that the contents before have changed
 with-same : (l : Layout) (y : List ℕ) (cells : Cells) (row other : List ℕ) (z v : ℕ) → SameBut l (OpenAt cells) row other
@@ -386,60 +368,56 @@ with-same l y cells row other z v s x w = (under_same s w.0, w.1)
 
 -- a turn of the loop, seen from where `try_content` has answered
 abbrev try-each-turn : (t : ℕ)
-    → try-each-lts.After-try-content (try-each-claims t) (try-each-at t) try-each.Post try-each-Inv-loop try-each-μ-loop
-    → try-each-lts.At-loop (try-each-claims t) (try-each-at t) try-each.Post try-each-Inv-loop try-each-μ-loop
+    → try-each-lts.After-try_content-held (try-each-claims t) (try-each-at t) try-each.Post try-each-Inv-loop try-each-μ-loop
+    → try-each-lts.At-loop-u (try-each-claims t) (try-each-at t) try-each.Post try-each-Inv-loop try-each-μ-loop
 try-each-turn t c = c.before.before.before.before
 
 -- it leaves the length of the row
 same_size : (t : ℕ)
-    (c : try-each-lts.After-try-content (try-each-claims t) (try-each-at t) try-each.Post try-each-Inv-loop try-each-μ-loop)
-    → length c.try-content.new.1.1.1.1.0 ≡ length (try-each-turn t c).loop.row
+    (c : try-each-lts.After-try_content-held (try-each-claims t) (try-each-at t) try-each.Post try-each-Inv-loop try-each-μ-loop)
+    → length c.try_content-held.new.row ≡ length (try-each-turn t c).loop-u.row
 same_size t c = search rules
 
 try-each-loop-again : (t : ℕ)
-    → try-each-lts.Need-loop-preserved (try-each-claims t) (try-each-at t) try-each.Post try-each-Inv-loop try-each-μ-loop
+    → try-each-lts.Need-loop-u-preserved (try-each-claims t) (try-each-at t) try-each.Post try-each-Inv-loop try-each-μ-loop
 try-each-loop-again t c =
-    let r = c.before.before.before.before in
-    let p = try-each-turn t r in
+    let p = try-each-turn t c.before.before.before.before in
     let s = try-each-start t p.before.before in
     let a = s.args in
-    let i = p.loop.inv in
-    let tried = p.before.before.list-contents.last.1.1.1.1.1.1.0 in
-    let v = get_or tried p.loop.u 0 in
+    let i = p.loop-u.invariant in
+    let tried = p.list_contents-n.new.out in
+    let v = get_or tried p.loop-u.u 0 in
     let one = grown_weaken
-    (λ x s. with-same a.l a.y.now a.cells a.row.now p.loop.row a.z v i.1.0 x)
-    r.try-content.ensures.0 in (
-      grown_weaken (λ x s b. tried_next a.l a.y.now a.cells a.row.now a.z tried p.loop.u b)
-          (grown_then s.pre.1.1.0 i.0 one),
-      (same_trans i.1.0 r.try-content.ensures.1, same_size t r ∙ i.1.1),
+    (λ x s. with-same a.l a.y.now a.cells a.row.now p.loop-u.row a.z v i.1.0 x)
+    c.try_content-held.ensures.0 in (
+      grown_weaken (λ x s b. tried_next a.l a.y.now a.cells a.row.now a.z tried p.loop-u.u b)
+          (grown_then s.requires.1.1.0 i.0 one),
+      (same_trans i.1.0 c.try_content-held.ensures.1, same_size t c.before.before.before.before ∙ i.1.1),
     )
 
 try-each-same-length : (t : ℕ)
-    → try-each-lts.Need-same-length (try-each-claims t) (try-each-at t) try-each.Post try-each-Inv-loop try-each-μ-loop
-try-each-same-length t c = c.before.loop.invariant.1.1
+    → try-each-lts.Need-shape_of-row (try-each-claims t) (try-each-at t) try-each.Post try-each-Inv-loop try-each-μ-loop
+try-each-same-length t c = c.loop-u.invariant.1.1
 
 try-each-same-length-2 : (t : ℕ)
-    → try-each-lts.Need-same-length-2 (try-each-claims t) (try-each-at t) try-each.Post try-each-Inv-loop try-each-μ-loop
+    → try-each-lts.Need-shape_of-list (try-each-claims t) (try-each-at t) try-each.Post try-each-Inv-loop try-each-μ-loop
 try-each-same-length-2 t c =
-    let p = c.before in
-    grown_length (try-each-start t p.before.before).pre.1.1.0 p.loop.invariant.0
+    grown_length (try-each-start t c.before.before.before).requires.1.1.0 c.loop-u.invariant.0
 
 try-each-returns : (t : ℕ)
     → try-each-lts.Need-returns (try-each-claims t) (try-each-at t) try-each.Post try-each-Inv-loop try-each-μ-loop
 try-each-returns t c =
-    let p = c.before in
-    let own = p.before.before.list-contents.ensures.1 in (
+    let own = c.list_contents-n.ensures.1 in (
       grown_weaken
           (λ x r u.
           let i = own x r u in
-          (u, (i.0, (i.1.0, (omega (arith, i.1.1.0, c.loop-test.false), i.1.1.1)))))
-          p.loop.invariant.0,
-      p.loop.invariant.1.0,
+          (u, (i.0, (i.1.0, (omega (arith, i.1.1.0, c.loop-u-test.false), i.1.1.1)))))
+          c.loop-u.invariant.0,
+      c.loop-u.invariant.1.0,
     )
 
-pub +try-content-try-contents-try-each-spec : {M : Type 1} → statement M
-+try-content-try-contents-try-each-spec = close μ-try-content μ-try-contents μ-try-each (λ t. try-content-lts.spec
-    (try-content-claims t)
+pub +try_content_try_contents_try_each_spec : {M : Type 1} → statement M
++try_content_try_contents_try_each_spec = close μ-try-content μ-try-contents μ-try-each (λ t. try-content-lts.spec (try-content-claims t)
     (try-content-at t)
     try-content.Post
     (try-content-chunk-of-requires t)

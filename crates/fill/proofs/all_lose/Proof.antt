@@ -1,7 +1,7 @@
 -- `fill::all_lose` meets its contract: where it says no, it has come to an open cell that loses another count. Assumes
 -- nothing.
 use borrow.Author.Rules.{rules}
-use borrow.Author.Tests.{eqb-false, not-true}
+use borrow.Author.Tests.{eqb-false}
 use Prim.Native.Nat.{◌-◌, ◌≤◌}
 use mathlib.Core.Path.{sym, ◌∙◌}
 use native.Mathlib.Omega.{arith}
@@ -10,71 +10,65 @@ use Rattle.cells.specs.Cells.{Open}
 use Rattle.fill.proofs.all_lose.Statement.{statement}
 use Rattle.fill.proofs.all_lose.Tie as tie
 
-abbrev invariant-loop : tie.invariant-loop
+abbrev invariant-loop : tie.invariant-loop-z
 invariant-loop l y row cells z₀ z = z ≤ 12
 
-abbrev decreases-loop : tie.decreases-loop
+abbrev decreases-loop : tie.decreases-loop-z
 decreases-loop l y row cells z₀ z = 12 - z
 
 -- the cell that is looked at is open, and stands in the row
-opened : (c : tie.Then1 invariant-loop decreases-loop)
-    → Open c.before.before.before.before.before.before.args.t3 c.before.before.before.loop.z
-opened c = (c.before.before.loop-test.true, c.if1.true)
+opened : (c : tie.Then-cells-z-gt0 invariant-loop decreases-loop)
+    → Open c.args.cells c.loop-z.z
+opened c = (c.loop-z-test.true, c.if-cells-z-gt0.true)
 
-loop-holds : tie.Need-loop-init invariant-loop decreases-loop
+loop-holds : tie.Need-loop-z-init invariant-loop decreases-loop
 loop-holds c = search rules
 
-element-copy-out-if1 : tie.Need-element-copy-out-if1 invariant-loop decreases-loop
+element-copy-out-if1 : tie.Need-bounds-cells-z invariant-loop decreases-loop
 element-copy-out-if1 c = search rules
 
-chunk-of-requires : tie.Need-chunk-of-requires invariant-loop decreases-loop
+chunk-of-requires : tie.Need-chunk_of-at-requires invariant-loop decreases-loop
 chunk-of-requires c κs =
-    let s = c.before.before.before.before.before.before in
-    let q = s.requires.1 c.before.before.before.loop.z (opened c) in
-    (s.requires.0.0, (c.before.before.loop-test.true, (q.0, q.1.0)))
+    let q = c.requires.1 c.loop-z.z (opened c) in
+    (c.requires.0.0, (c.loop-z-test.true, (q.0, q.1.0)))
 
-shared-slice-read-loses-just : tie.Need-shared-slice-read-loses-just invariant-loop decreases-loop
+shared-slice-read-loses-just : tie.Need-bounds-row-at invariant-loop decreases-loop
 shared-slice-read-loses-just c =
-    let s = c.before.before.before.before.before.before.before.before in
-    omega (arith, c.before.chunk_of.ensures.1, s.requires.0.1)
+    omega (arith, c.chunk_of-at.ensures.1, c.requires.0.1)
 
-mul-loses-just : tie.Need-overflow-mul-loses-just invariant-loop decreases-loop
+mul-loses-just : tie.Need-offset_bounds-cells-z invariant-loop decreases-loop
 mul-loses-just c = search rules
 
-element-copy-out-loses-just : tie.Need-element-copy-out-loses-just invariant-loop decreases-loop
+element-copy-out-loses-just : tie.Need-bounds-cells-z-then-cells-z-gt0 invariant-loop decreases-loop
 element-copy-out-loses-just c = search rules
 
-element-copy-out-loses-just-2 : tie.Need-element-copy-out-loses-just-2 invariant-loop decreases-loop
+element-copy-out-loses-just-2 : tie.Need-bounds-cells-z-then-cells-z-gt0-2 invariant-loop decreases-loop
 element-copy-out-loses-just-2 c = search rules
 
-loses-just-requires : tie.Need-loses-just-requires invariant-loop decreases-loop
+loses-just-requires : tie.Need-loses_just-requires invariant-loop decreases-loop
 loses-just-requires c κs =
-    let t = c.before.before.before.before in
-    let s = t.before.before.before.before.before.before in
-    let b = legal_bounds s.args.l s.requires.0.0 in
-    (omega (arith, b.nc_low), (b.nc_high, (s.requires.1 t.before.before.before.loop.z (opened t)).1.1))
+    let b = legal_bounds c.args.l c.requires.0.0 in
+    (omega (arith, b.nc_low), (b.nc_high, (c.requires.1 c.loop-z.z (opened c.before.before.before.before)).1.1))
 
-returns : tie.Need-returns invariant-loop decreases-loop
+returns : tie.Need-returns-then-not-loses_just invariant-loop decreases-loop
 returns c all =
-    let k = c.before.before.before.before.before in
-    let t = k.before in
-    let e = rw (sym k.chunk_of.ensures.0) at (all t.before.before.before.loop.z (opened t)) in
-    absurd (eqb-false _ _ (sym c.before.loses-just.ensures ∙ not-true _ c.if2.true) e)
+    let e = rw (sym c.chunk_of-at.ensures.0) at (all c.loop-z.z (opened c.before.before.before.before.before.before)) in
+    absurd (eqb-false _ _ (sym c.loses_just.ensures ∙ c.if-not-loses_just.true) e)
 
-add-z : tie.Need-overflow-add-z invariant-loop decreases-loop
+add-z : tie.Need-overflow_add-z invariant-loop decreases-loop
 add-z c = search rules
 
-loop-less : tie.Need-loop-smaller invariant-loop decreases-loop
+loop-less : tie.Need-loop-z-smaller invariant-loop decreases-loop
 loop-less c = search rules
 
-loop-again : tie.Need-loop-preserved invariant-loop decreases-loop
+loop-again : tie.Need-loop-z-preserved invariant-loop decreases-loop
 loop-again c = search rules
 
-returns-2 : tie.Need-returns-2 invariant-loop decreases-loop
+returns-2 : tie.Need-returns invariant-loop decreases-loop
 returns-2 c = search rules
 
-pub all-lose-spec : {M : Type 1} → statement M
-all-lose-spec =
+pub all_lose_spec : {M : Type 1} → statement M
+all_lose_spec =
     tie.close
     (tie.spec
     invariant-loop

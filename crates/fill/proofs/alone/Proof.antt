@@ -16,13 +16,13 @@ no-rest : (rest own whole : ℕ) → rest + own ≡ whole → eqb whole own ≡ 
 no-rest zero own whole e = eq-eqb whole own (omega arith) ∙ sym (eq-eqb 0 0 refl)
 no-rest (suc n) own whole e = ne_eqb whole own (λ f. omega arith) ∙ sym (ne_eqb (suc n) 0 (λ f. omega arith))
 
-array-read-share : tie.Need-array-read-share
+array-read-share : tie.Need-bounds-keys-z
 array-read-share c = search rules
 
 share-requires : tie.Need-share-requires
 share-requires c κs = search rules
 
-array-read-wide : tie.Need-array-read-wide
+array-read-wide : tie.Need-bounds-lost-z
 array-read-wide c = search rules
 
 wide-requires : tie.Need-wide-requires
@@ -30,13 +30,17 @@ wide-requires c κs = search rules
 
 returns : tie.Need-returns
 returns c =
-    let s = c.before.before in
-    let a = s.args in
-    let n : length a.t1 ≡ 12 = search rules in
-    let key = get_or a.t1 a.z 0 in
-    let found = rw (eq-eqb key key refl) at (share-found a.t1 a.t2 key a.z (omega arith)) in
-    no-rest (share a.t1 (set a.t2 a.z 0) key) c.wide.result c.before.share.result
-    (omega (arith, found, c.wide.ensures, c.before.share.ensures))
+    let a = c.args in
+    let n : length a.keys ≡ 12 = search rules in
+    let key = get_or a.keys a.z 0 in
+    let found = rw (eq-eqb key key refl) at (share-found a.keys a.lost key a.z (omega arith)) in
+    no-rest (share a.keys (set a.lost a.z 0) key) c.wide.result c.share.result
+    (omega (arith, found, c.wide.ensures, c.share.ensures))
 
-pub alone-spec : {M : Type 1} → statement M
-alone-spec = tie.close (tie.spec array-read-share share-requires array-read-wide wide-requires returns)
+pub alone_spec : {M : Type 1} → statement M
+alone_spec = tie.close (tie.spec
+    array-read-share
+    share-requires
+    array-read-wide
+    wide-requires
+    returns)

@@ -1,6 +1,6 @@
 -- `fill::ask_string` meets its contract: with the row's own content the chunk-string has its sum. Assumes nothing.
 use borrow.Author.Rules.{rules}
-use borrow.Author.Tests.{eqb-true, not-false}
+use borrow.Author.Tests.{eqb-true}
 use Prim.Native.Nat.{◌<◌}
 use mathlib.Core.Path.{◌≡◌, sym, ◌∙◌}
 use native.Mathlib.Omega.{arith}
@@ -15,10 +15,10 @@ use Rattle.fill.proofs.ask_string.Statement.{statement}
 use Rattle.fill.proofs.ask_string.Tie as tie
 
 -- how many cells there are, and that the chunk of this one is in the row
-cells-column : (c : tie.Start) → length c.args.t3.column ≡ 12
+cells-column : (c : tie.Start) → length c.args.cells.column ≡ 12
 cells-column c = search rules
 
-in_row : (c : tie.Start) → chunk_of c.args.l c.args.t3 c.args.z < length c.args.row.now
+in_row : (c : tie.Start) → chunk_of c.args.l c.args.cells c.args.z < length c.args.row.now
 in_row c = omega (arith, c.requires.0.1, chunk_inside c.args.l _ _ c.requires.1.1.1.0 c.requires.1.1.1.1)
 
 alone-requires : tie.Need-alone-requires
@@ -27,64 +27,61 @@ alone-requires c κs = search rules
 anything-requires : tie.Need-anything-requires
 anything-requires c κs = search rules
 
-returns : tie.Need-returns
+returns : tie.Need-returns-then-not-alone
 returns c = (c.anything.ensures.0, λ y x g s u. c.anything.ensures.1 _ _)
 
-element-copy-out-wide : tie.Need-element-copy-out-wide
+element-copy-out-wide : tie.Need-bounds-cells-z
 element-copy-out-wide c = search rules
 
-wide-requires : tie.Need-wide-requires
+wide-requires : tie.Need-wide-i-requires
 wide-requires c κs = search rules
 
-array-read-wide : tie.Need-array-read-wide
+array-read-wide : tie.Need-bounds-column-z
 array-read-wide c = search rules
 
-wide-requires-2 : tie.Need-wide-requires-2
+wide-requires-2 : tie.Need-wide-j-requires
 wide-requires-2 c κs = search rules
 
-add-k : tie.Need-overflow-add-k
+add-k : tie.Need-overflow_add-k
 add-k c = search rules
 
-mul_wide : tie.Need-overflow-mul-wide
+mul_wide : tie.Need-offset_bounds-numbers-k
 mul_wide c = search rules
 
-shared-slice-read-wide : tie.Need-shared-slice-read-wide
+shared-slice-read-wide : tie.Need-bounds-numbers-k
 shared-slice-read-wide c = search rules
 
-wide-requires-3 : tie.Need-wide-requires-3
+wide-requires-3 : tie.Need-wide-requires
 wide-requires-3 c κs = search rules
 
 -- where the function starts, seen from where the test does not hold
-abbrev start : tie.Else1 → tie.Start
+abbrev start : tie.Else-not-alone → tie.Start
 start c = c.before.before.before.before.before.before
 
 asked-requires : tie.Need-asked-requires
 asked-requires c κs =
-    let w = c.before.before.before in
-    let s = start w.before.before.before in
+    let s = start c.before.before.before.before.before.before in
     let a = s.args in (
-      rw w.wide2.ensures (string_inside a.l s.pre.0.0 (length a.row.now) s.pre.0.1 _ s.pre.1.1.1.1),
-      ((legal_bounds a.l s.pre.0.0).l2_low, rw w.before.wide.ensures s.pre.1.1.1.0),
+      rw c.wide-j.ensures (string_inside a.l s.requires.0.0 (length a.row.now) s.requires.0.1 _ s.requires.1.1.1.1),
+      ((legal_bounds a.l s.requires.0.0).l2_low, rw c.wide-i.ensures s.requires.1.1.1.0),
     )
 
-returns-2 : tie.Need-returns-2
+returns-2 : tie.Need-returns
 returns-2 c =
-    let w = c.before.before.before.before in
-    let o = w.before.before.before in
-    let b = start o in
+    let b = start c.before.before.before.before.before.before.before in
     let a = b.args in
-    let first = w.wide2.ensures in
-    let second = w.before.wide.ensures in
-    let e = eqb-true _ _ (sym o.before.alone.ensures ∙ not-false _ o.if1.false) in (
+    let first = c.wide-j.ensures in
+    let second = c.wide-i.ensures in
+    let e = eqb-true _ _ (sym c.alone.ensures ∙ c.if-not-alone.false) in (
       c.asked.ensures.0,
       λ y x g s u.
-          let has = string_alone g s u a.z (in_row b) (cells-column b) b.pre.1.1.1.1 e in
-          let own = get_or (values a.l x) (chunk_of a.l a.t3 a.z) 0 in
-          c.asked.ensures.1 own (rw (c.before.wide3.ensures, first, second) has),
+          let has = string_alone g s u a.z (in_row b) (cells-column b) b.requires.1.1.1.1 e in
+          let own = get_or (values a.l x) (chunk_of a.l a.cells a.z) 0 in
+          c.asked.ensures.1 own (rw (c.wide.ensures, first, second) has),
     )
 
-pub ask-string-spec : {M : Type 1} → statement M
-ask-string-spec =
+pub ask_string_spec : {M : Type 1} → statement M
+ask_string_spec =
     tie.close
     (tie.spec
     alone-requires
