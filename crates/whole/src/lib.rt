@@ -1,5 +1,7 @@
 // What the chunks of the heavy blocks in a column bring to the sum of their chunk-string where they are read whole, and whether the sum can
 // come out with all of them read so but one, which lost a bit. Contracts cite specs/Whole.antt.
+#![tactic(auto)]
+
 ghost use Rattle.std.specs.Prelude.{◌≡◌, true, ℕ, ◌+◌, ◌-◌, ◌*◌, ◌%◌, ◌^◌, ◌<◌, ◌≤◌, length, get_or, take, drop};
 ghost use Rattle.bits.specs.Bits.{AllBits, longest, longest_line, digits};
 ghost use Rattle.vt.specs.Sum.{total};

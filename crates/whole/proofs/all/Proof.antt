@@ -12,99 +12,98 @@ use Rattle.whole.specs.Whole.{unread}
 use Rattle.whole.proofs.all.Statement.{statement}
 use Rattle.whole.proofs.all.Tie as tie
 
-abbrev invariant-loop : tie.invariant-loop
+abbrev invariant-loop : tie.invariant-loop-s
 invariant-loop n table left sum₀ s₀ sum s = ((s ≤ n) × (sum ≤ s * unread)) × (sum ≡ added_up table (each left) s)
 
-abbrev decreases-loop : tie.decreases-loop
+abbrev decreases-loop : tie.decreases-loop-s
 decreases-loop n table left sum₀ s₀ sum s = n - s
 
-loop-holds : tie.Need-loop-init invariant-loop decreases-loop
+loop-holds : tie.Need-loop-s-init invariant-loop decreases-loop
 unfolding firsts
 loop-holds c = ((omega arith, omega arith), refl)
 
 -- the entry of a block stands in the table
-stands : (c : tie.In-loop invariant-loop decreases-loop) → let a = c.before.before.before.args in let s = c.before.loop.s in
-    (s * 13 + get_or a.t2 s 0 < length a.table.now) × (s * 13 + get_or a.t2 s 0 ≤ 100)
+stands : (c : tie.In-loop-s invariant-loop decreases-loop) → let a = c.args in let s = c.loop-s.s in
+    (s * 13 + get_or a.left s 0 < length a.table.now) × (s * 13 + get_or a.left s 0 ≤ 100)
 stands c =
     let s = c.before.before.before in
-    let h = c.loop-test.true in
-    let k = c.before.loop.s in
+    let h = c.loop-s-test.true in
+    let k = c.loop-s.s in
     let room = mul-le-mul_right {m = k + 1} {n = s.args.n} 13 (omega (arith, h)) in
     let low = s.requires.1.0 k h in
     (omega (arith, room, low, s.requires.1.1), omega (arith, low, h, s.requires.0))
 
-mul-sum : tie.Need-overflow-mul-sum invariant-loop decreases-loop
-mul-sum c = record { fits = omega (arith, (stands c).1) }
+mul-sum : tie.Need-overflow_mul-sum invariant-loop decreases-loop
+mul-sum c =
+    let low = c.requires.1.0 c.loop-s.s c.loop-s-test.true in
+    record { fits = omega (arith, low, c.loop-s-test.true, c.requires.0) }
 
-array-read-wide : tie.Need-array-read-wide invariant-loop decreases-loop
-array-read-wide c = omega (arith, c.loop-test.true, c.before.before.before.requires.0)
+array-read-wide : tie.Need-bounds-left-s invariant-loop decreases-loop
+array-read-wide c = omega (arith, c.loop-s-test.true, c.requires.0)
 
 wide-requires : tie.Need-wide-requires invariant-loop decreases-loop
 wide-requires c κs = search rules
 
-add-sum : tie.Need-overflow-add-sum invariant-loop decreases-loop
+add-sum : tie.Need-overflow_add-sum invariant-loop decreases-loop
 add-sum c = record { fits = omega (arith, (stands c.before).1, c.wide.ensures) }
 
-mul-sum-2 : tie.Need-overflow-mul-sum-2 invariant-loop decreases-loop
+mul-sum-2 : tie.Need-offset_bounds-table-s invariant-loop decreases-loop
 mul-sum-2 c = record { fits = omega (arith, (stands c.before).1, c.wide.ensures) }
 
-shared-slice-read-sum : tie.Need-shared-slice-read-sum invariant-loop decreases-loop
-shared-slice-read-sum c = omega (arith, (stands c.before.before).0, c.before.wide.ensures)
+shared-slice-read-sum : tie.Need-bounds-table-s invariant-loop decreases-loop
+shared-slice-read-sum c = omega (arith, (stands c.before.before).0, c.wide.ensures)
 
 -- what is read is the entry, of sixteen bits
-entry : (c : tie.After-shared-slice-known2 invariant-loop decreases-loop) → let t = c.before.before in
-    let a = t.before.before.before.args in
-    let s = t.before.loop.s in
-    (get_or a.table.now (s * 13 + c.before.wide.result) 0 ≡ get_or a.table.now (s * 13 + get_or a.t2 s 0) 0)
-    × (get_or a.table.now (s * 13 + c.before.wide.result) 0 ≤ unread)
+entry : (c : tie.After-shared_slice_known-in-loop-s-1 invariant-loop decreases-loop) →
+    let a = c.args in
+    let s = c.loop-s.s in
+    (get_or a.table.now (s * 13 + c.wide.result) 0 ≡ get_or a.table.now (s * 13 + get_or a.left s 0) 0)
+    × (get_or a.table.now (s * 13 + c.wide.result) 0 ≤ unread)
 entry c =
-    let w = c.before in
-    let a = w.before.before.before.before.args in
-    let s = w.before.before.loop.s in (
-      ap (λ (v : ℕ). get_or a.table.now (s * 13 + v) 0) w.wide.ensures,
-      omega (arith, c.shared-slice-known2.given (s * 13 + w.wide.result)),
+    let a = c.args in
+    let s = c.loop-s.s in (
+      ap (λ (v : ℕ). get_or a.table.now (s * 13 + v) 0) c.wide.ensures,
+      omega (arith, c.shared_slice_known-in-loop-s-1.given (s * 13 + c.wide.result)),
     )
 
-cast-sum : tie.Need-overflow-cast-sum invariant-loop decreases-loop
+cast-sum : tie.Need-overflow_cast-sum invariant-loop decreases-loop
 cast-sum c = record { fits = omega (arith, (entry c).1) }
 
-add-sum-2 : tie.Need-overflow-add-sum-2 invariant-loop decreases-loop
+add-sum-2 : tie.Need-overflow_add-sum-in-loop-s invariant-loop decreases-loop
 add-sum-2 c =
-    let t = c.before.before in
     record {
       fits = omega (
         arith,
         (entry c).1,
-        t.before.loop.invariant.0.1,
-        t.loop-test.true,
-        t.before.before.before.requires.0,
+        c.loop-s.invariant.0.1,
+        c.loop-s-test.true,
+        c.requires.0,
       );
     }
 
-add-s : tie.Need-overflow-add-s invariant-loop decreases-loop
+add-s : tie.Need-overflow_add-s invariant-loop decreases-loop
 add-s c = search rules
 
-loop-less : tie.Need-loop-smaller invariant-loop decreases-loop
+loop-less : tie.Need-loop-s-smaller invariant-loop decreases-loop
 loop-less c = search rules
 
-loop-again : tie.Need-loop-preserved invariant-loop decreases-loop
+loop-again : tie.Need-loop-s-preserved invariant-loop decreases-loop
 unfolding firsts
 loop-again c =
-    let t = c.before.before in
-    let p = t.before.loop in (
-      (omega (arith, t.loop-test.true), omega (arith, p.invariant.0.1, (entry c).1)),
+    let p = c.loop-s in (
+      (omega (arith, c.loop-s-test.true), omega (arith, p.invariant.0.1, (entry c).1)),
       rw (add-one p.s) (omega (arith, p.invariant.1, (entry c).0)),
     )
 
 returns : tie.Need-returns invariant-loop decreases-loop
 returns c =
-    let p = c.before.loop in
-    let a = c.before.before.before.args in
-    let e : p.s ≡ a.n = omega (arith, p.invariant.0.0, c.loop-test.false) in
-    (p.invariant.1 ∙ ap (λ (k : ℕ). added_up a.table.now (each a.t2) k) e, rw (← e) p.invariant.0.1)
+    let p = c.loop-s in
+    let a = c.args in
+    let e : p.s ≡ a.n = omega (arith, p.invariant.0.0, c.loop-s-test.false) in
+    (p.invariant.1 ∙ ap (λ (k : ℕ). added_up a.table.now (each a.left) k) e, rw (← e) p.invariant.0.1)
 
-pub all-spec : {M : Type 1} → statement M
-all-spec =
+pub all_spec : {M : Type 1} → statement M
+all_spec =
     tie.close
     (tie.spec
     invariant-loop

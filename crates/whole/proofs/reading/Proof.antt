@@ -16,20 +16,20 @@ use Rattle.whole.proofs.reading.Statement.{statement}
 use Rattle.whole.proofs.reading.Tie as tie
 
 -- where the function starts, seen from where the chunk has its place
-abbrev begin : tie.After-place-of → tie.Start
+abbrev begin : tie.After-place_of-p → tie.Start
 begin c = c.before.before.before.before
 
-cast-left : tie.Need-overflow-cast-left
+cast-left : tie.Need-overflow_cast-left
 cast-left c = search rules
 
-place-of-requires : tie.Need-place-of-requires
+place-of-requires : tie.Need-place_of-p-requires
 place-of-requires c κs =
-    let p = c.before.before.before.requires.0 in
+    let p = c.requires.0 in
     ((p.allowed, p.short), (p.inside, p.column))
 
-returns : tie.Need-returns
+returns : tie.Need-returns-then-not-p
 returns c = (
-  λ r. absurd (false≢true (sym (not-true _ c.if1.true) ∙ c.before.before.place_of.ensures.found r)),
+  λ r. absurd (false≢true (sym (not-true _ c.if-not-p.true) ∙ c.place_of-p.ensures.found r)),
   omega arith,
 )
 
@@ -42,48 +42,42 @@ before-low : (c : tie.After-wide) → let a = (begin c.before.before.before).arg
 before-low c =
     let s = begin c.before.before.before in
     let a = s.args in
-    let p = s.pre.0 in
+    let p = s.requires.0 in
     subst (λ (i : ℕ). i * a.l.nc ≤ longest_line) (sym c.wide.ensures)
     (chunk_lies a.l p.allowed a.block a.j p.inside p.column).in_string
 
-mul-weight : tie.Need-overflow-mul-weight
+mul-weight : tie.Need-overflow_mul-wide
 mul-weight c = record { fits = omega (arith, before-low c.before) }
 
 weight-requires : tie.Need-weight-requires
 weight-requires c κs =
-    let w = c.before in
-    let e = w.before in
-    let o = e.before.before in
-    let p = (begin o).requires.0 in
-    let place = o.place_of.ensures in
-    let ok : o.place_of.result.ok ≡ true = not-false _ e.if1.false in
-    ((p.bits, p.short), (p.tables, (omega (arith, place.within ok, place.lost_just ok), before-low w)))
+    let p = (begin c.before.before.before.before).requires.0 in
+    let place = c.place_of-p.ensures in
+    let ok : c.place_of-p.result.ok ≡ true = not-false _ c.if-not-p.false in
+    ((p.bits, p.short), (p.tables, (omega (arith, place.within ok, place.lost_just ok), before-low c.before)))
 
-returns-2 : tie.Need-returns-2
+returns-2 : tie.Need-returns
 unfolding brings
 returns-2 c =
-    let w = c.before.before in
-    let e = w.before in
-    let o = e.before.before in
-    let s = begin o in
+    let s = begin c.before.before.before.before.before in
     let a = s.args in
-    let at = o.place_of.ensures.at_just (not-false _ e.if1.false) in
-    let bounds = legal_bounds a.l s.pre.0.allowed in
+    let at = c.place_of-p.ensures.at_just (not-false _ c.if-not-p.false) in
+    let bounds = legal_bounds a.l s.requires.0.allowed in
     let few =
-    mul-le-mul {n₁ = w.wide.result * a.l.nc} {m₁ = a.l.nc} {n₂ = longest_line} {m₂ = 8} (before-low w)
+    mul-le-mul {n₁ = c.wide.result * a.l.nc} {m₁ = a.l.nc} {n₂ = longest_line} {m₂ = 8} (before-low c.before.before)
     bounds.nc_high in
     let small : c.weight.result < unread =
     omega (arith, c.weight.ensures.1, few, mul-le-mul bounds.nc_high bounds.nc_high) in (
       λ r. (
         c.weight.ensures.0
-            ∙ ap₂ (λ (k p : ℕ). total (k * a.l.nc + 1) (take a.l.nc (drop p a.y.now))) w.wide.ensures at,
+            ∙ ap₂ (λ (k p : ℕ). total (k * a.l.nc + 1) (take a.l.nc (drop p a.y.now))) c.wide.ensures at,
         small,
       ),
       omega (arith, small),
     )
 
-pub reading-spec : {M : Type 1} → statement M
-reading-spec =
+pub reading_spec : {M : Type 1} → statement M
+reading_spec =
     tie.close
     (tie.spec
     cast-left

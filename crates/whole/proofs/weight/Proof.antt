@@ -12,43 +12,45 @@ use Rattle.whole.proofs.weight.Statement.{statement}
 use Rattle.whole.proofs.weight.Tie as tie
 
 -- the start of a call that has looked
-abbrev begin : tie.After-look → tie.Start
+abbrev begin : tie.After-look-seen → tie.Start
 begin m = m.before.before.before.before
 
 -- the window is not longer than the longest row, so the ones weigh little with the positions before them
-short : (m : tie.After-look) → let a = (begin m).args in
-    (a.w ≤ longest) × (a.before * m.look.result.ones ≤ longest_line * longest)
+short : (m : tie.After-look-seen) → let a = (begin m).args in
+    (a.w ≤ longest) × (a.before * m.look-seen.result.ones ≤ longest_line * longest)
 short m =
     let a = (begin m).args in
     let w : a.w ≤ longest = omega (arith, (begin m).requires) in
-    let few : m.look.result.ones ≤ longest = omega (arith, m.look.ensures.count_small) in
+    let few : m.look-seen.result.ones ≤ longest = omega (arith, m.look-seen.ensures.count_small) in
     let low : a.before ≤ longest_line = (begin m).requires.1.1.1 in
     (w, mul-le-mul low few)
 
-look-requires : tie.Need-look-requires
+look-requires : tie.Need-look-seen-requires
 look-requires c κs = search rules
 
-mul-result : tie.Need-overflow-mul-result
+mul-result : tie.Need-overflow_mul-result
 mul-result c = omega (arith, (short c.before).1)
 
-add-result : tie.Need-overflow-add-result
+add-result : tie.Need-overflow_add-result
 add-result c =
-    let m = c.before.before in
-    let w = (short m).0 in
-    omega (arith, (short m).1, m.look.ensures.positions-small, mul-le-mul w w)
+    let w = (short c.before.before).0 in
+    omega (arith, (short c.before.before).1, c.look-seen.ensures.positions-small, mul-le-mul w w)
 
 returns : tie.Need-returns
 returns c =
-    let m = c.before.before in
-    let a = (begin m).args in
-    let seen = m.look.ensures in
+    let a = (begin c.before.before).args in
+    let seen = c.look-seen.ensures in
     let x = take a.w (drop a.p a.y.now) in
     let few =
-    mul-le-mul {n₁ = a.before} {m₁ = m.look.result.ones} {n₂ = a.before} {m₂ = a.w} (omega arith)
+    mul-le-mul {n₁ = a.before} {m₁ = c.look-seen.result.ones} {n₂ = a.before} {m₂ = a.w} (omega arith)
     seen.count_small in (
       omega (arith, seen.positions, ap (λ (n : ℕ). a.before * n) seen.count, total_on a.before x),
       omega (arith, few, seen.positions-small),
     )
 
-pub weight-spec : {M : Type 1} → statement M
-weight-spec = tie.close (tie.spec look-requires mul-result add-result returns)
+pub weight_spec : {M : Type 1} → statement M
+weight_spec = tie.close (tie.spec
+    look-requires
+    mul-result
+    add-result
+    returns)
