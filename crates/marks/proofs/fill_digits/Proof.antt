@@ -1,7 +1,7 @@
 -- `marks::fill_digits` meets its contract. The loop's invariant: the table is right for the states passed, and the
 -- losses left are those of the next state. The measure is what is left of the states. Assumes nothing.
-use Prim.Native.Nat.{ℕ, ◌+◌, ◌-◌, ◌<◌, ◌≤◌}
-use mathlib.Core.Path.{◌≡◌, refl, sym, ◌∙◌}
+use Prim.Native.Nat.{ℕ, ◌-◌, ◌<◌, ◌≤◌}
+use mathlib.Core.Path.{◌≡◌, refl, ◌∙◌}
 use mathlib.Core.List.{List}
 use native.Mathlib.Omega.{arith}
 use borrow.Author.Rules.{rules}
@@ -12,10 +12,6 @@ use Rattle.marks.specs.Digits.{Within}
 use Rattle.marks.proofs.Digits.{Tabled, table-next}
 use Rattle.marks.proofs.fill_digits.Statement.{statement}
 use Rattle.marks.proofs.fill_digits.Tie as tie
-use Rattle.marks.proofs.fill_digits.Reads as reads
-use Rattle.marks.proofs.fill_digits.Lts as lts
-use Rattle.marks.proofs.put_digits.Reads as put-digits-reads
-use Rattle.states.proofs.next_left.Reads as next-left-reads
 
 abbrev invariant-loop : tie.invariant-loop-q
 invariant-loop shape digits₀ size left₀ q₀ digits left q =
