@@ -1,5 +1,7 @@
 // Mending by turns: chunk-strings and blocks that have exactly one open loss are mended by their sums, until neither kind has
 // one. Contracts cite specs/Turns.antt.
+#![tactic(auto)]
+
 ghost use Rattle.std.specs.Prelude.{◌≡◌, true, List, ℕ, ◌*◌, ◌<◌, ◌≤◌, length, drop};
 ghost use Rattle.message.specs.Layout.{legal as isLegal};
 ghost use Rattle.found.specs.Found.{Given, Holding, Grown};

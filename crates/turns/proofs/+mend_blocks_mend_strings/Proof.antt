@@ -73,10 +73,10 @@ abbrev Blocks-start : ℕ → Type 0
 Blocks-start t = mend-blocks-lts.Start (mend-blocks-claims t) (mend-blocks-at t) mend-blocks.Post
 
 abbrev Blocks-taken : ℕ → Type 0
-Blocks-taken t = mend-blocks-lts.After-take-turn (mend-blocks-claims t) (mend-blocks-at t) mend-blocks.Post
+Blocks-taken t = mend-blocks-lts.After-take_turn-t (mend-blocks-claims t) (mend-blocks-at t) mend-blocks.Post
 
 abbrev Blocks-found : ℕ → Type 0
-Blocks-found t = mend-blocks-lts.After-struct-known2 (mend-blocks-claims t) (mend-blocks-at t) mend-blocks.Post
+Blocks-found t = mend-blocks-lts.After-struct_known-2-1 (mend-blocks-claims t) (mend-blocks-at t) mend-blocks.Post
 
 abbrev blocks_start : (t : ℕ) → Blocks-taken t → Blocks-start t
 blocks_start t c = c.before.before.before.before.before.before
@@ -87,91 +87,85 @@ blocks-taken t c = c.before.before.before.before.before.before
 -- the turn leaves the length of the row
 blocks-long : (t : ℕ) (c : Blocks-taken t) →
     let a = (blocks_start t c).args in
-    a.l.l1 * a.l.l2 ≤ length c.take-turn.new.1.1.1.1.1.0
+    a.l.l1 * a.l.l2 ≤ length c.take_turn-t.new.row
 blocks-long t c =
     let s = blocks_start t c in
-    let e : length c.take-turn.new.1.1.1.1.1.0 ≡ length s.args.row.now = search rules in
-    omega (arith, s.pre.1.0.1)
+    let e : length c.take_turn-t.new.row ≡ length s.args.row.now = search rules in
+    omega (arith, s.requires.1.0.1)
 
 mend-blocks-take-turn-requires : (t : ℕ)
-    → mend-blocks-lts.Need-take-turn-requires (mend-blocks-claims t) (mend-blocks-at t) mend-blocks.Post
+    → mend-blocks-lts.Need-take_turn-t-requires (mend-blocks-claims t) (mend-blocks-at t) mend-blocks.Post
 mend-blocks-take-turn-requires t c κs =
-    let s = c.before.before.before.before.before in
-    (s.requires.1.0, s.requires.1.1.1.0)
+    (c.requires.1.0, c.requires.1.1.1.0)
 
 mend-blocks-same-length : (t : ℕ)
-    → mend-blocks-lts.Need-same-length (mend-blocks-claims t) (mend-blocks-at t) mend-blocks.Post
+    → mend-blocks-lts.Need-shape_of-row-then-not-t (mend-blocks-claims t) (mend-blocks-at t) mend-blocks.Post
 mend-blocks-same-length t c = search rules
 
-mend-blocks-returns : (t : ℕ) → mend-blocks-lts.Need-returns (mend-blocks-claims t) (mend-blocks-at t) mend-blocks.Post
+mend-blocks-returns : (t : ℕ) → mend-blocks-lts.Need-returns-then-not-t (mend-blocks-claims t) (mend-blocks-at t) mend-blocks.Post
 mend-blocks-returns t c =
-    let q = c.before.before.before.before in
-    let s = blocks_start t q in
-    grown_failed q.take-turn.ensures.0 s.pre.1.1.0 (not-true _ c.if1.true)
+    let s = blocks_start t c.before.before.before.before in
+    grown_failed c.take_turn-t.ensures.0 s.requires.1.1.0 (not-true _ c.if-not-t.true)
 
 mend-blocks-fill-requires : (t : ℕ)
     → mend-blocks-lts.Need-fill-requires (mend-blocks-claims t) (mend-blocks-at t) mend-blocks.Post
 mend-blocks-fill-requires t c κs =
-    let found = c.before.before.before in
-    let turn = blocks-taken t found in
+    let turn = blocks-taken t c.before.before.before in
     let s = blocks_start t turn in
-    let q = turn.take-turn in
-    let own = q.ensures.1 (not-false _ found.before.before.if1.false) in
-    let other = still-none q.ensures.0 true (not-true _ c.before.before.if2.true) s.pre.1.1.1.1 in
-    ((s.pre.1.0.0, blocks-long t turn), (s.pre.1.1.0, (q.ensures.0.placed, (own, other))))
+    let q = turn.take_turn-t in
+    let own = q.ensures.1 (not-false _ c.if-not-t.false) in
+    let other = still-none q.ensures.0 true (not-true _ c.if-not-t-2.true) s.requires.1.1.1.1 in
+    ((s.requires.1.0.0, blocks-long t turn), (s.requires.1.1.0, (q.ensures.0.placed, (own, other))))
 
 mend-blocks-same-length-2 : (t : ℕ)
-    → mend-blocks-lts.Need-same-length-2 (mend-blocks-claims t) (mend-blocks-at t) mend-blocks.Post
+    → mend-blocks-lts.Need-shape_of-row-then-not-t-2 (mend-blocks-claims t) (mend-blocks-at t) mend-blocks.Post
 mend-blocks-same-length-2 t c = search rules
 
 mend-blocks-same-length-3 : (t : ℕ)
-    → mend-blocks-lts.Need-same-length-3 (mend-blocks-claims t) (mend-blocks-at t) mend-blocks.Post
+    → mend-blocks-lts.Need-shape_of-list-then-not-t-2 (mend-blocks-claims t) (mend-blocks-at t) mend-blocks.Post
 mend-blocks-same-length-3 t c = search rules
 
 mend-blocks-returns-2 : (t : ℕ)
-    → mend-blocks-lts.Need-returns-2 (mend-blocks-claims t) (mend-blocks-at t) mend-blocks.Post
+    → mend-blocks-lts.Need-returns-then-not-t-2 (mend-blocks-claims t) (mend-blocks-at t) mend-blocks.Post
 mend-blocks-returns-2 t c =
-    let r = c.before.before.before.before in
-    let q = (blocks-taken t r.before.before.before.before).take-turn in
-    grown_advanced q.ensures.0 r.fill.ensures
+    let q = c.take_turn-t in
+    grown_advanced q.ensures.0 c.fill.ensures
 
 mend-blocks-mend-strings-requires : (t : ℕ)
-    → mend-blocks-lts.Need-mend-strings-requires (mend-blocks-claims t) (mend-blocks-at t) mend-blocks.Post
+    → mend-blocks-lts.Need-mend_strings-requires (mend-blocks-claims t) (mend-blocks-at t) mend-blocks.Post
 mend-blocks-mend-strings-requires t c κs =
-    let found = c.before.before.before in
-    let turn = blocks-taken t found in
+    let turn = blocks-taken t c.before.before.before in
     let s = blocks_start t turn in
-    let q = turn.take-turn in
-    let ok = not-false _ found.before.before.if1.false in
-    let less = q.ensures.0.fewer (not-false _ c.before.before.if2.false) in (
-      omega (arith, s.pre.0, less),
-      ((s.pre.1.0.0, blocks-long t turn), (s.pre.1.1.0, (q.ensures.0.placed, q.ensures.1 ok))),
+    let q = turn.take_turn-t in
+    let ok = not-false _ c.if-not-t.false in
+    let less = q.ensures.0.fewer (not-false _ c.if-not-t-2.false) in (
+      omega (arith, s.requires.0, less),
+      ((s.requires.1.0.0, blocks-long t turn), (s.requires.1.1.0, (q.ensures.0.placed, q.ensures.1 ok))),
     )
 
 mend-blocks-same-length-4 : (t : ℕ)
-    → mend-blocks-lts.Need-same-length-4 (mend-blocks-claims t) (mend-blocks-at t) mend-blocks.Post
+    → mend-blocks-lts.Need-shape_of-row (mend-blocks-claims t) (mend-blocks-at t) mend-blocks.Post
 mend-blocks-same-length-4 t c = search rules
 
 mend-blocks-same-length-5 : (t : ℕ)
-    → mend-blocks-lts.Need-same-length-5 (mend-blocks-claims t) (mend-blocks-at t) mend-blocks.Post
+    → mend-blocks-lts.Need-shape_of-list (mend-blocks-claims t) (mend-blocks-at t) mend-blocks.Post
 mend-blocks-same-length-5 t c = search rules
 
 mend-blocks-returns-3 : (t : ℕ)
-    → mend-blocks-lts.Need-returns-3 (mend-blocks-claims t) (mend-blocks-at t) mend-blocks.Post
+    → mend-blocks-lts.Need-returns (mend-blocks-claims t) (mend-blocks-at t) mend-blocks.Post
 mend-blocks-returns-3 t c =
-    let r = c.before.before.before.before in
-    let q = (blocks-taken t r.before.before.before.before).take-turn in
-    grown_advanced q.ensures.0 r.mend-strings.ensures
+    let q = c.take_turn-t in
+    grown_advanced q.ensures.0 c.mend_strings.ensures
 
 -- places of `mend_strings`: the entry, where the turn is taken, and where a cell was found
 abbrev Strings-start : ℕ → Type 0
 Strings-start t = mend-strings-lts.Start (mend-strings-claims t) (mend-strings-at t) mend-strings.Post
 
 abbrev Strings-taken : ℕ → Type 0
-Strings-taken t = mend-strings-lts.After-take-turn (mend-strings-claims t) (mend-strings-at t) mend-strings.Post
+Strings-taken t = mend-strings-lts.After-take_turn-t (mend-strings-claims t) (mend-strings-at t) mend-strings.Post
 
 abbrev Strings-found : ℕ → Type 0
-Strings-found t = mend-strings-lts.After-struct-known2 (mend-strings-claims t) (mend-strings-at t) mend-strings.Post
+Strings-found t = mend-strings-lts.After-struct_known-2-1 (mend-strings-claims t) (mend-strings-at t) mend-strings.Post
 
 abbrev strings-start : (t : ℕ) → Strings-taken t → Strings-start t
 strings-start t c = c.before.before.before.before.before.before
@@ -182,85 +176,79 @@ strings-taken t c = c.before.before.before.before.before.before
 -- the turn leaves the length of the row
 strings-long : (t : ℕ) (c : Strings-taken t) →
     let a = (strings-start t c).args in
-    a.l.l1 * a.l.l2 ≤ length c.take-turn.new.1.1.1.1.1.0
+    a.l.l1 * a.l.l2 ≤ length c.take_turn-t.new.row
 strings-long t c =
     let s = strings-start t c in
-    let e : length c.take-turn.new.1.1.1.1.1.0 ≡ length s.args.row.now = search rules in
-    omega (arith, s.pre.1.0.1)
+    let e : length c.take_turn-t.new.row ≡ length s.args.row.now = search rules in
+    omega (arith, s.requires.1.0.1)
 
 mend-strings-take-turn-requires : (t : ℕ)
-    → mend-strings-lts.Need-take-turn-requires (mend-strings-claims t) (mend-strings-at t) mend-strings.Post
+    → mend-strings-lts.Need-take_turn-t-requires (mend-strings-claims t) (mend-strings-at t) mend-strings.Post
 mend-strings-take-turn-requires t c κs =
-    let s = c.before.before.before.before.before in
-    (s.requires.1.0, s.requires.1.1.1.0)
+    (c.requires.1.0, c.requires.1.1.1.0)
 
 mend-strings-same-length : (t : ℕ)
-    → mend-strings-lts.Need-same-length (mend-strings-claims t) (mend-strings-at t) mend-strings.Post
+    → mend-strings-lts.Need-shape_of-row-then-not-t (mend-strings-claims t) (mend-strings-at t) mend-strings.Post
 mend-strings-same-length t c = search rules
 
 mend-strings-returns : (t : ℕ)
-    → mend-strings-lts.Need-returns (mend-strings-claims t) (mend-strings-at t) mend-strings.Post
+    → mend-strings-lts.Need-returns-then-not-t (mend-strings-claims t) (mend-strings-at t) mend-strings.Post
 mend-strings-returns t c =
-    let q = c.before.before.before.before in
-    let s = strings-start t q in
-    grown_failed q.take-turn.ensures.0 s.pre.1.1.0 (not-true _ c.if1.true)
+    let s = strings-start t c.before.before.before.before in
+    grown_failed c.take_turn-t.ensures.0 s.requires.1.1.0 (not-true _ c.if-not-t.true)
 
 mend-strings-fill-requires : (t : ℕ)
     → mend-strings-lts.Need-fill-requires (mend-strings-claims t) (mend-strings-at t) mend-strings.Post
 mend-strings-fill-requires t c κs =
-    let found = c.before.before.before in
-    let turn = strings-taken t found in
+    let turn = strings-taken t c.before.before.before in
     let s = strings-start t turn in
-    let q = turn.take-turn in
-    let own = q.ensures.1 (not-false _ found.before.before.if1.false) in
-    let other = still-none q.ensures.0 false (not-true _ c.before.before.if2.true) s.pre.1.1.1.1 in
-    ((s.pre.1.0.0, strings-long t turn), (s.pre.1.1.0, (q.ensures.0.placed, (other, own))))
+    let q = turn.take_turn-t in
+    let own = q.ensures.1 (not-false _ c.if-not-t.false) in
+    let other = still-none q.ensures.0 false (not-true _ c.if-not-t-2.true) s.requires.1.1.1.1 in
+    ((s.requires.1.0.0, strings-long t turn), (s.requires.1.1.0, (q.ensures.0.placed, (other, own))))
 
 mend-strings-same-length-2 : (t : ℕ)
-    → mend-strings-lts.Need-same-length-2 (mend-strings-claims t) (mend-strings-at t) mend-strings.Post
+    → mend-strings-lts.Need-shape_of-row-then-not-t-2 (mend-strings-claims t) (mend-strings-at t) mend-strings.Post
 mend-strings-same-length-2 t c = search rules
 
 mend-strings-same-length-3 : (t : ℕ)
-    → mend-strings-lts.Need-same-length-3 (mend-strings-claims t) (mend-strings-at t) mend-strings.Post
+    → mend-strings-lts.Need-shape_of-list-then-not-t-2 (mend-strings-claims t) (mend-strings-at t) mend-strings.Post
 mend-strings-same-length-3 t c = search rules
 
 mend-strings-returns-2 : (t : ℕ)
-    → mend-strings-lts.Need-returns-2 (mend-strings-claims t) (mend-strings-at t) mend-strings.Post
+    → mend-strings-lts.Need-returns-then-not-t-2 (mend-strings-claims t) (mend-strings-at t) mend-strings.Post
 mend-strings-returns-2 t c =
-    let r = c.before.before.before.before in
-    let q = (strings-taken t r.before.before.before.before).take-turn in
-    grown_advanced q.ensures.0 r.fill.ensures
+    let q = c.take_turn-t in
+    grown_advanced q.ensures.0 c.fill.ensures
 
 mend-strings-mend-blocks-requires : (t : ℕ)
-    → mend-strings-lts.Need-mend-blocks-requires (mend-strings-claims t) (mend-strings-at t) mend-strings.Post
+    → mend-strings-lts.Need-mend_blocks-requires (mend-strings-claims t) (mend-strings-at t) mend-strings.Post
 mend-strings-mend-blocks-requires t c κs =
-    let found = c.before.before.before in
-    let turn = strings-taken t found in
+    let turn = strings-taken t c.before.before.before in
     let s = strings-start t turn in
-    let q = turn.take-turn in
-    let ok = not-false _ found.before.before.if1.false in
-    let less = q.ensures.0.fewer (not-false _ c.before.before.if2.false) in (
-      omega (arith, s.pre.0, less),
-      ((s.pre.1.0.0, strings-long t turn), (s.pre.1.1.0, (q.ensures.0.placed, q.ensures.1 ok))),
+    let q = turn.take_turn-t in
+    let ok = not-false _ c.if-not-t.false in
+    let less = q.ensures.0.fewer (not-false _ c.if-not-t-2.false) in (
+      omega (arith, s.requires.0, less),
+      ((s.requires.1.0.0, strings-long t turn), (s.requires.1.1.0, (q.ensures.0.placed, q.ensures.1 ok))),
     )
 
 mend-strings-same-length-4 : (t : ℕ)
-    → mend-strings-lts.Need-same-length-4 (mend-strings-claims t) (mend-strings-at t) mend-strings.Post
+    → mend-strings-lts.Need-shape_of-row (mend-strings-claims t) (mend-strings-at t) mend-strings.Post
 mend-strings-same-length-4 t c = search rules
 
 mend-strings-same-length-5 : (t : ℕ)
-    → mend-strings-lts.Need-same-length-5 (mend-strings-claims t) (mend-strings-at t) mend-strings.Post
+    → mend-strings-lts.Need-shape_of-list (mend-strings-claims t) (mend-strings-at t) mend-strings.Post
 mend-strings-same-length-5 t c = search rules
 
 mend-strings-returns-3 : (t : ℕ)
-    → mend-strings-lts.Need-returns-3 (mend-strings-claims t) (mend-strings-at t) mend-strings.Post
+    → mend-strings-lts.Need-returns (mend-strings-claims t) (mend-strings-at t) mend-strings.Post
 mend-strings-returns-3 t c =
-    let r = c.before.before.before.before in
-    let q = (strings-taken t r.before.before.before.before).take-turn in
-    grown_advanced q.ensures.0 r.mend-blocks.ensures
+    let q = c.take_turn-t in
+    grown_advanced q.ensures.0 c.mend_blocks.ensures
 
-pub +mend-blocks-mend-strings-spec : {M : Type 1} → statement M
-+mend-blocks-mend-strings-spec = close μ-mend-blocks μ-mend-strings (λ t. mend-blocks-lts.spec (mend-blocks-claims t)
+pub +mend_blocks_mend_strings_spec : {M : Type 1} → statement M
++mend_blocks_mend_strings_spec = close μ-mend-blocks μ-mend-strings (λ t. mend-blocks-lts.spec (mend-blocks-claims t)
     (mend-blocks-at t)
     mend-blocks.Post
     (mend-blocks-take-turn-requires t)

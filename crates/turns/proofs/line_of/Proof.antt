@@ -6,26 +6,28 @@ use Rattle.cells.proofs.State.{chunk-low}
 use Rattle.turns.proofs.line_of.Statement.{statement}
 use Rattle.turns.proofs.line_of.Tie as tie
 
-add-t6 : tie.Need-overflow-add-t6
+add-t6 : tie.Need-overflow_add-result
 add-t6 c =
-    let s = c.before.before in
-    record { fits = omega (arith, sizes s.args.l (legal_bounds s.args.l s.requires.0)) }
+    record { fits = omega (arith, sizes c.args.l (legal_bounds c.args.l c.requires.0)) }
 
-returns : tie.Need-returns
-returns c = rw c.before.if1.true refl
+returns : tie.Need-returns-then-strings
+returns c = rw c.if-strings.true refl
 
-mul-t7 : tie.Need-overflow-mul-t7
+mul-t7 : tie.Need-overflow_mul-result
 mul-t7 c =
-    let s = c.before.before in
     record {
       fits = omega (
         arith,
-        chunk-low s.args.l s.requires.0 s.args.i s.args.j s.requires.1.0 s.requires.1.1,
+        chunk-low c.args.l c.requires.0 c.args.i c.args.j c.requires.1.0 c.requires.1.1,
       );
     }
 
-returns-2 : tie.Need-returns-2
-returns-2 c = rw c.before.if1.false refl
+returns-2 : tie.Need-returns
+returns-2 c = rw c.if-strings.false refl
 
-pub line-of-spec : {M : Type 1} → statement M
-line-of-spec = tie.close (tie.spec add-t6 returns mul-t7 returns-2)
+pub line_of_spec : {M : Type 1} → statement M
+line_of_spec = tie.close (tie.spec
+    add-t6
+    returns
+    mul-t7
+    returns-2)

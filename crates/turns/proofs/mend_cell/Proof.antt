@@ -6,7 +6,7 @@ use mathlib.Core.Bool.{true, false≢true}
 use mathlib.Core.List.{List}
 use native.Mathlib.Omega.{arith}
 use borrow.Author.Rules.{rules}
-use borrow.Author.Tests.{eq-eqb, not-true}
+use borrow.Author.Tests.{eq-eqb}
 use lib.ListN.{length, take, drop, length-drop}
 use lib.Seq.{length-take-le}
 use Rattle.bits.specs.Bits.{digits}
@@ -17,27 +17,27 @@ use Rattle.turns.proofs.Short.{short-bits}
 use Rattle.turns.proofs.mend_cell.Statement.{statement}
 use Rattle.turns.proofs.mend_cell.Tie as tie
 
-sub-short : tie.Need-overflow-sub-short
+sub-short : tie.Need-overflow_sub-short
 sub-short c = search rules
 
-sub-if1 : tie.Need-overflow-sub-if1
+sub-if1 : tie.Need-overflow_sub-y
 sub-if1 c = search rules
 
-returns : tie.Need-returns
+returns : tie.Need-returns-then-y-place
 returns c =
-    let a = c.before.before.before.args in
-    λ us k. absurd (omega (arith, (short-bits k).0, length-drop a.place a.y.now, c.if1.true))
+    let a = c.args in
+    λ us k. absurd (omega (arith, (short-bits k).0, length-drop a.place a.y.now, c.if-y-place.true))
 
-add-end : tie.Need-overflow-add-end
+add-end : tie.Need-overflow_add-end
 add-end c = search rules
 
-sub-mend-line : tie.Need-overflow-sub-mend-line
+sub-mend-line : tie.Need-slice_bounds-mend_line-count
 sub-mend-line c = search rules
 
-part-mend-line-start : tie.Need-slice-bounds-mend-line-start
+part-mend-line-start : tie.Need-slice_bounds-mend_line-start
 part-mend-line-start c = search rules
 
-part-mend-line-end : tie.Need-slice-bounds-mend-line-end
+part-mend-line-end : tie.Need-slice_bounds-mend_line-end
 part-mend-line-end c = search rules
 
 -- the bits at hand are the next nc − 1 of y from the place on
@@ -47,57 +47,57 @@ at-hand place k y =
     rw e refl
 
 -- where the function starts, seen from the call of `mend_line`
-abbrev start : tie.After-mend-line-arg → tie.Start
+abbrev start : tie.After-mend_line-arg-1 → tie.Start
 start c = c.before.before.before.before
 
-mend-line-requires : tie.Need-mend-line-requires
+mend-line-requires : tie.Need-mend_line-m-requires
 mend-line-requires c κs =
     let s = start c in
     let a = s.args in
     let z = drop a.place a.y.now in
-    let k : a.nc - 1 ≤ length z = simp length-drop (omega (arith, c.before.if1.false)) in
+    let k : a.nc - 1 ≤ length z = simp length-drop (omega (arith, c.if-y-place.false)) in
     let n : length (take (a.nc - 1) z) ≡ a.nc - 1 = length-take-le (a.nc - 1) z k in
     rw (at-hand a.place (a.nc - 1) a.y.now) (
-      (s.pre.inside, s.pre.few),
+      (s.requires.inside, s.requires.few),
       (
-        s.pre.marked,
+        s.requires.marked,
         (
           (
-            omega (arith, n, s.pre.some_bits),
-            bits-take (a.nc - 1) z (bits-drop a.place a.y.now s.pre.bits),
+            omega (arith, n, s.requires.some_bits),
+            bits-take (a.nc - 1) z (bits-drop a.place a.y.now s.requires.bits),
           ),
-          s.pre.sum_low,
+          s.requires.sum_low,
         ),
       ),
     )
 
 -- a row that has this line has the chunk that is found there
-found-there : (c : tie.After-mend-line) →
+found-there : (c : tie.After-mend_line-m) →
     let a = (start c.before).args in
     (us : List ℕ) → Short a.nc a.n a.sum (drop a.place a.y.now) a.row.now us
-    → (c.mend-line.result.ok ≡ true) × (c.mend-line.result.value ≡ chunk_at a.n us)
+    → (c.mend_line-m.result.ok ≡ true) × (c.mend_line-m.result.value ≡ chunk_at a.n us)
 found-there c us k =
     let a = (start c.before).args in
-    c.mend-line.ensures us (rw (at-hand a.place (a.nc - 1) a.y.now) (short-bits k).1)
+    c.mend_line-m.ensures us (rw (at-hand a.place (a.nc - 1) a.y.now) (short-bits k).1)
 
-loses-just-requires : tie.Need-loses-just-requires
+loses-just-requires : tie.Need-loses_just-requires
 loses-just-requires c κs = search rules
 
-returns-2 : tie.Need-returns-2
+returns-2 : tie.Need-returns-then-not-loses_just
 returns-2 c =
     let a = (start c.before.before.before).args in
-    let v = c.before.before.mend-line.result.value in
+    let v = c.mend_line-m.result.value in
     λ us k.
     let e : losses (digits a.nc v) (drop a.place a.y.now) ≡ 1 =
     rw (found-there c.before.before us k).1 k.loses
     in
-    absurd (false≢true (sym (not-true _ c.if2.true) ∙ c.before.loses-just.ensures ∙ eq-eqb _ _ e))
+    absurd (false≢true (sym (c.if-not-loses_just.true) ∙ c.loses_just.ensures ∙ eq-eqb _ _ e))
 
-returns-3 : tie.Need-returns-3
+returns-3 : tie.Need-returns
 returns-3 c = found-there c.before.before
 
-pub mend-cell-spec : {M : Type 1} → statement M
-mend-cell-spec =
+pub mend_cell_spec : {M : Type 1} → statement M
+mend_cell_spec =
     tie.close
     (tie.spec
     sub-short

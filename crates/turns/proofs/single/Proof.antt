@@ -6,14 +6,18 @@ use Rattle.turns.proofs.single.Tie as tie
 single-requires : tie.Need-single-requires
 single-requires c κs = search rules
 
-returns : tie.Need-returns
-returns c = rw c.before.before.if1.true c.single.ensures
+returns : tie.Need-returns-then-strings
+returns c = rw c.if-strings.true c.single.ensures
 
 single-requires-2 : tie.Need-single-requires-2
 single-requires-2 c κs = search rules
 
-returns-2 : tie.Need-returns-2
-returns-2 c = rw c.before.before.if1.false c.single2.ensures
+returns-2 : tie.Need-returns
+returns-2 c = rw c.if-strings.false c.single-2.ensures
 
-pub single-spec : {M : Type 1} → statement M
-single-spec = tie.close (tie.spec single-requires returns single-requires-2 returns-2)
+pub single_spec : {M : Type 1} → statement M
+single_spec = tie.close (tie.spec
+    single-requires
+    returns
+    single-requires-2
+    returns-2)
