@@ -1,5 +1,7 @@
 // Heavy blocks whose losses are all shared out: whether the block's sum can come out. Such a block is known but for its short chunks, which
 // are weighed as those of a chunk-string are. Contracts cite specs/Blocks.antt.
+#![tactic(auto)]
+
 ghost use Rattle.std.specs.Prelude.{◌≡◌, true, false, List, ℕ, ◌+◌, ◌*◌, ◌<◌, ◌≤◌, length, get_or};
 ghost use Rattle.bits.specs.Bits.{AllBits, longest, most_chunks};
 ghost use Rattle.message.specs.Layout.{legal};

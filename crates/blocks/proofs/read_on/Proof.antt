@@ -16,150 +16,138 @@ use Rattle.blocks.specs.Blocks.{Later}
 use Rattle.blocks.proofs.read_on.Statement.{statement}
 use Rattle.blocks.proofs.read_on.Tie as tie
 
-abbrev invariant-loop : tie.invariant-loop
+abbrev invariant-loop : tie.invariant-loop-c
 invariant-loop y i end j row₀ columns nc first before c₀ row c =
     ((j ≤ c) × (length row ≡ length row₀)) × (((d : ℕ) → d < j → get_or row (first + d) 0 ≡ get_or row₀ (first + d) 0)
     × ((d : ℕ) → d < c → j ≤ d → get_or row (first + d) 0 ≡ number nc (drop ((first + d) * nc - before) y)))
 
-abbrev decreases-loop : tie.decreases-loop
+abbrev decreases-loop : tie.decreases-loop-c
 decreases-loop y i end j row₀ columns nc first before c₀ row c = columns - c
 
 -- the entry, seen from a turn
-abbrev entry : tie.In-loop invariant-loop decreases-loop → tie.Start invariant-loop decreases-loop
+abbrev entry : tie.In-loop-c invariant-loop decreases-loop → tie.Start invariant-loop decreases-loop
 entry c = c.before.before.before.before.before
 
 -- where the chunk of a turn stands
-stands : (c : tie.In-loop invariant-loop decreases-loop) → let a = (entry c).args in
-    (a.i * a.l.l2 + c.before.loop.c < most_chunks) × ((a.i * a.l.l2 + c.before.loop.c) * a.l.nc ≤ longest)
+stands : (c : tie.In-loop-c invariant-loop decreases-loop) → let a = (entry c).args in
+    (a.i * a.l.l2 + c.loop-c.c < most_chunks) × ((a.i * a.l.l2 + c.loop-c.c) * a.l.nc ≤ longest)
 stands c =
     let s = entry c in
-    (chunk_stands s.args.l s.pre.0 s.args.i c.before.loop.c s.pre.1.1.1.0 c.loop-test.true).1
+    (chunk_stands s.args.l s.requires.0 s.args.i c.loop-c.c s.requires.1.1.1.0 c.loop-c-test.true).1
 
-mul-first : tie.Need-overflow-mul-first invariant-loop decreases-loop
+mul-first : tie.Need-overflow_mul-first invariant-loop decreases-loop
 mul-first c =
-    let s = c.before.before in
-    let b = legal_bounds s.args.l s.requires.0 in
+    let b = legal_bounds c.args.l c.requires.0 in
     record {
       fits = omega (
         arith,
-        (chunk_stands s.args.l s.requires.0 s.args.i 0 s.requires.1.1.1.0 b.l2_low).1.0,
+        (chunk_stands c.args.l c.requires.0 c.args.i 0 c.requires.1.1.1.0 b.l2_low).1.0,
       );
     }
 
-wide-requires : tie.Need-wide-requires invariant-loop decreases-loop
+wide-requires : tie.Need-wide-before-requires invariant-loop decreases-loop
 wide-requires c κs = search rules
 
-loop-holds : tie.Need-loop-init invariant-loop decreases-loop
+loop-holds : tie.Need-loop-c-init invariant-loop decreases-loop
 loop-holds c = ((omega arith, refl), (λ d h. refl, λ d h g. absurd (omega arith)))
 
-add_at : tie.Need-overflow-add-at invariant-loop decreases-loop
+add_at : tie.Need-overflow_add-at invariant-loop decreases-loop
 add_at c = record { fits = omega (arith, (stands c).0) }
 
-mul_at : tie.Need-overflow-mul-at invariant-loop decreases-loop
+mul_at : tie.Need-overflow_mul-at invariant-loop decreases-loop
 mul_at c = record { fits = omega (arith, (stands c).1) }
 
-same_length : tie.Need-same-length invariant-loop decreases-loop
-same_length c = c.before.before.loop.invariant.0.1
+same_length : tie.Need-shape_of-row-then-at-before invariant-loop decreases-loop
+same_length c = c.loop-c.invariant.0.1
 
 -- what is missing of the received row is missing for each row of numbers
-returns : tie.Need-returns invariant-loop decreases-loop
+returns : tie.Need-returns-then-at-before invariant-loop decreases-loop
 returns c =
-    let t = c.before in
-    let p = t.before in
-    let w = p.before in
     record {
-      long = p.loop.invariant.0.1;
-      others = p.loop.invariant.1.0;
+      long = c.loop-c.invariant.0.1;
+      others = c.loop-c.invariant.1.0;
       later = λ vs all.
-          let r = all p.loop.c p.loop.invariant.0.0 t.loop-test.true in
-          absurd (omega (arith, r.starts, c.if1.true, w.wide.ensures));
+          let r = all c.loop-c.c c.loop-c.invariant.0.0 c.loop-c-test.true in
+          absurd (omega (arith, r.starts, c.if-at-before.true, c.wide-before.ensures));
     }
 
-add-if2 : tie.Need-overflow-add-if2 invariant-loop decreases-loop
+add-if2 : tie.Need-overflow_add-place invariant-loop decreases-loop
 add-if2 c =
     let s = entry c.before in
-    record { fits = omega (arith, (stands c.before).1, (legal_bounds s.args.l s.pre.0).nc_high) }
+    record { fits = omega (arith, (stands c.before).1, (legal_bounds s.args.l s.requires.0).nc_high) }
 
-same-length-2 : tie.Need-same-length-2 invariant-loop decreases-loop
-same-length-2 c = c.before.before.before.loop.invariant.0.1
+same-length-2 : tie.Need-shape_of-row-then-y-place invariant-loop decreases-loop
+same-length-2 c = c.loop-c.invariant.0.1
 
-returns-2 : tie.Need-returns-2 invariant-loop decreases-loop
+returns-2 : tie.Need-returns-then-y-place invariant-loop decreases-loop
 returns-2 c =
-    let t = c.before.before in
-    let p = t.before in
-    let w = p.before in
     record {
-      long = p.loop.invariant.0.1;
-      others = p.loop.invariant.1.0;
+      long = c.loop-c.invariant.0.1;
+      others = c.loop-c.invariant.1.0;
       later = λ vs all.
-          let r = all p.loop.c p.loop.invariant.0.0 t.loop-test.true in
-          absurd (omega (arith, r.starts, r.there, c.if2.true, w.wide.ensures));
+          let r = all c.loop-c.c c.loop-c.invariant.0.0 c.loop-c-test.true in
+          absurd (omega (arith, r.starts, r.there, c.if-y-place.true, c.wide-before.ensures));
     }
 
-number-at-requires : tie.Need-number-at-requires invariant-loop decreases-loop
+number-at-requires : tie.Need-number_at-requires invariant-loop decreases-loop
 number-at-requires c κs =
     let s = entry c.before.before in
-    (s.pre.1.0, ((legal_bounds s.args.l s.pre.0).nc_high, c.if2.false))
+    (s.requires.1.0, ((legal_bounds s.args.l s.requires.0).nc_high, c.if-y-place.false))
 
-add_row : tie.Need-overflow-add-row invariant-loop decreases-loop
+add_row : tie.Need-overflow_add-row invariant-loop decreases-loop
 add_row c = record { fits = omega (arith, (stands c.before.before.before).0) }
 
-slice-write-row : tie.Need-slice-write-row invariant-loop decreases-loop
+slice-write-row : tie.Need-bounds-row-first invariant-loop decreases-loop
 slice-write-row c =
-    let t = c.before.before.before in
-    let p = t.before in
-    omega (arith, (stands t).0, p.loop.invariant.0.1, (entry t).requires.1.1.1.1)
+    omega (arith, (stands c.before.before.before).0, c.loop-c.invariant.0.1, (entry c.before.before.before).requires.1.1.1.1)
 
-add-c : tie.Need-overflow-add-c invariant-loop decreases-loop
+add-c : tie.Need-overflow_add-c invariant-loop decreases-loop
 add-c c = search rules
 
-loop-less : tie.Need-loop-smaller invariant-loop decreases-loop
+loop-less : tie.Need-loop-c-smaller invariant-loop decreases-loop
 loop-less c = search rules
 
-loop-again : tie.Need-loop-preserved invariant-loop decreases-loop
+loop-again : tie.Need-loop-c-preserved invariant-loop decreases-loop
 loop-again c =
-    let t = c.before.before.before in
-    let p = t.before in
-    let a = (entry t).args in
-    let row = p.loop.row in
-    let at : ℕ = a.i * a.l.l2 + p.loop.c in
+    let a = (entry c.before.before.before).args in
+    let row = c.loop-c.row in
+    let at : ℕ = a.i * a.l.l2 + c.loop-c.c in
     let v = c.number_at.result in
-    let room : at < length row = omega (arith, (stands t).0, p.loop.invariant.0.1, (entry t).requires.1.1.1.1) in
-    let same : (d : ℕ) → (d ≡ p.loop.c → ⊥)
+    let room : at < length row = omega (arith, (stands c.before.before.before).0, c.loop-c.invariant.0.1, (entry c.before.before.before).requires.1.1.1.1) in
+    let same : (d : ℕ) → (d ≡ c.loop-c.c → ⊥)
     → get_or (set row at v) (a.i * a.l.l2 + d) 0 ≡ get_or row (a.i * a.l.l2 + d) 0 =
     λ d n. get_or-set_other row at (a.i * a.l.l2 + d) v 0 (λ e. n (omega (arith, e)))
     in (
-      (omega (arith, p.loop.invariant.0.0), length-set row at v ∙ p.loop.invariant.0.1),
+      (omega (arith, c.loop-c.invariant.0.0), length-set row at v ∙ c.loop-c.invariant.0.1),
       (
-        λ d h. same d (λ e. omega (arith, e, h, p.loop.invariant.0.0)) ∙ p.loop.invariant.1.0 d h,
-        below_more _ p.loop.c
-            (λ d h g. same d (λ e. omega (arith, e, h)) ∙ p.loop.invariant.1.1 d h g)
+        λ d h. same d (λ e. omega (arith, e, h, c.loop-c.invariant.0.0)) ∙ c.loop-c.invariant.1.0 d h,
+        below_more _ c.loop-c.c
+            (λ d h g. same d (λ e. omega (arith, e, h)) ∙ c.loop-c.invariant.1.1 d h g)
             (λ g. get_or-set_same row at v 0 room ∙ c.number_at.ensures),
       ),
     )
 
-same-length-3 : tie.Need-same-length-3 invariant-loop decreases-loop
-same-length-3 c = c.before.loop.invariant.0.1
+same-length-3 : tie.Need-shape_of-row invariant-loop decreases-loop
+same-length-3 c = c.loop-c.invariant.0.1
 
-returns-3 : tie.Need-returns-3 invariant-loop decreases-loop
+returns-3 : tie.Need-returns invariant-loop decreases-loop
 returns-3 c =
-    let p = c.before in
-    let w = p.before.wide.ensures in
-    let a = p.before.before.before.before.args in
+    let w = c.wide-before.ensures in
+    let a = c.args in
     record {
-      long = p.loop.invariant.0.1;
-      others = p.loop.invariant.1.0;
+      long = c.loop-c.invariant.0.1;
+      others = c.loop-c.invariant.1.0;
       later = λ vs all. (
         refl,
         λ d h g.
             (all d h g).as_read
             ∙ ap (λ (e : ℕ). number a.l.nc (drop ((a.i * a.l.l2 + d) * a.l.nc - e) a.y.now)) (sym w)
-            ∙ sym (p.loop.invariant.1.1 d (omega (arith, c.loop-test.false)) h),
+            ∙ sym (c.loop-c.invariant.1.1 d (omega (arith, c.loop-c-test.false)) h),
       );
     }
 
-pub read-on-spec : {M : Type 1} → statement M
-read-on-spec =
+pub read_on_spec : {M : Type 1} → statement M
+read_on_spec =
     tie.close
     (tie.spec
     invariant-loop

@@ -11,55 +11,55 @@ use Rattle.blocks.proofs.with_chunk.Lts as lts
 use Rattle.bits.proofs.wide.Reads as wide-reads
 use Rattle.blocks.proofs.not_weighed.Reads as not-weighed-reads
 
-wide-requires : tie.Need-wide-requires
+wide-requires : tie.Need-wide-column-requires
 wide-requires c κs = search rules
 
-not-weighed-requires : tie.Need-not-weighed-requires
+not-weighed-requires : tie.Need-not_weighed-requires
 not-weighed-requires c κs = search rules
 
-returns : tie.Need-returns
-returns c = λ e. absurd (false≢true (sym c.not-weighed.ensures ∙ e))
+returns : tie.Need-returns-then-n-ge-MOST
+returns c = λ e. absurd (false≢true (sym c.not_weighed.ensures ∙ e))
 
-not-weighed-requires-2 : tie.Need-not-weighed-requires-2
+not-weighed-requires-2 : tie.Need-not_weighed-requires-then-column-next
 not-weighed-requires-2 c κs = search rules
 
-returns-2 : tie.Need-returns-2
-returns-2 c = λ e. absurd (false≢true (sym c.not-weighed2.ensures ∙ e))
+returns-2 : tie.Need-returns-then-column-next
+returns-2 c = λ e. absurd (false≢true (sym c.not_weighed-then-column-next.ensures ∙ e))
 
-array-write-block : tie.Need-array-write-block
+array-write-block : tie.Need-bounds-block-n
 array-write-block c = search rules
 
-mul-places : tie.Need-overflow-mul-places
+mul-places : tie.Need-offset_bounds-places-n
 mul-places c = search rules
 
-array-write-places : tie.Need-array-write-places
+array-write-places : tie.Need-bounds-places-n
 array-write-places c = search rules
 
-array-write-losses : tie.Need-array-write-losses
+array-write-losses : tie.Need-bounds-losses-n
 array-write-losses c = search rules
 
-add-t16 : tie.Need-overflow-add-t16
+add-t16 : tie.Need-overflow_add-chunks
 add-t16 c = search rules
 
-add-t16-2 : tie.Need-overflow-add-t16-2
+add-t16-2 : tie.Need-overflow_add-result
 add-t16-2 c = search rules
 
-returns-3 : tie.Need-returns-3
+returns-3 : tie.Need-returns
 returns-3 c =
     λ e.
     record {
-      room = c.before.before.before.before.if1.false;
+      room = c.if-n-ge-MOST.false;
       behind =
-          omega (arith, c.before.before.before.if2.false, c.before.before.before.before.before.wide.ensures);
-      next = ap (λ (k : ℕ). k + 1) c.before.before.before.before.before.wide.ensures;
+          omega (arith, c.if-column-next.false, c.wide-column.ensures);
+      next = ap (λ (k : ℕ). k + 1) c.wide-column.ensures;
       count = refl;
       blocks = refl;
       places = refl;
       losses = refl;
     }
 
-pub with-chunk-spec : {M : Type 1} → statement M
-with-chunk-spec =
+pub with_chunk_spec : {M : Type 1} → statement M
+with_chunk_spec =
     tie.close
     (tie.spec
     wide-requires
