@@ -1,6 +1,8 @@
 // The sums of short blocks. What the chunks of a heavy block can still bring to its sum is carried from column to column as a set of
 // residues: in each column the contents of its chunk are listed, and those are taken that the column's sum allows. Contracts cite
 // specs/Sums.antt.
+#![tactic(auto)]
+
 ghost use Rattle.std.specs.Prelude.{◌≡◌, true, false, List, ℕ, ◌+◌, ◌*◌, ◌%◌, ◌<◌, ◌≤◌, length, get_or};
 ghost use Rattle.bits.specs.Bits.{digits};
 ghost use Rattle.vt.specs.Sum.{sum, total};

@@ -15,111 +15,109 @@ use borrow.Author.Rules.{rules}
 use Rattle.sums.proofs.all_meet.Statement.{statement}
 use Rattle.sums.proofs.all_meet.Tie as tie
 
-abbrev invariant-loop : tie.invariant-loop
+abbrev invariant-loop : tie.invariant-loop-s
 invariant-loop c rests left sets n s₀ s = s ≤ n
 
-abbrev decreases-loop : tie.decreases-loop
+abbrev decreases-loop : tie.decreases-loop-s
 decreases-loop c rests left sets n s₀ s = n - s
 
-is-short-requires : tie.Need-is-short-requires invariant-loop decreases-loop
+is-short-requires : tie.Need-is_short-requires invariant-loop decreases-loop
 is-short-requires c κs = search rules
 
-returns : tie.Need-returns invariant-loop decreases-loop
+returns : tie.Need-returns-then-not-is_short invariant-loop decreases-loop
 returns c vs own a b e = refl
 
-loop-holds : tie.Need-loop-init invariant-loop decreases-loop
+loop-holds : tie.Need-loop-s-init invariant-loop decreases-loop
 loop-holds c = search rules
 
 -- the start of the function, seen from the loop's head
-abbrev start : tie.At-loop invariant-loop decreases-loop → tie.Start invariant-loop decreases-loop
+abbrev start : tie.At-loop-s invariant-loop decreases-loop → tie.Start invariant-loop decreases-loop
 start c = c.before.before.before.before
 
 -- the column and the number of blocks are small
-low : (c : tie.At-loop invariant-loop decreases-loop) → (start c).args.c ≤ most_in_line
+low : (c : tie.At-loop-s invariant-loop decreases-loop) → (start c).args.c ≤ most_in_line
 low c =
     let s = start c in
-    omega (arith, s.pre.1.1, (sizes s.args.l (legal_bounds s.args.l s.pre.0)).l2_high)
+    omega (arith, s.requires.1.1, (sizes s.args.l (legal_bounds s.args.l s.requires.0)).l2_high)
 
-few : (c : tie.At-loop invariant-loop decreases-loop) → (start c).args.heavy.n ≤ 6
+few : (c : tie.At-loop-s invariant-loop decreases-loop) → (start c).args.heavy.n ≤ 6
 few c = (start c).requires.1.0
 
 -- the turn of the loop, seen from where it is known whether the sets meet
-abbrev turn : tie.After-meet invariant-loop decreases-loop → tie.In-loop invariant-loop decreases-loop
+abbrev turn : tie.After-meet invariant-loop decreases-loop → tie.In-loop-s invariant-loop decreases-loop
 turn c = c.before.before.before.before
 
-mul_at : tie.Need-overflow-mul-at invariant-loop decreases-loop
+mul_at : tie.Need-overflow_mul-at invariant-loop decreases-loop
 mul_at c = omega (arith, low c.before)
 
-mul-at-2 : tie.Need-overflow-mul-at-2 invariant-loop decreases-loop
+mul-at-2 : tie.Need-overflow_mul-at-in-loop-s invariant-loop decreases-loop
 mul-at-2 c = search rules
 
-add_at : tie.Need-overflow-add-at invariant-loop decreases-loop
-add_at c = omega (arith, low c.before, few c.before, c.loop-test.true)
+add_at : tie.Need-overflow_add-at invariant-loop decreases-loop
+add_at c = omega (arith, low c.before, few c.before, c.loop-s-test.true)
 
-array-read-wide : tie.Need-array-read-wide invariant-loop decreases-loop
+array-read-wide : tie.Need-bounds-left-s invariant-loop decreases-loop
 array-read-wide c = search rules
 
 wide-requires : tie.Need-wide-requires invariant-loop decreases-loop
 wide-requires c κs = search rules
 
-add-at-2 : tie.Need-overflow-add-at-2 invariant-loop decreases-loop
+add-at-2 : tie.Need-overflow_add-at-in-loop-s invariant-loop decreases-loop
 add-at-2 c =
-    let p = c.before.before in
-    let byte : Fits w8 (get_or (start p).args.t4 p.loop.s 0) = search rules in
-    omega (arith, low p, few p, c.before.loop-test.true, c.wide.ensures)
+    let byte : Fits w8 (get_or (start c.before.before).args.left c.loop-s.s 0) = search rules in
+    omega (arith, low c.before.before, few c.before.before, c.loop-s-test.true, c.wide.ensures)
 
-returns-2 : tie.Need-returns-2 invariant-loop decreases-loop
+returns-2 : tie.Need-returns-then-rests-at invariant-loop decreases-loop
 returns-2 c vs own a b e = refl
 
-mul-meet : tie.Need-overflow-mul-meet invariant-loop decreases-loop
+mul-meet : tie.Need-offset_bounds-sets-s invariant-loop decreases-loop
 mul-meet c = search rules
 
-array-read-meet : tie.Need-array-read-meet invariant-loop decreases-loop
+array-read-meet : tie.Need-bounds-sets-s invariant-loop decreases-loop
 array-read-meet c = search rules
 
-mul-meet-2 : tie.Need-overflow-mul-meet-2 invariant-loop decreases-loop
+mul-meet-2 : tie.Need-offset_bounds-rests-at invariant-loop decreases-loop
 mul-meet-2 c = search rules
 
-shared-slice-read-meet : tie.Need-shared-slice-read-meet invariant-loop decreases-loop
+shared-slice-read-meet : tie.Need-bounds-rests-at invariant-loop decreases-loop
 shared-slice-read-meet c = search rules
 
 meet-requires : tie.Need-meet-requires invariant-loop decreases-loop
 meet-requires c κs = search rules
 
-returns-3 : tie.Need-returns-3 invariant-loop decreases-loop
+returns-3 : tie.Need-returns-then-not-meet invariant-loop decreases-loop
 returns-3 c vs own a b e =
     let i = turn c.before in
     let p = i.before in
     let s = start p in
-    let h : p.loop.s < s.args.heavy.n = i.loop-test.taken in
-    let short = p.before.before.is_short.ensures.0 (not-false _ p.before.if1.left) in
-    let n : ℕ = rest s.args.l s.args.heavy vs s.args.c p.loop.s in
-    let w = c.before.before.before.before in
-    let same : rest_at s.args.c p.loop.s (own s.args.c p.loop.s)
-    ≡ s.args.c * 78 + p.loop.s * 13 + w.wide.result =
-    omega (arith, e p.loop.s h, w.wide.ensures)
+    let h : p.loop-s.s < s.args.heavy.n = i.loop-s-test.true in
+    let short = p.before.before.is_short.ensures.0 p.before.if-not-is_short.false in
+    let n : ℕ = rest s.args.l s.args.heavy vs s.args.c p.loop-s.s in
+    let same : rest_at s.args.c p.loop-s.s (own s.args.c p.loop-s.s)
+    ≡ s.args.c * 78 + p.loop-s.s * 13 + c.wide.result =
+    omega (arith, e p.loop-s.s h, c.wide.ensures)
     in
     absurd
     (false≢true
-    (sym (not-true _ c.if3.true)
-    ∙ c.before.meet.ensures (block_modulus s.args.l) n (a short p.loop.s h)
+    (sym (c.if-not-meet.true)
+    ∙ c.meet.ensures (block_modulus s.args.l) n (a short p.loop-s.s h)
     (subst (λ (v : ℕ). Has (block_modulus s.args.l) (get_or s.args.rests.now v 0) n) same
-    (b short s.args.c p.loop.s (omega arith) s.pre.1.1 h))))
+    (b short s.args.c p.loop-s.s (omega arith) s.requires.1.1 h))))
 
-add-s : tie.Need-overflow-add-s invariant-loop decreases-loop
+add-s : tie.Need-overflow_add-s invariant-loop decreases-loop
 add-s c = search rules
 
-loop-less : tie.Need-loop-smaller invariant-loop decreases-loop
-loop-less c = omega (arith, (turn c.before).loop-test.taken)
+loop-less : tie.Need-loop-s-smaller invariant-loop decreases-loop
+loop-less c = omega (arith, (turn c.before).loop-s-test.true)
 
-loop-again : tie.Need-loop-preserved invariant-loop decreases-loop
+loop-again : tie.Need-loop-s-preserved invariant-loop decreases-loop
 loop-again c = search rules
 
-returns-4 : tie.Need-returns-4 invariant-loop decreases-loop
+returns-4 : tie.Need-returns invariant-loop decreases-loop
 returns-4 c vs own a b e = refl
 
-pub all-meet-spec : {M : Type 1} → statement M
-all-meet-spec =
+pub all_meet_spec : {M : Type 1} → statement M
+all_meet_spec =
     tie.close
     (tie.spec
     invariant-loop

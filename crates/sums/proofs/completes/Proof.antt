@@ -6,10 +6,10 @@ use mathlib.Core.Path.{ap, ◌∙◌}
 use Rattle.sums.proofs.completes.Statement.{statement}
 use Rattle.sums.proofs.completes.Tie as tie
 
-chunk-total-requires : tie.Need-chunk-total-requires
+chunk-total-requires : tie.Need-chunk_total-own-requires
 chunk-total-requires c κs = search rules
 
-moved-on-requires : tie.Need-moved-on-requires
+moved-on-requires : tie.Need-moved_on-requires
 moved-on-requires c κs = search rules
 
 holds-requires : tie.Need-holds-requires
@@ -17,12 +17,15 @@ holds-requires c κs = search rules
 
 returns : tie.Need-returns
 returns c w =
-    let m = c.before in
-    let t = m.before.chunk-total in
-    let beside = m.before.before.args.beside in
+    let t = c.chunk_total-own in
+    let beside = c.args.beside in
     c.holds.ensures beside.modulus (w.0 + t.result)
     (ap (λ (v : ℕ). (w.0 + v) % beside.modulus) t.ensures.0 ∙ w.1.1)
-    (m.moved_on.ensures w.0 w.1.0)
+    (c.moved_on.ensures w.0 w.1.0)
 
-pub completes-spec : {M : Type 1} → statement M
-completes-spec = tie.close (tie.spec chunk-total-requires moved-on-requires holds-requires returns)
+pub completes_spec : {M : Type 1} → statement M
+completes_spec = tie.close (tie.spec
+    chunk-total-requires
+    moved-on-requires
+    holds-requires
+    returns)

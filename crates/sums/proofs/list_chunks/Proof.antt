@@ -16,6 +16,7 @@ use Rattle.weigh.specs.declared.Chunks.{Chunks}
 use Rattle.sums.specs.Sums.{Listing}
 use Rattle.sums.proofs.list_chunks.Statement.{statement}
 use Rattle.sums.proofs.list_chunks.Tie as tie
+use Rattle.sums.proofs.list_chunks.Lts.{else-place-y, then-place-y}
 
 -- the contents of a chunk more are listed behind those that are
 module _ (nc : ℕ) (y : List ℕ) (chunks : Chunks) (list from : List ℕ) (s : ℕ) (so_far : Listing nc y chunks list from s)
@@ -56,15 +57,15 @@ module _ (nc : ℕ) (y : List ℕ) (chunks : Chunks) (list from : List ℕ) (s :
             (lt_or_ge i s);
       }
 
-abbrev invariant-loop : tie.invariant-loop
+abbrev invariant-loop : tie.invariant-loop-s
 invariant-loop nc y list₀ chunks n from₀ end₀ s₀ list from end s =
     (((s ≤ n) × (length from ≡ 7)) × (get_or from s 0 ≡ end))
     × (Listing nc y chunks list from s × (length list ≡ length list₀))
 
-abbrev decreases-loop : tie.decreases-loop
+abbrev decreases-loop : tie.decreases-loop-s
 decreases-loop nc y list₀ chunks n from₀ end₀ s₀ list from end s = n - s
 
-loop-holds : tie.Need-loop-init invariant-loop decreases-loop
+loop-holds : tie.Need-loop-s-init invariant-loop decreases-loop
 loop-holds c = (
   ((omega arith, refl), refl),
   (
@@ -77,80 +78,73 @@ loop-holds c = (
   ),
 )
 
-mul-place : tie.Need-overflow-mul-place invariant-loop decreases-loop
+mul-place : tie.Need-offset_bounds-chunks-s invariant-loop decreases-loop
 mul-place c = search rules
 
-element-copy-out-place : tie.Need-element-copy-out-place invariant-loop decreases-loop
+element-copy-out-place : tie.Need-bounds-chunks-s invariant-loop decreases-loop
 element-copy-out-place c = search rules
 
-element-copy-out-list-behind : tie.Need-element-copy-out-list-behind invariant-loop decreases-loop
+element-copy-out-list-behind : tie.Need-bounds-chunks-s-then-place-y invariant-loop decreases-loop
 element-copy-out-list-behind c = search rules
 
-list-behind-requires : tie.Need-list-behind-requires invariant-loop decreases-loop
+list-behind-requires : tie.Need-list_behind-end-requires invariant-loop decreases-loop
 list-behind-requires c κs =
-    let i = c.before.before.before.before in
-    let p = i.before in
-    let s = p.before.before.before in
-    let v = p.loop.invariant in
-    let room : p.loop.end + 256 ≤ length p.loop.list =
-    omega (arith, v.1.1, v.0.1, v.1.0.few, s.requires.1.0, s.requires.1.1, i.loop-test.true) in
-    (s.requires.0, (c.before.before.if1.true, room))
+    let v = c.loop-s.invariant in
+    let room : c.loop-s.end + 256 ≤ length c.loop-s.list =
+    omega (arith, v.1.1, v.0.1, v.1.0.few, c.requires.1.0, c.requires.1.1, c.loop-s-test.true) in
+    (c.requires.0, (c.if-place-y.true, room))
 
-add-s : tie.Need-overflow-add-s invariant-loop decreases-loop
+add-s : tie.Need-overflow_add-s invariant-loop decreases-loop
 add-s c = search rules
 
-mul-from : tie.Need-overflow-mul-from invariant-loop decreases-loop
+mul-from : tie.Need-offset_bounds-from-s invariant-loop decreases-loop
 mul-from c = search rules
 
-array-write-from : tie.Need-array-write-from invariant-loop decreases-loop
+array-write-from : tie.Need-bounds-from-s invariant-loop decreases-loop
 array-write-from c = search rules
 
-loop-less : tie.Need-loop-smaller invariant-loop decreases-loop
+loop-less : tie.Need-loop-s-smaller invariant-loop decreases-loop
 loop-less c = search rules
 
-loop-again : tie.Need-loop-preserved invariant-loop decreases-loop
+loop-again : tie.Need-loop-s-preserved invariant-loop decreases-loop
 loop-again c =
-    let i = c.before.before in
-    let p = i.before.loop in
-    let s = i.before.before.before.before in
-    let a = s.args in
+    let p = c.loop-s in
+    let a = c.args in
     let v = p.invariant in
-    let long : p.s + 1 < length p.from = omega (arith, v.0.0.1, i.loop-test.true, s.requires.1.0) in
-    let next = listing-next a.nc a.y.now a.t3 p.list p.from p.s v.1.0 long in (
+    let long : p.s + 1 < length p.from = omega (arith, v.0.0.1, c.loop-s-test.true, c.requires.1.0) in
+    let next = listing-next a.nc a.y.now a.chunks p.list p.from p.s v.1.0 long in (
       (
-        (omega (arith, i.loop-test.true), length-set p.from (p.s + 1) c.if1.end ∙ v.0.0.1),
-        get_or-set_same p.from (p.s + 1) c.if1.end 0 long,
+        (omega (arith, c.loop-s-test.true), length-set p.from (p.s + 1) c.if-place-y.end ∙ v.0.0.1),
+        get_or-set_same p.from (p.s + 1) c.if-place-y.end 0 long,
       ),
-      ⊎_elim
-          (λ w.
-          let g = w.3.ensures in
-          rw (w.6, w.7) (
-            next _ _ (omega (arith, v.0.1, g.from)) (omega (arith, v.0.1, g.few))
-                (λ k h. g.kept k (omega (arith, v.0.1)))
-                (λ u place small lost. rw v.0.1 (g.all u (small, lost))),
-            w.3.kept.1.1.1.1.0 ∙ v.1.1,
-          ))
-          (λ w.
-          rw (w.1, w.2) (
-            next p.list p.end (omega (arith, v.0.1)) (omega (arith, v.0.1)) (λ k h. refl)
-                (λ u place. absurd (omega (arith, place, w.0.left))),
-            v.1.1,
-          ))
-          c.if1.branch,
+      elim c.if-place-y.branch [
+        | then-place-y w ↦ let g = w.list_behind-end.ensures in
+            rw (w.list-is, w.end-is) (
+              next _ _ (omega (arith, v.0.1, g.from)) (omega (arith, v.0.1, g.few))
+                  (λ k h. g.kept k (omega (arith, v.0.1)))
+                  (λ u place small lost. rw v.0.1 (g.all u (small, lost))),
+              w.list_behind-end.auto.out ∙ v.1.1,
+            )
+        | else-place-y w ↦ rw (w.list-is, w.end-is) (
+          next p.list p.end (omega (arith, v.0.1)) (omega (arith, v.0.1)) (λ k h. refl)
+              (λ u place. absurd (omega (arith, place, w.if-place-y.false))),
+          v.1.1,
+        )
+      ],
     )
 
-same_length : tie.Need-same-length invariant-loop decreases-loop
-same_length c = c.before.loop.invariant.1.1
+same_length : tie.Need-shape_of-list invariant-loop decreases-loop
+same_length c = c.loop-s.invariant.1.1
 
 returns : tie.Need-returns invariant-loop decreases-loop
 returns c =
-    let l = c.before.loop in
-    let a = c.before.before.before.before.args in
-    let end : l.s ≡ a.t3.n = omega (arith, l.invariant.0.0.0, c.loop-test.false) in
-    subst (λ (k : ℕ). Listing a.nc a.y.now a.t3 l.list l.from k) end l.invariant.1.0
+    let l = c.loop-s in
+    let a = c.args in
+    let end : l.s ≡ a.chunks.n = omega (arith, l.invariant.0.0.0, c.loop-s-test.false) in
+    subst (λ (k : ℕ). Listing a.nc a.y.now a.chunks l.list l.from k) end l.invariant.1.0
 
-pub list-chunks-spec : {M : Type 1} → statement M
-list-chunks-spec =
+pub list_chunks_spec : {M : Type 1} → statement M
+list_chunks_spec =
     tie.close
     (tie.spec
     invariant-loop
