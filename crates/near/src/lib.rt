@@ -1,5 +1,7 @@
 // In how many chunks of all heavy blocks together a row that comes through a loss state can differ from another one at most, by the tables of
 // what rows count in each block. Contracts cite specs/Near.antt.
+#![tactic(auto)]
+
 ghost use Rattle.std.specs.Prelude.{◌≡◌, true, ℕ, ◌+◌, ◌*◌, ◌<◌, ◌≤◌, length, get_or};
 ghost use Rattle.bits.specs.Bits.{most_in_line};
 ghost use Rattle.states.specs.States.{lefts, each, entry_at, Shaped, state_of};
