@@ -1,5 +1,7 @@
 // The first pass over the marks of loss states, from the last column to the first: a state is marked if a row that is not near can still come
 // to the end from it, as far as steps of none or one loss tell. Contracts cite specs/First.antt.
+#![tactic(auto)]
+
 ghost use Rattle.std.specs.Prelude.{◌≡◌, true, List, ℕ, ◌+◌, ◌-◌, ◌*◌, ◌%◌, ◌<◌, ◌≤◌, length, get_or};
 ghost use Rattle.bits.specs.Bits.{most_in_line, longest_line};
 ghost use Rattle.windows.specs.Windows.{Tables};

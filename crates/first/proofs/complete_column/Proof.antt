@@ -12,27 +12,27 @@ use Rattle.first.proofs.First.{Completing, completing_starts, completing_next}
 use Rattle.first.proofs.complete_column.Statement.{statement}
 use Rattle.first.proofs.complete_column.Tie as tie
 
-abbrev invariant-loop : tie.invariant-loop
+abbrev invariant-loop : tie.invariant-loop-q
 invariant-loop l y totals counts numbers heavy known shape digits before after room j at base marks₀ columns n states strides
     readings apart levels₀ most₀ q₀ marks levels highest q =
     Completing l y numbers heavy known shape j at base marks₀
     (λ left. room ≤ most columns before after (each shape.size) left j shape.n) marks levels highest q
 
-abbrev decreases-loop : tie.decreases-loop
+abbrev decreases-loop : tie.decreases-loop-q
 decreases-loop l y totals counts numbers heavy known shape digits before after room j at base marks₀ columns n states strides
     readings apart levels₀ most₀ q₀ marks levels highest q = states - q
 
 -- where the function starts, seen from where the slices are known, from where the readings are made, and from the loop
-abbrev known-half : tie.After-slice-known invariant-loop decreases-loop → tie.After-shared-slice-known4 invariant-loop decreases-loop
+abbrev known-half : tie.After-slice_known-1 invariant-loop decreases-loop → tie.After-shared_slice_known-4-1 invariant-loop decreases-loop
 known-half c = c.before.before.before.before.before
 
-abbrev first : tie.After-readings invariant-loop decreases-loop → tie.Start invariant-loop decreases-loop
+abbrev first : tie.After-readings-1 invariant-loop decreases-loop → tie.Start invariant-loop decreases-loop
 first c = (known-half c.before.before.before).before.before.before.before
 
-abbrev begin : tie.At-loop invariant-loop decreases-loop → tie.Start invariant-loop decreases-loop
+abbrev begin : tie.At-loop-q invariant-loop decreases-loop → tie.Start invariant-loop decreases-loop
 begin c = first c.before.before.before.before.before.before
 
-slice-aggregate-fill : tie.Need-slice-aggregate-fill invariant-loop decreases-loop
+slice-aggregate-fill : tie.Need-slice_bounds-fill-end invariant-loop decreases-loop
 slice-aggregate-fill c = search rules
 
 fill-requires : tie.Need-fill-requires invariant-loop decreases-loop
@@ -48,33 +48,31 @@ fill-requires c κs =
       ),
     )
 
-slice-aggregate-fill-apart : tie.Need-slice-aggregate-fill-apart invariant-loop decreases-loop
+slice-aggregate-fill-apart : tie.Need-slice_bounds-fill_apart-end invariant-loop decreases-loop
 slice-aggregate-fill-apart c = search rules
 
-fill-apart-requires : tie.Need-fill-apart-requires invariant-loop decreases-loop
+fill-apart-requires : tie.Need-fill_apart-requires invariant-loop decreases-loop
 fill-apart-requires c κs =
-    let p = (first c.before.before.before).pre.1 in
+    let p = (first c.before.before.before).requires.1 in
     let kept = p.1.0 in
     ((p.1.1.1.0, omega (arith, p.0)), (kept.shaped, omega (arith, kept.few)))
 
-loop-holds : tie.Need-loop-init invariant-loop decreases-loop
+loop-holds : tie.Need-loop-q-init invariant-loop decreases-loop
 loop-holds c = completing_starts _ _ _ _ _ _ _ _ _ _ _ _ refl
 
-add-level-of : tie.Need-overflow-add-level-of invariant-loop decreases-loop
+add-level-of : tie.Need-overflow_add-base invariant-loop decreases-loop
 add-level-of c =
     let s = begin c.before.before.before in
-    record { fits = omega (arith, s.pre.1.1.1.1.1.1, s.good.1.1.1.1.1.1.1.1.1.1.1.1.1.1.1.0) }
+    record { fits = omega (arith, s.requires.1.1.1.1.1.1, s.well_formed.1.1.1.1.1.1.1.1.1.1.1.1.1.1.1.0) }
 
-slice-read-level-of : tie.Need-slice-read-level-of invariant-loop decreases-loop
+slice-read-level-of : tie.Need-bounds-marks-base invariant-loop decreases-loop
 slice-read-level-of c =
-    let i = c.before.before.before.before in
-    omega (arith, (begin i).requires.1.1.1.1.1.1, i.loop.invariant.column.long)
+    omega (arith, (begin c.before.before.before.before).requires.1.1.1.1.1.1, c.loop-q.invariant.column.long)
 
-level-of-requires : tie.Need-level-of-requires invariant-loop decreases-loop
+level-of-requires : tie.Need-level_of-level-requires invariant-loop decreases-loop
 level-of-requires c κs =
-    let i = c.before.before.before.before in
-    let p = (begin i).requires in
-    let t = c.before.before.before.loop-test.true in (
+    let p = (begin c.before.before.before.before).requires in
+    let t = c.loop-q-test.true in (
       omega (arith, p.0.0.few, p.1.1.0.blocks),
       (
         omega (arith, p.1.1.1.0.long, t),
@@ -86,31 +84,29 @@ level-of-requires c κs =
       ),
     )
 
-mul-far-level : tie.Need-overflow-mul-far-level invariant-loop decreases-loop
+mul-far-level : tie.Need-offset_bounds-apart-q invariant-loop decreases-loop
 mul-far-level c =
-    let t = c.before.before.before.before in
-    record { fits = omega (arith, (begin t.before).pre.1.1.0.few, t.loop-test.true) }
+    record { fits = omega (arith, (begin c.before.before.before.before.before).requires.1.1.0.few, c.loop-q-test.true) }
 
-array-read-far-level : tie.Need-array-read-far-level invariant-loop decreases-loop
+array-read-far-level : tie.Need-bounds-apart-q invariant-loop decreases-loop
 array-read-far-level c =
-    let t = c.before.before.before.before in
-    omega (arith, (begin t.before).pre.1.1.0.few, t.loop-test.true)
+    omega (arith, (begin c.before.before.before.before.before).requires.1.1.0.few, c.loop-q-test.true)
 
-far-level-requires : tie.Need-far-level-requires invariant-loop decreases-loop
+far-level-requires : tie.Need-far_level-tested-requires invariant-loop decreases-loop
 far-level-requires c κs = search rules
 
-slice-aggregate-first-mark : tie.Need-slice-aggregate-first-mark invariant-loop decreases-loop
+slice-aggregate-first-mark : tie.Need-slice_bounds-first_mark-end invariant-loop decreases-loop
 slice-aggregate-first-mark c = search rules
 
 -- where the turn starts, seen from where the level is known
-abbrev turn : tie.After-level-of invariant-loop decreases-loop → tie.In-loop invariant-loop decreases-loop
+abbrev turn : tie.After-level_of-level invariant-loop decreases-loop → tie.In-loop-q invariant-loop decreases-loop
 turn c = c.before.before.before.before
 
-first-mark-requires : tie.Need-first-mark-requires invariant-loop decreases-loop
+first-mark-requires : tie.Need-first_mark-mark-requires invariant-loop decreases-loop
 first-mark-requires c κs =
-    let t = turn c.before.before.before in
+    let t = turn c.before.before in
     let i = t.before in
-    let p = (begin i).pre in
+    let p = (begin i).requires in
     let r = p.0 in
     let kept = p.1.1.0 in
     let f = i.before.before.before.before.before.fill.ensures in (
@@ -126,91 +122,87 @@ first-mark-requires c κs =
         },
         (r.1.1, p.1.1.1.0),
       ),
-      (t.loop-test.taken, omega (arith, p.1.1.1.1.1.1, i.loop.inv.column.long)),
+      (t.loop-q-test.true, omega (arith, p.1.1.1.1.1.1, i.loop-q.invariant.column.long)),
     )
 
 -- and from where the mark is
-abbrev turned : tie.After-first-mark invariant-loop decreases-loop → tie.In-loop invariant-loop decreases-loop
-turned c = turn c.before.before.before.before
+abbrev turned : tie.After-first_mark-mark invariant-loop decreases-loop → tie.In-loop-q invariant-loop decreases-loop
+turned c = turn c.before.before.before
 
-array-write-levels : tie.Need-array-write-levels invariant-loop decreases-loop
+array-write-levels : tie.Need-bounds-levels-q invariant-loop decreases-loop
 array-write-levels c =
     let i = (turned c).before in
-    omega (arith, i.loop.inv.long, (begin i).pre.1.1.0.few)
+    omega (arith, i.loop-q.invariant.long, (begin i).requires.1.1.0.few)
 
-add-marks : tie.Need-overflow-add-marks invariant-loop decreases-loop
+add-marks : tie.Need-overflow_add-marks invariant-loop decreases-loop
 add-marks c =
     let t = turned c in
     let s = begin t.before in
     record {
       fits = omega (
         arith,
-        t.loop-test.taken,
-        s.pre.1.1.1.1.1.0,
-        s.pre.1.1.1.1.1.1,
-        s.good.1.1.1.1.1.1.1.1.1.1.1.1.1.1.1.0,
+        t.loop-q-test.true,
+        s.requires.1.1.1.1.1.0,
+        s.requires.1.1.1.1.1.1,
+        s.well_formed.1.1.1.1.1.1.1.1.1.1.1.1.1.1.1.0,
       );
     }
 
-slice-write-marks : tie.Need-slice-write-marks invariant-loop decreases-loop
+slice-write-marks : tie.Need-bounds-marks-at invariant-loop decreases-loop
 slice-write-marks c =
     let i = (turned c).before in
-    let p = (begin i).pre.1.1.1.1.1 in
-    omega (arith, p.0, p.1, i.loop.inv.column.long)
+    let p = (begin i).requires.1.1.1.1.1 in
+    omega (arith, p.0, p.1, i.loop-q.invariant.column.long)
 
-higher-requires : tie.Need-higher-requires invariant-loop decreases-loop
+higher-requires : tie.Need-higher-highest-requires invariant-loop decreases-loop
 higher-requires c κs = search rules
 
-add-q : tie.Need-overflow-add-q invariant-loop decreases-loop
+add-q : tie.Need-overflow_add-q invariant-loop decreases-loop
 add-q c =
     let t = turned c.before in
-    record { fits = omega (arith, (begin t.before).pre.1.1.0.few, t.loop-test.taken) }
+    record { fits = omega (arith, (begin t.before).requires.1.1.0.few, t.loop-q-test.true) }
 
-loop-less : tie.Need-loop-smaller invariant-loop decreases-loop
+loop-less : tie.Need-loop-q-smaller invariant-loop decreases-loop
 loop-less c = search rules
 
-loop-again : tie.Need-loop-preserved invariant-loop decreases-loop
+loop-again : tie.Need-loop-q-preserved invariant-loop decreases-loop
 loop-again c =
-    let f = c.before in
-    let d = f.before.before.before in
-    let v = d.before in
-    let t = turn v in
+    let t = turn c.before.before.before.before in
     let i = t.before in
     let s = begin i in
-    let p = s.pre in
-    let found = entry_of s.args.digits.now i.loop.q in
+    let p = s.requires in
+    let found = entry_of s.args.digits.now i.loop-q.q in
     completing_next _ _ _ _ _ _ _ _ _ _ _ p.1.1.0 p.1.1.1.1.1.0 p.1.1.1.1.1.1
-    i.loop.marks i.loop.levels
-    i.loop.highest i.loop.q found v.level-of.result d.far-level.result f.first-mark.result
-    c.higher.result
-    i.loop.inv t.loop-test.taken
+    i.loop-q.marks i.loop-q.levels
+    i.loop-q.highest i.loop-q.q found c.level_of-level.result c.far_level-tested.result c.first_mark-mark.result
+    c.higher-highest.result
+    i.loop-q.invariant t.loop-q-test.true
     record {
-      digits = λ own w e. entry_is p.1.1.0 p.1.1.1.0 own w i.loop.q e;
-      own = v.level-of.ensures.0;
-      down = v.level-of.ensures.1;
+      digits = λ own w e. entry_is p.1.1.0 p.1.1.1.0 own w i.loop-q.q e;
+      own = c.level_of-level.ensures.0;
+      down = c.level_of-level.ensures.1;
       tested = λ left w e room.
-          d.far-level.ensures (omega (arith, room, rw e at (i.before.before.fill-apart.ensures.1 left w)));
-      first = f.first-mark.ensures;
-      most-more = c.higher.ensures.0;
-      mark_more = c.higher.ensures.1;
+          c.far_level-tested.ensures (omega (arith, room, rw e at (i.before.before.fill_apart.ensures.1 left w)));
+      first = c.first_mark-mark.ensures;
+      most-more = c.higher-highest.ensures.0;
+      mark_more = c.higher-highest.ensures.1;
     }
 
-same_length : tie.Need-same-length invariant-loop decreases-loop
-same_length c = c.before.loop.invariant.column.long
+same_length : tie.Need-shape_of-marks invariant-loop decreases-loop
+same_length c = c.loop-q.invariant.column.long
 
 returns : tie.Need-returns invariant-loop decreases-loop
 returns c =
-    let i = c.before in
-    let kept = (begin i).requires.1.1.0 in (
-      i.loop.invariant.column,
+    let kept = (begin c.before).requires.1.1.0 in (
+      c.loop-q.invariant.column,
       (
-        λ p h. i.loop.invariant.most_of_is p (omega arith),
-        λ left w u. i.loop.invariant.goes left w u (omega (arith, number-low kept left w)),
+        λ p h. c.loop-q.invariant.most_of_is p (omega arith),
+        λ left w u. c.loop-q.invariant.goes left w u (omega (arith, number-low kept left w)),
       ),
     )
 
-pub complete-column-spec : {M : Type 1} → statement M
-complete-column-spec =
+pub complete_column_spec : {M : Type 1} → statement M
+complete_column_spec =
     tie.close
     (tie.spec
     invariant-loop

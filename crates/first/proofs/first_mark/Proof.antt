@@ -3,7 +3,7 @@ use native.Mathlib.Omega.{arith}
 use Rattle.first.proofs.first_mark.Statement.{statement}
 use Rattle.first.proofs.first_mark.Tie as tie
 
-returns : tie.Need-returns
+returns : tie.Need-returns-then-level-gt2
 returns c =
     record {
       high = λ h. omega arith;
@@ -11,29 +11,33 @@ returns c =
       one = λ row vs next s h light crosses one low v m. omega arith;
     }
 
-returns-2 : tie.Need-returns-2
+returns-2 : tie.Need-returns-then-level-eq0
 returns-2 c =
     record {
-      high = λ h. absurd (omega (arith, c.before.if1.false));
-      same = λ row vs next light crosses same v m. absurd (omega (arith, c.if2.true));
-      one = λ row vs next s h light crosses one low v m. absurd (omega (arith, c.if2.true));
+      high = λ h. absurd (omega (arith, c.if-level-gt2.false));
+      same = λ row vs next light crosses same v m. absurd (omega (arith, c.if-level-eq0.true));
+      one = λ row vs next s h light crosses one low v m. absurd (omega (arith, c.if-level-eq0.true));
     }
 
 -- where the function starts, seen from where the slices are known
-abbrev known-half : tie.After-shared-slice-known8 → tie.After-shared-slice-known4
+abbrev known-half : tie.After-shared_slice_known-8-1 → tie.After-shared_slice_known-4-1
 known-half c = c.before.before.before.before
 
-tested-mark-requires : tie.Need-tested-mark-requires
+tested-mark-requires : tie.Need-tested_mark-requires
 tested-mark-requires c κs = (known-half c.before.before).before.before.before.before.requires
 
-returns-3 : tie.Need-returns-3
+returns-3 : tie.Need-returns
 returns-3 c =
-    let t = c.tested-mark.ensures in
+    let t = c.tested_mark.ensures in
     record {
-      high = λ h. absurd (omega (arith, c.before.before.if1.false));
+      high = λ h. absurd (omega (arith, c.if-level-gt2.false));
       same = λ row vs next light crosses same v m. t.same row vs next light crosses same (omega arith) m;
       one = λ row vs next s h light crosses one low v m. t.one row vs next s h light crosses one low (omega arith) m;
     }
 
-pub first-mark-spec : {M : Type 1} → statement M
-first-mark-spec = tie.close (tie.spec returns returns-2 tested-mark-requires returns-3)
+pub first_mark_spec : {M : Type 1} → statement M
+first_mark_spec = tie.close (tie.spec
+    returns
+    returns-2
+    tested-mark-requires
+    returns-3)

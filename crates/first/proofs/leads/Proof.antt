@@ -6,20 +6,25 @@ use native.Mathlib.Omega.{arith}
 use Rattle.first.proofs.leads.Statement.{statement}
 use Rattle.first.proofs.leads.Tie as tie
 
-returns : tie.Need-returns
-returns c = (λ e. absurd (false≢true e), λ some low mark. absurd (omega (arith, c.if1.true)))
+returns : tie.Need-returns-then-own-eq0
+returns c = (λ e. absurd (false≢true e), λ some low mark. absurd (omega (arith, c.if-own-eq0.true)))
 
-returns-2 : tie.Need-returns-2
-returns-2 c = (λ e. absurd (false≢true e), λ some low mark. absurd (omega (arith, c.if2.true)))
+returns-2 : tie.Need-returns-then-q-down
+returns-2 c = (λ e. absurd (false≢true e), λ some low mark. absurd (omega (arith, c.if-q-down.true)))
 
-add-result : tie.Need-overflow-add-result
+add-result : tie.Need-overflow_add-result
 add-result c = search rules
 
-shared-slice-read-result : tie.Need-shared-slice-read-result
+shared-slice-read-result : tie.Need-bounds-marks-base
 shared-slice-read-result c = search rules
 
-returns-3 : tie.Need-returns-3
-returns-3 c = (λ e. omega (arith, c.before.before.if1.false), λ some low mark. lt-ltb _ _ mark)
+returns-3 : tie.Need-returns
+returns-3 c = (λ e. omega (arith, c.if-own-eq0.false), λ some low mark. lt-ltb _ _ mark)
 
-pub leads-spec : {M : Type 1} → statement M
-leads-spec = tie.close (tie.spec returns returns-2 add-result shared-slice-read-result returns-3)
+pub leads_spec : {M : Type 1} → statement M
+leads_spec = tie.close (tie.spec
+    returns
+    returns-2
+    add-result
+    shared-slice-read-result
+    returns-3)
