@@ -1,5 +1,7 @@
 // What the chunks of a short heavy block can bring to its sum from a column on, with each number of losses left. Contracts cite
 // specs/Rests.antt.
+#![tactic(auto)]
+
 ghost use Rattle.std.specs.Prelude.{◌≡◌, true, List, ℕ, ◌+◌, ◌*◌, ◌<◌, ◌≤◌, length, get_or};
 ghost use Rattle.residues.specs.Residues.{Has};
 ghost use Rattle.states.specs.States.{lefts, each, entries, entry_at};

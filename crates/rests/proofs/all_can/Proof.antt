@@ -11,61 +11,58 @@ use Rattle.states.specs.States.{each, entry_at}
 use Rattle.rests.proofs.all_can.Statement.{statement}
 use Rattle.rests.proofs.all_can.Tie as tie
 
-abbrev invariant-loop : tie.invariant-loop
+abbrev invariant-loop : tie.invariant-loop-s
 invariant-loop n can next s₀ s = s ≤ n
 
-abbrev decreases-loop : tie.decreases-loop
+abbrev decreases-loop : tie.decreases-loop-s
 decreases-loop n can next s₀ s = n - s
 
-loop-holds : tie.Need-loop-init invariant-loop decreases-loop
+loop-holds : tie.Need-loop-s-init invariant-loop decreases-loop
 loop-holds c = search rules
 
-mul_at : tie.Need-overflow-mul-at invariant-loop decreases-loop
+mul_at : tie.Need-overflow_mul-at invariant-loop decreases-loop
 mul_at c = search rules
 
-array-read-wide : tie.Need-array-read-wide invariant-loop decreases-loop
+array-read-wide : tie.Need-bounds-next-s invariant-loop decreases-loop
 array-read-wide c = search rules
 
 wide-requires : tie.Need-wide-requires invariant-loop decreases-loop
 wide-requires c κs = search rules
 
-add_at : tie.Need-overflow-add-at invariant-loop decreases-loop
+add_at : tie.Need-overflow_add-at invariant-loop decreases-loop
 add_at c =
-    let i = c.before.before in
-    let byte : Fits w8 (get_or i.before.args.t2 i.loop.s 0) = search rules in
-    record { fits = omega (arith, byte, c.before.loop-test.true, c.wide.ensures, i.before.requires) }
+    let byte : Fits w8 (get_or c.args.next c.loop-s.s 0) = search rules in
+    record { fits = omega (arith, byte, c.loop-s-test.true, c.wide.ensures, c.requires) }
 
-returns : tie.Need-returns invariant-loop decreases-loop
+returns : tie.Need-returns-then-at-ge-ENTRIES invariant-loop decreases-loop
 returns c all = refl
 
-element-copy-out-if2 : tie.Need-element-copy-out-if2 invariant-loop decreases-loop
-element-copy-out-if2 c = omega (arith, c.if1.false)
+element-copy-out-if2 : tie.Need-bounds-can-at invariant-loop decreases-loop
+element-copy-out-if2 c = omega (arith, c.if-at-ge-ENTRIES.false)
 
-returns-2 : tie.Need-returns-2 invariant-loop decreases-loop
+returns-2 : tie.Need-returns-then-can-at-eq0 invariant-loop decreases-loop
 returns-2 c all =
-    let w = c.before.before.before in
-    let i = w.before.before in
-    let there = all i.loop.s w.before.loop-test.true in
-    let a = i.before.args in
-    let same : entry_at i.loop.s (each a.t2 i.loop.s) ≡ i.loop.s * 13 + w.wide.result =
-    omega (arith, w.wide.ensures) in
-    let none = ap (λ (k : ℕ). get_or a.can.now k 0) same ∙ c.if2.true in
+    let there = all c.loop-s.s c.loop-s-test.true in
+    let a = c.args in
+    let same : entry_at c.loop-s.s (each a.next c.loop-s.s) ≡ c.loop-s.s * 13 + c.wide.result =
+    omega (arith, c.wide.ensures) in
+    let none = ap (λ (k : ℕ). get_or a.can.now k 0) same ∙ c.if-can-at-eq0.true in
     absurd (omega (arith, there, none))
 
-add-s : tie.Need-overflow-add-s invariant-loop decreases-loop
+add-s : tie.Need-overflow_add-s invariant-loop decreases-loop
 add-s c = search rules
 
-loop-less : tie.Need-loop-smaller invariant-loop decreases-loop
+loop-less : tie.Need-loop-s-smaller invariant-loop decreases-loop
 loop-less c = search rules
 
-loop-again : tie.Need-loop-preserved invariant-loop decreases-loop
+loop-again : tie.Need-loop-s-preserved invariant-loop decreases-loop
 loop-again c = search rules
 
-returns-3 : tie.Need-returns-3 invariant-loop decreases-loop
+returns-3 : tie.Need-returns invariant-loop decreases-loop
 returns-3 c all = refl
 
-pub all-can-spec : {M : Type 1} → statement M
-all-can-spec =
+pub all_can_spec : {M : Type 1} → statement M
+all_can_spec =
     tie.close
     (tie.spec
     invariant-loop
