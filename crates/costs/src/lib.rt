@@ -1,6 +1,8 @@
 // What a pattern costs: how many bits each column loses at least in every row under it, against the losses that its heavy
 // blocks have. Sets hold what they are said to at least: a residue too many lets a column pass, and no row is lost by that.
 // Contracts cite specs/Costs.antt.
+#![tactic(auto)]
+
 ghost use Rattle.std.specs.Prelude.{◌≡◌, true, List, ℕ, ◌+◌, ◌*◌, ◌%◌, ◌<◌, ◌≤◌, length, get_or};
 ghost use Rattle.bits.specs.Bits.{most_in_line};
 ghost use Rattle.message.specs.Layout.{legal as isLegal};

@@ -15,112 +15,110 @@ use Rattle.sets.specs.Sets.{Grows, Moved}
 use Rattle.sets.proofs.Sets.{moved_rest, moved_grows}
 use Rattle.costs.proofs.add_block.Statement.{statement}
 use Rattle.costs.proofs.add_block.Tie as tie
+use Rattle.costs.proofs.add_block.Lts.{else-by-last, then-by-last}
 
-abbrev invariant-loop : tie.invariant-loop
+abbrev invariant-loop : tie.invariant-loop-e
 invariant-loop l y totals counts block end size j from to₀ m most last₀ e₀ to last e =
     ((e ≤ most + 1) × (length to ≡ length to₀))
     × ((last < m → Moved m last from to)
     × ((k : ℕ) → k < e → Legible l (length y) block end j k → Moved (modulus l) (brings l y block end j k) from to))
 
-abbrev decreases-loop : tie.decreases-loop
+abbrev decreases-loop : tie.decreases-loop-e
 decreases-loop l y totals counts block end size j from to₀ m most last₀ e₀ to last e = most + 1 - e
 
 -- where the function starts, seen from where all slices are known
-abbrev entry : tie.After-slice-known invariant-loop decreases-loop → tie.Start invariant-loop decreases-loop
+abbrev entry : tie.After-slice_known-1 invariant-loop decreases-loop → tie.Start invariant-loop decreases-loop
 entry c = c.before.before.before.before.before
 
 -- where the function starts, seen from the loop
-abbrev begin : tie.At-loop invariant-loop decreases-loop → tie.Start invariant-loop decreases-loop
+abbrev begin : tie.At-loop-e invariant-loop decreases-loop → tie.Start invariant-loop decreases-loop
 begin c = entry c.before.before.before
 
 -- the modulus is small
 high : (s : tie.Start invariant-loop decreases-loop) → s.args.l.l1 * s.args.l.nc ≤ longest_line
 high s = string_high s.args.l s.requires.0.allowed
 
-mul-m : tie.Need-overflow-mul-m invariant-loop decreases-loop
+mul-m : tie.Need-overflow_mul-m invariant-loop decreases-loop
 mul-m c = omega (arith, high (entry c.before))
 
-add-m : tie.Need-overflow-add-m invariant-loop decreases-loop
+add-m : tie.Need-overflow_add-m invariant-loop decreases-loop
 add-m c = omega (arith, high (entry c.before))
 
-wide-requires : tie.Need-wide-requires invariant-loop decreases-loop
+wide-requires : tie.Need-wide-most-requires invariant-loop decreases-loop
 wide-requires c κs = search rules
 
-loop-holds : tie.Need-loop-init invariant-loop decreases-loop
+loop-holds : tie.Need-loop-e-init invariant-loop decreases-loop
 loop-holds c = ((omega arith, refl), (λ h. absurd (omega arith), λ k h. absurd (omega arith)))
 
-residue-requires : tie.Need-residue-requires invariant-loop decreases-loop
+residue-requires : tie.Need-residue-by-requires invariant-loop decreases-loop
 residue-requires c κs = search rules
 
-move-in-requires : tie.Need-move-in-requires invariant-loop decreases-loop
+move-in-requires : tie.Need-move_in-requires invariant-loop decreases-loop
 move-in-requires c κs = search rules
 
-add-e : tie.Need-overflow-add-e invariant-loop decreases-loop
+add-e : tie.Need-overflow_add-e invariant-loop decreases-loop
 add-e c = search rules
 
-loop-less : tie.Need-loop-smaller invariant-loop decreases-loop
+loop-less : tie.Need-loop-e-smaller invariant-loop decreases-loop
 loop-less c = search rules
 
 -- after a turn: what was in the set still is, and the other set is moved in by what the reading brings
-record Turn (c : tie.Joined1 invariant-loop decreases-loop) : Type 0 where
-  long : length c.if1.to ≡ length c.before.before.before.loop.to
-  grows : Grows c.before.before.before.loop.to c.if1.to
-  last : c.if1.new ≡ c.before.residue.result
+record Turn (c : tie.Joined-by-last invariant-loop decreases-loop) : Type 0 where
+  long : length c.if-by-last.to ≡ length c.before.before.before.loop-e.to
+  grows : Grows c.before.before.before.loop-e.to c.if-by-last.to
+  last : c.if-by-last.last ≡ c.before.residue-by.result
   moved : let s = begin c.before.before.before in
-      c.before.residue.result < modulus s.args.l
-      → Moved (modulus s.args.l) c.before.residue.result s.args.from.now c.if1.to
+      c.before.residue-by.result < modulus s.args.l
+      → Moved (modulus s.args.l) c.before.residue-by.result s.args.from.now c.if-by-last.to
 
-turn : (c : tie.Joined1 invariant-loop decreases-loop) → Turn c
+turn : (c : tie.Joined-by-last invariant-loop decreases-loop) → Turn c
 turn c =
-    ⊎_elim
-    (λ w.
-    let g = w.2 in
-    let e = w.5 in
-    record {
-      long = rw e g.kept.1.1.1.0;
-      grows = rw e g.ensures.0;
-      last = w.6;
-      moved = rw e g.ensures.1;
-    })
-    (λ w.
-    let e = w.1 in
-    record {
-      long = rw e refl;
-      grows = rw e (λ r x. x);
-      last = w.2 ∙ sym w.0.left;
-      moved = rw (e, w.0.left) c.before.before.before.loop.invariant.1.0;
-    })
-    c.if1.branch
+    elim c.if-by-last.branch [
+      | then-by-last w ↦ let g = w.move_in in
+          let e = w.to-is in
+          record {
+            long = rw e g.auto.to;
+            grows = rw e g.ensures.0;
+            last = w.last-is;
+            moved = rw e g.ensures.1;
+          }
+      | else-by-last w ↦ let e = w.to-is in
+          record {
+            long = rw e refl;
+            grows = rw e (λ r x. x);
+            last = w.last-is ∙ sym w.if-by-last.false;
+            moved = rw (e, w.if-by-last.false) c.loop-e.invariant.1.0;
+          }
+    ]
 
-loop-again : tie.Need-loop-preserved invariant-loop decreases-loop
+loop-again : tie.Need-loop-e-preserved invariant-loop decreases-loop
 loop-again c =
     let t = turn c in
-    let p = c.before.before.before in
-    let s = begin p in
+    let s = begin c.before.before.before in
     let a = s.args in
     let m : ℕ = modulus a.l in
     let gain : ℕ → ℕ = brings a.l a.y.now a.block a.end a.j in
-    let i = p.loop.invariant in (
+    let i = c.loop-e.invariant in (
       (omega arith, t.long ∙ i.0.1),
       (
         rw t.last t.moved,
-        below_more _ p.loop.e
-            (λ k h r. moved_grows m (gain k) a.from.now p.loop.to c.if1.to t.grows (i.1.1 k h r))
+        below_more _ c.loop-e.e
+            (λ k h r. moved_grows m (gain k) a.from.now c.loop-e.to c.if-by-last.to t.grows (i.1.1 k h r))
             (λ r.
-            let e = c.before.residue.ensures r in
-            moved_rest m c.before.residue.result (gain p.loop.e) a.from.now c.if1.to e
+            let e = c.residue-by.ensures r in
+            moved_rest m c.residue-by.result (gain c.loop-e.e) a.from.now c.if-by-last.to e
             (t.moved (rw e (mod-lt _ (omega arith))))),
       ),
     )
 
-same_length : tie.Need-same-length invariant-loop decreases-loop
+same_length : tie.Need-shape_of-to invariant-loop decreases-loop
 same_length c = search rules
 
 returns : tie.Need-returns invariant-loop decreases-loop
-returns c = λ e h r. c.before.loop.invariant.1.1 e (omega (arith, c.before.before.wide.ensures)) r
+returns c = λ e h r. c.loop-e.invariant.1.1 e (omega (arith, c.wide-most.ensures)) r
 
-pub add-block-spec : {M : Type 1} → statement M
-add-block-spec =
+pub add_block_spec : {M : Type 1} → statement M
+add_block_spec =
     tie.close
     (tie.spec
     invariant-loop

@@ -11,34 +11,35 @@ use borrow.Author.Rules.{rules}
 use Rattle.costs.proofs.Parts.{Only, Never, only-before}
 use Rattle.costs.proofs.makes_up.Statement.{statement}
 use Rattle.costs.proofs.makes_up.Tie as tie
+use Rattle.costs.proofs.makes_up.Lts.{else-part-eq0, then-part-eq0}
 
-abbrev invariant-loop : tie.invariant-loop
+abbrev invariant-loop : tie.invariant-loop-n
 invariant-loop m sum low high set part₀ n₀ part n =
     ((part < m) × Only m sum n part) × ((k : ℕ) → k < n → low ≤ k → Never m sum set k)
 
-abbrev decreases-loop : tie.decreases-loop
+abbrev decreases-loop : tie.decreases-loop-n
 decreases-loop m sum low high set part₀ n₀ part n = high + 1 - n
 
 -- a turn of the loop that found nothing, and where the function starts
-abbrev turn : tie.Joined2 invariant-loop decreases-loop → tie.In-loop invariant-loop decreases-loop
+abbrev turn : tie.Joined-part-eq0 invariant-loop decreases-loop → tie.In-loop-n invariant-loop decreases-loop
 turn c = c.before.before.before
 
-abbrev start : tie.At-loop invariant-loop decreases-loop → tie.Start invariant-loop decreases-loop
+abbrev start : tie.At-loop-n invariant-loop decreases-loop → tie.Start invariant-loop decreases-loop
 start c = c.before.before.before
 
-rem-missing : tie.Need-nonzero-rem-missing invariant-loop decreases-loop
+rem-missing : tie.Need-nonzero_rem-low invariant-loop decreases-loop
 rem-missing c = search rules
 
-missing-requires : tie.Need-missing-requires invariant-loop decreases-loop
+missing-requires : tie.Need-missing-part-requires invariant-loop decreases-loop
 missing-requires c κs = search rules
 
 -- what is missing to the least number goes with it, and nothing else
-loop-holds : tie.Need-loop-init invariant-loop decreases-loop
+loop-holds : tie.Need-loop-n-init invariant-loop decreases-loop
 loop-holds c =
-    let a = c.before.before.args in
-    let e = c.missing.ensures in
-    let some : 0 < a.m = omega (arith, c.before.before.requires.0) in
-    let only : Only a.m a.sum a.low c.missing.result =
+    let a = c.args in
+    let e = c.missing-part.ensures in
+    let some : 0 < a.m = omega (arith, c.requires.0) in
+    let only : Only a.m a.sum a.low c.missing-part.result =
     λ q h s.
     let w : a.low + q ≡ q + a.low = omega arith in
     let o : (a.low % a.m + q) % a.m ≡ a.sum =
@@ -48,52 +49,53 @@ loop-holds c =
 
 holds-requires : tie.Need-holds-requires invariant-loop decreases-loop
 holds-requires c κs =
-    let p = c.before in
-    omega (arith, p.loop.invariant.0.0, (start p).requires.1.1.1)
+    omega (arith, c.loop-n.invariant.0.0, (start c.before).requires.1.1.1)
 
-returns : tie.Need-returns invariant-loop decreases-loop
+returns : tie.Need-returns-then-holds invariant-loop decreases-loop
 returns c = λ part n h x l k s. refl
 
-sub_part : tie.Need-overflow-sub-part invariant-loop decreases-loop
+sub_part : tie.Need-overflow_sub-part invariant-loop decreases-loop
 sub_part c = search rules
 
-sub-part-2 : tie.Need-overflow-sub-part-2 invariant-loop decreases-loop
+sub-part-2 : tie.Need-overflow_sub-part-else-part-eq0 invariant-loop decreases-loop
 sub-part-2 c = search rules
 
-add-n : tie.Need-overflow-add-n invariant-loop decreases-loop
+add-n : tie.Need-overflow_add-n invariant-loop decreases-loop
 add-n c = search rules
 
-loop-less : tie.Need-loop-smaller invariant-loop decreases-loop
+loop-less : tie.Need-loop-n-smaller invariant-loop decreases-loop
 loop-less c = search rules
 
-loop-again : tie.Need-loop-preserved invariant-loop decreases-loop
+loop-again : tie.Need-loop-n-preserved invariant-loop decreases-loop
 loop-again c =
     let p = (turn c).before in
-    let i = p.loop.inv in
+    let i = p.loop-n.invariant in
     let a = (start p).args in
-    let n : ℕ = p.loop.n in
-    let before = only-before a.m a.sum n p.loop.part i.0.1 in
-    let low : c.if2.part < a.m =
-    ⊎_elim (λ w. omega (arith, w.1, i.0.0)) (λ w. omega (arith, w.1, i.0.0)) c.if2.branch in
-    let only : Only a.m a.sum (n + 1) c.if2.part =
+    let n : ℕ = p.loop-n.n in
+    let before = only-before a.m a.sum n p.loop-n.part i.0.1 in
+    let low : c.if-part-eq0.part < a.m =
+    elim c.if-part-eq0.branch [
+      | then-part-eq0 w ↦ omega (arith, w.part-is, i.0.0)
+      | else-part-eq0 w ↦ omega (arith, w.part-is, i.0.0)
+    ] in
+    let only : Only a.m a.sum (n + 1) c.if-part-eq0.part =
     λ q h s.
-    ⊎_elim
-    (λ w. ⊎_elim (λ b. omega (arith, b, w)) (λ b. omega (arith, b, w)) (before q h s))
-    (λ w. ⊎_elim (λ b. omega (arith, b, w)) (λ b. omega (arith, b, w)) (before q h s))
-    c.if2.branch in
+    elim c.if-part-eq0.branch [
+      | then-part-eq0 w ↦ ⊎_elim (λ b. omega (arith, b, w)) (λ b. omega (arith, b, w)) (before q h s)
+      | else-part-eq0 w ↦ ⊎_elim (λ b. omega (arith, b, w)) (λ b. omega (arith, b, w)) (before q h s)
+    ] in
     let here : a.low ≤ n → Never a.m a.sum a.set.now n =
     λ l q h x s.
-    let same : q ≡ p.loop.part = i.0.1 q h s in
-    false≢true (sym c.before.if1.false ∙ c.before.before.holds.ensures (rw same at x)) in
+    let same : q ≡ p.loop-n.part = i.0.1 q h s in
+    false≢true (sym c.if-holds.false ∙ c.holds.ensures (rw same at x)) in
     ((low, only), below_more _ n i.1 here)
 
-returns-2 : tie.Need-returns-2 invariant-loop decreases-loop
+returns-2 : tie.Need-returns invariant-loop decreases-loop
 returns-2 c =
-    let p = c.before in
-    λ part n h x l k s. absurd (p.loop.invariant.1 n (omega (arith, k, c.loop-test.false)) l part h x s)
+    λ part n h x l k s. absurd (c.loop-n.invariant.1 n (omega (arith, k, c.loop-n-test.false)) l part h x s)
 
-pub makes-up-spec : {M : Type 1} → statement M
-makes-up-spec =
+pub makes_up_spec : {M : Type 1} → statement M
+makes_up_spec =
     tie.close
     (tie.spec
     invariant-loop

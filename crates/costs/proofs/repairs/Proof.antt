@@ -18,33 +18,33 @@ use Rattle.costs.proofs.OneLost.{lost_between, brings_between}
 use Rattle.costs.proofs.repairs.Statement.{statement}
 use Rattle.costs.proofs.repairs.Tie as tie
 
-abbrev invariant-loop : tie.invariant-loop
+abbrev invariant-loop : tie.invariant-loop-g
 invariant-loop l y totals counts block end j left sum set nc i at seen last g₀ g =
     (v part : ℕ) → Repairs l y block end j left sum set v part → seen.ones + g ≤ ones (digits l.nc v)
 
-abbrev decreases-loop : tie.decreases-loop
+abbrev decreases-loop : tie.decreases-loop-g
 decreases-loop l y totals counts block end j left sum set nc i at seen last g₀ g = last + 1 - g
 
 -- where the block is known, and where the function starts, seen from where the chunk has its place
-abbrev known : tie.After-place-of invariant-loop decreases-loop → tie.After-wide invariant-loop decreases-loop
+abbrev known : tie.After-place_of-p invariant-loop decreases-loop → tie.After-wide-i invariant-loop decreases-loop
 known c = c.before
 
-abbrev begin : tie.After-place-of invariant-loop decreases-loop → tie.Start invariant-loop decreases-loop
+abbrev begin : tie.After-place_of-p invariant-loop decreases-loop → tie.Start invariant-loop decreases-loop
 begin c = (known c).before.before.before.before.before
 
 -- where it has its place, seen from where it can be matched
-abbrev place : tie.Else1 invariant-loop decreases-loop → tie.After-place-of invariant-loop decreases-loop
+abbrev place : tie.Else-not-p invariant-loop decreases-loop → tie.After-place_of-p invariant-loop decreases-loop
 place c = c.before.before
 
 -- where it was looked at, and where it can be matched, seen from the loop
-abbrev looked : tie.At-loop invariant-loop decreases-loop → tie.After-look invariant-loop decreases-loop
+abbrev looked : tie.At-loop-g invariant-loop decreases-loop → tie.After-look-seen invariant-loop decreases-loop
 looked c = c.before.before
 
-abbrev found : tie.At-loop invariant-loop decreases-loop → tie.Else1 invariant-loop decreases-loop
+abbrev found : tie.At-loop-g invariant-loop decreases-loop → tie.Else-not-p invariant-loop decreases-loop
 found c = (looked c).before
 
 -- where a turn has its span, seen from where that is tried
-abbrev turn : tie.After-struct-known4 invariant-loop decreases-loop → tie.After-widen invariant-loop decreases-loop
+abbrev turn : tie.After-struct_known-in-loop-g-3-1 invariant-loop decreases-loop → tie.After-widen-span invariant-loop decreases-loop
 turn c = c.before.before.before
 
 -- the layout is legal
@@ -56,141 +56,137 @@ high : (s : tie.Start invariant-loop decreases-loop) → s.args.l.l1 * s.args.l.
 high s = string_high s.args.l s.requires.0.allowed
 
 -- the positions before the chunk are few
-before-low : (c : tie.Else1 invariant-loop decreases-loop) → let o = place c in
-    (known o).wide.result * (begin o).args.l.nc ≤ longest_line
+before-low : (c : tie.Else-not-p invariant-loop decreases-loop) → let o = place c in
+    (known o).wide-i.result * (begin o).args.l.nc ≤ longest_line
 before-low c =
     let o = place c in
     let a = (begin o).args in
-    let p = (begin o).pre.0 in
-    subst (λ (i : ℕ). i * a.l.nc ≤ longest_line) (sym (known o).wide.ensures)
+    let p = (begin o).requires.0 in
+    subst (λ (i : ℕ). i * a.l.nc ≤ longest_line) (sym (known o).wide-i.ensures)
     (chunk_lies a.l p.allowed a.block a.j p.inside p.column).in_string
 
-wide-requires : tie.Need-wide-requires invariant-loop decreases-loop
+wide-requires : tie.Need-wide-i-requires invariant-loop decreases-loop
 wide-requires c κs = search rules
 
-sub-place-of : tie.Need-overflow-sub-place-of invariant-loop decreases-loop
-sub-place-of c = c.before.before.before.before.before.requires.1.0
+sub-place-of : tie.Need-overflow_sub-left invariant-loop decreases-loop
+sub-place-of c = c.requires.1.0
 
-place-of-requires : tie.Need-place-of-requires invariant-loop decreases-loop
+place-of-requires : tie.Need-place_of-p-requires invariant-loop decreases-loop
 place-of-requires c κs =
-    let p = c.before.before.before.before.before.requires.0 in
+    let p = c.requires.0 in
     ((p.allowed, p.short), (p.inside, p.column))
 
-returns : tie.Need-returns invariant-loop decreases-loop
+returns : tie.Need-returns-then-not-p invariant-loop decreases-loop
 returns c v part r =
-    absurd (false≢true (sym (not-true _ c.if1.true) ∙ c.before.before.place_of.ensures.found r.readable))
+    absurd (false≢true (sym (not-true _ c.if-not-p.true) ∙ c.place_of-p.ensures.found r.readable))
 
 -- the place that was found: the chunk's bits start there, and those that it did not lose are there
-placed : (c : tie.Else1 invariant-loop decreases-loop) → let o = place c in let a = (begin o).args in
-    (o.place_of.result.at ≡ start_at a.l a.block a.j a.left - a.end)
-    × (o.place_of.result.at + (a.l.nc - 1) ≤ length a.y.now)
+placed : (c : tie.Else-not-p invariant-loop decreases-loop) → let o = place c in let a = (begin o).args in
+    (o.place_of-p.result.at ≡ start_at a.l a.block a.j a.left - a.end)
+    × (o.place_of-p.result.at + (a.l.nc - 1) ≤ length a.y.now)
 placed c =
     let o = place c in
     let s = begin o in
-    let e = o.place_of.ensures in
-    let ok : o.place_of.result.ok ≡ true = not-false _ c.if1.false in
-    (e.at_just ok, omega (arith, e.within ok, e.lost_just ok, s.pre.1.0, (bounds s).nc_low))
+    let e = o.place_of-p.ensures in
+    let ok : o.place_of-p.result.ok ≡ true = not-false _ c.if-not-p.false in
+    (e.at_just ok, omega (arith, e.within ok, e.lost_just ok, s.requires.1.0, (bounds s).nc_low))
 
-sub-look : tie.Need-overflow-sub-look invariant-loop decreases-loop
+sub-look : tie.Need-overflow_sub-nc invariant-loop decreases-loop
 sub-look c = omega (arith, (bounds (begin (place c))).nc_low)
 
-look-requires : tie.Need-look-requires invariant-loop decreases-loop
+look-requires : tie.Need-look-seen-requires invariant-loop decreases-loop
 look-requires c κs =
-    let p = (begin (place c)).pre.0 in
+    let p = (begin (place c)).requires.0 in
     (p.bits, (p.short, (p.tables, (placed c).1)))
 
-sub-more-ones : tie.Need-overflow-sub-more-ones invariant-loop decreases-loop
+sub-more-ones : tie.Need-overflow_sub-nc-2 invariant-loop decreases-loop
 sub-more-ones c = omega (arith, (bounds (begin (place c.before))).nc_low)
 
-more-ones-requires : tie.Need-more-ones-requires invariant-loop decreases-loop
+more-ones-requires : tie.Need-more_ones-more-requires invariant-loop decreases-loop
 more-ones-requires c κs =
-    let p = (begin (place c.before)).pre.0 in
+    let p = (begin (place c.before)).requires.0 in
     (p.bits, (p.short, (p.tables, (placed c.before).1)))
 
 -- the ones of a chunk that brings the column to its sum
-between : (c : tie.After-more-ones invariant-loop decreases-loop) → let e = c.before.before in let a = (begin (place e)).args in
+between : (c : tie.After-more_ones-more invariant-loop decreases-loop) → let e = c.before.before in let a = (begin (place e)).args in
     (v part : ℕ) → Repairs a.l a.y.now a.block a.end a.j a.left a.sum a.set.now v part
-    → (c.before.look.result.ones + c.more-ones.result.first ≤ ones (digits a.l.nc v))
-    × (ones (digits a.l.nc v) ≤ c.before.look.result.ones + c.more-ones.result.last)
+    → (c.look-seen.result.ones + c.more_ones-more.result.first ≤ ones (digits a.l.nc v))
+    × (ones (digits a.l.nc v) ≤ c.look-seen.result.ones + c.more_ones-more.result.last)
 between c v part r =
-    let e = c.before.before in
-    lost_between r (omega (arith, (bounds (begin (place e))).nc_low)) _ (placed e).0 c.before.look.ensures
-    c.more-ones.ensures
+    lost_between r (omega (arith, (bounds (begin (place c.before.before))).nc_low)) _ (placed c.before.before).0 c.look-seen.ensures
+    c.more_ones-more.ensures
 
-loop-holds : tie.Need-loop-init invariant-loop decreases-loop
+loop-holds : tie.Need-loop-g-init invariant-loop decreases-loop
 loop-holds c v part r = (between c v part r).0
 
-mul-widen : tie.Need-overflow-mul-widen invariant-loop decreases-loop
+mul-widen : tie.Need-overflow_mul-i invariant-loop decreases-loop
 mul-widen c = record { fits = omega (arith, before-low (found c.before)) }
 
-widen-requires : tie.Need-widen-requires invariant-loop decreases-loop
+widen-requires : tie.Need-widen-span-requires invariant-loop decreases-loop
 widen-requires c κs =
-    let p = c.before in
-    let s = begin (place (found p)) in
-    let i = (looked p).look.ensures in
+    let s = begin (place (found c.before)) in
+    let i = (looked c.before).look-seen.ensures in
     let few = (bounds s).nc_high in
     let keeps : s.args.l.nc - 1 ≤ 8 = omega arith in
-    let low : (looked p).look.result.total ≤ 64 = omega (arith, i.positions-small, mul-le-mul keeps keeps) in (
-      (few, before-low (found p)),
+    let low : (looked c.before).look-seen.result.total ≤ 64 = omega (arith, i.positions-small, mul-le-mul keeps keeps) in (
+      (few, before-low (found c.before)),
       (
         (
           omega (arith, i.count_small, (bounds s).nc_low),
-          (low, omega (arith, c.loop-test.true, p.before.more-ones.ensures.few)),
+          (low, omega (arith, c.loop-g-test.true, c.more_ones-more.ensures.few)),
         ),
         (omega arith, omega arith),
       ),
     )
 
-mul-makes-up : tie.Need-overflow-mul-makes-up invariant-loop decreases-loop
+mul-makes-up : tie.Need-overflow_mul-l invariant-loop decreases-loop
 mul-makes-up c = record { fits = omega (arith, high (begin (place (found c.before.before.before)))) }
 
-add-makes-up : tie.Need-overflow-add-makes-up invariant-loop decreases-loop
+add-makes-up : tie.Need-overflow_add-l invariant-loop decreases-loop
 add-makes-up c = record { fits = omega (arith, high (begin (place (found c.before.before.before)))) }
 
-makes-up-requires : tie.Need-makes-up-requires invariant-loop decreases-loop
+makes-up-requires : tie.Need-makes_up-requires invariant-loop decreases-loop
 makes-up-requires c κs =
     let w = turn c in
     let s = begin (place (found w.before.before)) in
-    let p = s.pre.1.1 in
-    (p.0, (omega (arith, w.widen.ensures.high_small), p.1))
+    let p = s.requires.1.1 in
+    (p.0, (omega (arith, w.widen-span.ensures.high_small), p.1))
 
-returns-2 : tie.Need-returns-2 invariant-loop decreases-loop
+returns-2 : tie.Need-returns-then-makes_up invariant-loop decreases-loop
 returns-2 c v part r = refl
 
-add-g : tie.Need-overflow-add-g invariant-loop decreases-loop
+add-g : tie.Need-overflow_add-g invariant-loop decreases-loop
 add-g c =
     let t = (turn c.before.before).before in
-    omega (arith, t.loop-test.taken, t.before.before.more-ones.ensures.few)
+    omega (arith, t.loop-g-test.true, t.before.before.more_ones-more.ensures.few)
 
-loop-less : tie.Need-loop-smaller invariant-loop decreases-loop
-loop-less c = omega (arith, (turn c.before.before).before.loop-test.taken)
+loop-less : tie.Need-loop-g-smaller invariant-loop decreases-loop
+loop-less c = omega (arith, (turn c.before.before).before.loop-g-test.true)
 
 -- after a turn that found nothing, a chunk that brings the column to its sum has not just g ones more
-loop-again : tie.Need-loop-preserved invariant-loop decreases-loop
+loop-again : tie.Need-loop-g-preserved invariant-loop decreases-loop
 loop-again c v part r =
-    let m = c.before in
-    let w = turn m.before in
+    let w = turn c.before.before in
     let p = w.before.before in
     let e = found p in
     let s = begin (place e) in
     let a = s.args in
     let d = digits a.l.nc v in
     let b = total (a.block * a.l.nc + 1) d in
-    let just : ones d ≡ (looked p).look.result.ones + p.loop.g → ⊥ =
+    let just : ones d ≡ (looked p).look-seen.result.ones + p.loop-g.g → ⊥ =
     λ q.
-    let i = brings_between r (omega (arith, (bounds s).nc_low)) _ (placed e).0 (looked p).look.ensures
-    (known (place e)).wide.result p.loop.g _ w.widen.result (known (place e)).wide.ensures refl refl q
-    w.widen.ensures in
-    false≢true (sym c.if2.false ∙ m.makes_up.ensures part b r.low r.among i.0 i.1 r.hits) in
-    omega (arith, p.loop.inv v part r, just)
+    let i = brings_between r (omega (arith, (bounds s).nc_low)) _ (placed e).0 (looked p).look-seen.ensures
+    (known (place e)).wide-i.result p.loop-g.g _ w.widen-span.result (known (place e)).wide-i.ensures refl refl q
+    w.widen-span.ensures in
+    false≢true (sym c.if-makes_up.false ∙ c.makes_up.ensures part b r.low r.among i.0 i.1 r.hits) in
+    omega (arith, p.loop-g.invariant v part r, just)
 
-returns-3 : tie.Need-returns-3 invariant-loop decreases-loop
+returns-3 : tie.Need-returns invariant-loop decreases-loop
 returns-3 c v part r =
-    let p = c.before in
-    absurd (omega (arith, p.loop.invariant v part r, c.loop-test.false, (between p.before v part r).1))
+    absurd (omega (arith, c.loop-g.invariant v part r, c.loop-g-test.false, (between c.before.before v part r).1))
 
-pub repairs-spec : {M : Type 1} → statement M
-repairs-spec =
+pub repairs_spec : {M : Type 1} → statement M
+repairs_spec =
     tie.close
     (tie.spec
     invariant-loop

@@ -9,45 +9,44 @@ use Rattle.costs.proofs.take_block.Tie as tie
 
 -- where `add_block` has answered, seen from where `take_over` has answered, where the received row and its tables are known,
 -- and where the function starts
-abbrev added : tie.After-take-over → tie.After-add-block
+abbrev added : tie.After-take_over → tie.After-add_block
 added c = c.before.before.before.before.before.before
 
-abbrev known : tie.After-add-block → tie.After-shared-slice-known3
-known c = c.before.before.before.before.before
+abbrev known : tie.After-add_block → tie.After-shared_slice_known-3-1
+known c = c.before.before.before.before
 
-abbrev start : tie.After-add-block → tie.Start
+abbrev start : tie.After-add_block → tie.Start
 start c = (known c).before.before.before
 
-add-block-requires : tie.Need-add-block-requires
+add-block-requires : tie.Need-add_block-requires
 add-block-requires c κs = search rules
 
-mul-take-over : tie.Need-overflow-mul-take-over
+mul-take-over : tie.Need-overflow_mul-l
 mul-take-over c = search rules
 
-add-take-over : tie.Need-overflow-add-take-over
+add-take-over : tie.Need-overflow_add-l
 add-take-over c = search rules
 
-take-over-requires : tie.Need-take-over-requires
+take-over-requires : tie.Need-take_over-requires
 take-over-requires c κs = search rules
 
-same_length : tie.Need-same-length
+same_length : tie.Need-shape_of-set
 same_length c = search rules
 
-same-length-2 : tie.Need-same-length-2
+same-length-2 : tie.Need-shape_of-other
 same-length-2 c = search rules
 
 returns : tie.Need-returns
 returns c =
-    let o = c.before.before.before.before in
-    let b = added o in
+    let b = added c.before.before.before.before in
     let a = (start b).args in
     let gain : ℕ → ℕ = brings a.l a.y.now a.block a.end a.j in
     λ e h legible.
-    moved_over (modulus a.l) (gain e) a.set.now b.add-block.last.1.1.1.1.1.1.1.1.1.0
-    o.take-over.new.1.0 (omega arith) o.take-over.ensures (b.add-block.ensures e h legible)
+    moved_over (modulus a.l) (gain e) a.set.now b.add_block.new.to
+    c.take_over.new.set (omega arith) c.take_over.ensures (b.add_block.ensures e h legible)
 
-pub take-block-spec : {M : Type 1} → statement M
-take-block-spec =
+pub take_block_spec : {M : Type 1} → statement M
+take_block_spec =
     tie.close
     (tie.spec
     add-block-requires
