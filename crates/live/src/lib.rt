@@ -1,6 +1,8 @@
 // The marks of the loss states of the heavy blocks, made in three passes: after the first one, two that count in how many chunks a row that
 // comes through a state can differ from another one, before its column and from it on. Contracts cite specs/Passes.antt and
 // specs/Floors.antt.
+#![tactic(auto)]
+
 ghost use Rattle.std.specs.Prelude.{◌≡◌, true, false, List, ℕ, ◌+◌, ◌*◌, ◌<◌, ◌≤◌, length, get_or};
 ghost use Rattle.windows.specs.Windows.{Tables};
 ghost use Rattle.states.specs.States.{most_states, lefts, each, Shaped, state_of};

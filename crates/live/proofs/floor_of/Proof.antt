@@ -7,33 +7,34 @@ use Rattle.near.proofs.Near.{after_same}
 use Rattle.live.proofs.floor_of.Statement.{statement}
 use Rattle.live.proofs.floor_of.Tie as tie
 
-returns : tie.Need-returns
+returns : tie.Need-returns-then-mark-eq0
 returns c = (omega arith, λ n h. omega arith)
 
-digits-of-requires : tie.Need-digits-of-requires
+digits-of-requires : tie.Need-digits_of-left-requires
 digits-of-requires c κs = search rules
 
-most-after-requires : tie.Need-most-after-requires
+most-after-requires : tie.Need-most_after-requires
 most-after-requires c κs =
-    let s = c.before.before.before.before in
-    let p = s.requires in
-    (p.0, (p.1.0, λ k h. omega (arith, c.digits_of.ensures k (omega (arith, p.0.few)), p.1.1.1 k h)))
+    let p = c.requires in
+    (p.0, (p.1.0, λ k h. omega (arith, c.digits_of-left.ensures k (omega (arith, p.0.few)), p.1.1.1 k h)))
 
-floor-by-requires : tie.Need-floor-by-requires
+floor-by-requires : tie.Need-floor_by-requires
 floor-by-requires c κs = search rules
 
-returns-2 : tie.Need-returns-2
+returns-2 : tie.Need-returns
 returns-2 c =
-    let m = c.before in
-    let d = m.before in
-    let s = d.before.before.before.before in
-    let a = s.args in
+    let a = c.args in
     let same =
-    after_same a.columns a.after.now (each d.digits_of.result) (entry_of a.digits.now a.q) a.j
+    after_same a.columns a.after.now (each c.digits_of-left.result) (entry_of a.digits.now a.q) a.j
     a.shape.n
-    (λ k h. d.digits_of.ensures k (omega (arith, s.requires.0.few))) in
-    (c.floor-by.ensures.0, λ n h. c.floor-by.ensures.1 n (omega (arith, h, same, m.most-after.ensures)))
+    (λ k h. c.digits_of-left.ensures k (omega (arith, c.requires.0.few))) in
+    (c.floor_by.ensures.0, λ n h. c.floor_by.ensures.1 n (omega (arith, h, same, c.most_after.ensures)))
 
-pub floor-of-spec : {M : Type 1} → statement M
-floor-of-spec =
-    tie.close (tie.spec returns digits-of-requires most-after-requires floor-by-requires returns-2)
+pub floor_of_spec : {M : Type 1} → statement M
+floor_of_spec =
+    tie.close (tie.spec
+    returns
+    digits-of-requires
+    most-after-requires
+    floor-by-requires
+    returns-2)

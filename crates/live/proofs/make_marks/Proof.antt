@@ -16,13 +16,13 @@ use Rattle.live.proofs.make_marks.Statement.{statement}
 use Rattle.live.proofs.make_marks.Tie as tie
 
 -- where the function starts, seen from where all slices are known, and from where the digits are filled
-abbrev known-half : tie.After-slice-known → tie.After-shared-slice-known4
+abbrev known-half : tie.After-slice_known-1 → tie.After-shared_slice_known-4-1
 known-half c = c.before.before.before.before.before
 
-abbrev start : tie.After-slice-known → tie.Start
+abbrev start : tie.After-slice_known-1 → tie.Start
 start c = (known-half c).before.before.before.before
 
-abbrev begin : tie.After-fill-digits → tie.Start
+abbrev begin : tie.After-fill_digits → tie.Start
 begin c = start c.before.before
 
 -- a row that is not near is wide at each of its states
@@ -44,71 +44,65 @@ wide s row vs own path far i h =
     (λ none. omega (arith, none))
     (lt_or_ge 0 a.room)
 
-slice-aggregate-fill-digits : tie.Need-slice-aggregate-fill-digits
+slice-aggregate-fill-digits : tie.Need-slice_bounds-fill_digits-end
 slice-aggregate-fill-digits c = search rules
 
-fill-digits-requires : tie.Need-fill-digits-requires
+fill-digits-requires : tie.Need-fill_digits-requires
 fill-digits-requires c κs =
     let p = (start c.before).requires in
     (omega (arith, p.0.fit.few, p.1.0.blocks), (p.1.0.shaped, omega (arith, p.1.0.few)))
 
-slice-aggregate-complete : tie.Need-slice-aggregate-complete
+slice-aggregate-complete : tie.Need-slice_bounds-complete-end
 slice-aggregate-complete c = search rules
 
 complete-requires : tie.Need-complete-requires
 complete-requires c κs =
-    let d = c.before.before.before in
-    let p = (begin d).requires in
-    ((p.0.fit, (p.0.tables, p.0.long)), (p.1.0, (d.fill-digits.ensures, (p.1.1.0, p.1.1.1.1))))
+    let p = (begin c.before.before.before).requires in
+    ((p.0.fit, (p.0.tables, p.0.long)), (p.1.0, (c.fill_digits.ensures, (p.1.1.0, p.1.1.1.1))))
 
-same_length : tie.Need-same-length
+same_length : tie.Need-shape_of-marks-then-not-complete
 same_length c = search rules
 
-returns : tie.Need-returns
+returns : tie.Need-returns-then-not-complete
 returns c =
-    let m = c.before.before.before in
-    let s = begin m.before.before.before.before in (
+    let s = begin c.before.before.before.before.before.before.before in (
       refl,
       λ row vs own light path far.
-          let e = m.complete.ensures.1 row vs own light path (wide s row vs own path far) in
-          absurd (false≢true (sym (not-true _ c.if1.true) ∙ e.0)),
+          let e = c.complete.ensures.1 row vs own light path (wide s row vs own path far) in
+          absurd (false≢true (sym (c.if-not-complete.true) ∙ e.0)),
     )
 
-slice-aggregate-count-marks : tie.Need-slice-aggregate-count-marks
+slice-aggregate-count-marks : tie.Need-slice_bounds-count_marks-end
 slice-aggregate-count-marks c = search rules
 
-count-marks-requires : tie.Need-count-marks-requires
+count-marks-requires : tie.Need-count_marks-requires
 count-marks-requires c κs =
-    let m = c.before.before.before.before.before in
-    let d = m.before.before.before.before in
-    let p = (begin d).requires in
+    let p = (begin c.before.before.before.before.before.before.before.before.before).requires in
     let counted = p.1.1.1.0 in (
       p.0,
       (
         p.1.0,
         (
-          d.fill-digits.ensures,
-          ((p.1.1.0.1, λ some. (counted some).back), omega (arith, p.1.1.1.1, m.complete.ensures.0)),
+          c.fill_digits.ensures,
+          ((p.1.1.0.1, λ some. (counted some).back), omega (arith, p.1.1.1.1, c.complete.ensures.0)),
         ),
       ),
     )
 
-same-length-2 : tie.Need-same-length-2
+same-length-2 : tie.Need-shape_of-marks
 same-length-2 c = search rules
 
-returns-2 : tie.Need-returns-2
+returns-2 : tie.Need-returns
 returns-2 c =
-    let t = c.before.before in
-    let m = t.before.before.before.before.before.before in
-    let s = begin m.before.before.before.before in (
-      t.count-marks.ensures.0,
+    let s = begin c.before.before.before.before.before.before.before.before.before.before.before.before in (
+      c.count_marks.ensures.0,
       λ row vs own light path far.
-          t.count-marks.ensures.1 row vs own light path far
-          (m.complete.ensures.1 row vs own light path (wide s row vs own path far)).1,
+          c.count_marks.ensures.1 row vs own light path far
+          (c.complete.ensures.1 row vs own light path (wide s row vs own path far)).1,
     )
 
-pub make-marks-spec : {M : Type 1} → statement M
-make-marks-spec =
+pub make_marks_spec : {M : Type 1} → statement M
+make_marks_spec =
     tie.close
     (tie.spec
     slice-aggregate-fill-digits

@@ -9,7 +9,7 @@ use Rattle.marks.proofs.Paths.{crosses-same}
 use Rattle.live.proofs.reached_by.Statement.{statement}
 use Rattle.live.proofs.reached_by.Tie as tie
 
-digits-of-requires : tie.Need-digits-of-requires
+digits-of-requires : tie.Need-digits_of-own-requires
 digits-of-requires c κs = search rules
 
 between-requires : tie.Need-between-requires
@@ -19,25 +19,28 @@ carried-requires : tie.Need-carried-requires
 carried-requires c κs = search rules
 
 -- where the function starts, seen from where the losses of the state are known
-abbrev known-half : tie.After-digits-of → tie.After-shared-slice-known4
+abbrev known-half : tie.After-digits_of-own → tie.After-shared_slice_known-4-1
 known-half c = c.before.before.before.before
 
-abbrev start : tie.After-digits-of → tie.Start
+abbrev start : tie.After-digits_of-own → tie.Start
 start c = (known-half c).before.before.before.before
 
 returns : tie.Need-returns
 returns c vs m k v =
-    let d = c.before.before in
-    let s = start d in
+    let s = start c.before.before in
     let a = s.args in
-    let few = s.pre.0.fit.few in
-    let own : (t : ℕ) → t < a.heavy.n → entry_of a.digits.now a.q t ≡ each d.digits_of.result t =
-    λ t h. sym (d.digits_of.ensures t (omega arith))
+    let few = s.requires.0.fit.few in
+    let own : (t : ℕ) → t < a.heavy.n → entry_of a.digits.now a.q t ≡ each c.digits_of-own.result t =
+    λ t h. sym (c.digits_of-own.ensures t (omega arith))
     in
     c.carried.ensures m _ v
-    (c.before.between.ensures k.row vs k.light
+    (c.between.ensures k.row vs k.light
     (crosses-same a.l a.y.now a.numbers.now a.heavy k.row a.j vs (entry_of a.digits.now a.q)
-    (each d.digits_of.result) (each a.other) (each a.other) own (λ t h. refl) (k.back refl)))
+    (each c.digits_of-own.result) (each a.other) (each a.other) own (λ t h. refl) (k.back refl)))
 
-pub reached-by-spec : {M : Type 1} → statement M
-reached-by-spec = tie.close (tie.spec digits-of-requires between-requires carried-requires returns)
+pub reached_by_spec : {M : Type 1} → statement M
+reached_by_spec = tie.close (tie.spec
+    digits-of-requires
+    between-requires
+    carried-requires
+    returns)
