@@ -1,5 +1,7 @@
 // Patterns under which every row is near another one: a row differs from it in a column only where it loses a bit there, or where chunks that
 // are read whole differ and the column still has its sum. Contracts cite specs/Alike.antt.
+#![tactic(auto)]
+
 ghost use Rattle.std.specs.Prelude.{◌≡◌, true, List, ℕ, ◌+◌, ◌*◌, ◌%◌, ◌<◌, ◌≤◌, length, get_or};
 ghost use Rattle.windows.specs.Windows.{Tables};
 ghost use Rattle.states.specs.States.{lefts, each};

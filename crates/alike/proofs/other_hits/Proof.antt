@@ -12,32 +12,33 @@ use Rattle.far.specs.Far.{Reads, read_apart}
 use Rattle.alike.specs.Alike.{Hits}
 use Rattle.alike.proofs.other_hits.Statement.{statement}
 use Rattle.alike.proofs.other_hits.Tie as tie
+use Rattle.alike.proofs.other_hits.Lts.{else-read_apart-eq1, then-read_apart-eq1+else-hits}
 
-abbrev invariant-loop : tie.invariant-loop
+abbrev invariant-loop : tie.invariant-loop-e
 invariant-loop l y totals counts z s size j sum set heavy block end e₀ e =
     (e ≤ size + 1)
     × ((k : ℕ) → k < e → (part : ℕ) → Reads l y heavy s j k → 0 < read_apart l y heavy z s j k
     → Hits l y block end j k sum set part → ⊥)
 
-abbrev decreases-loop : tie.decreases-loop
+abbrev decreases-loop : tie.decreases-loop-e
 decreases-loop l y totals counts z s size j sum set heavy block end e₀ e = size + 1 - e
 
 -- where the function starts, seen from the loop
-abbrev begin : tie.At-loop invariant-loop decreases-loop → tie.Start invariant-loop decreases-loop
+abbrev begin : tie.At-loop-e invariant-loop decreases-loop → tie.Start invariant-loop decreases-loop
 begin c = c.before.before.before.before.before.before.before.before
 
-element-copy-out-block : tie.Need-element-copy-out-block invariant-loop decreases-loop
+element-copy-out-block : tie.Need-bounds-heavy-s invariant-loop decreases-loop
 element-copy-out-block c = search rules
 
-element-copy-out-end : tie.Need-element-copy-out-end invariant-loop decreases-loop
+element-copy-out-end : tie.Need-bounds-heavy-s-2 invariant-loop decreases-loop
 element-copy-out-end c = search rules
 
-loop-holds : tie.Need-loop-init invariant-loop decreases-loop
+loop-holds : tie.Need-loop-e-init invariant-loop decreases-loop
 loop-holds c = (omega arith, λ k h. absurd (omega arith))
 
-read-apart-requires : tie.Need-read-apart-requires invariant-loop decreases-loop
+read-apart-requires : tie.Need-read_apart-requires invariant-loop decreases-loop
 read-apart-requires c κs =
-    let p = (begin c.before).pre in
+    let p = (begin c.before).requires in
     let r = p.0.0 in (
       record {
         allowed = r.allowed;
@@ -48,44 +49,41 @@ read-apart-requires c κs =
         others = p.1.0;
         small = p.0.1.1;
       },
-      (r.column, c.loop-test.true),
+      (r.column, c.loop-e-test.true),
     )
 
 hits-requires : tie.Need-hits-requires invariant-loop decreases-loop
 hits-requires c κs =
-    let t = c.before.before in
-    let p = (begin t.before).pre in
-    (p.0.0, (omega (arith, t.loop-test.true, p.0.1.1), p.1.1))
+    let p = (begin c.before.before.before).requires in
+    (p.0.0, (omega (arith, c.loop-e-test.true, p.0.1.1), p.1.1))
 
-returns : tie.Need-returns invariant-loop decreases-loop
+returns : tie.Need-returns-then-hits invariant-loop decreases-loop
 returns c e part h r a x = refl
 
-add-e : tie.Need-overflow-add-e invariant-loop decreases-loop
+add-e : tie.Need-overflow_add-e invariant-loop decreases-loop
 add-e c = search rules
 
-loop-less : tie.Need-loop-smaller invariant-loop decreases-loop
-loop-less c = omega (arith, c.before.before.loop-test.true)
+loop-less : tie.Need-loop-e-smaller invariant-loop decreases-loop
+loop-less c = omega (arith, c.loop-e-test.true)
 
-loop-again : tie.Need-loop-preserved invariant-loop decreases-loop
+loop-again : tie.Need-loop-e-preserved invariant-loop decreases-loop
 loop-again c =
-    let r = c.before in
-    let t = r.before in
-    let i = t.before.loop.invariant in (
-      omega (arith, t.loop-test.true),
+    let i = c.loop-e.invariant in (
+      omega (arith, c.loop-e-test.true),
       below_more _ _ i.1
           (λ part reads apart hits.
-          ⊎_elim
-          (λ w. false≢true (sym w.2.left ∙ w.1.ensures part hits))
-          (λ w. absurd (omega (arith, w.left, apart, r.read-apart.ensures.0, r.read-apart.ensures.1 reads)))
-          c.if1.branch),
+          elim c.if-read_apart-eq1.branch [
+            | then-read_apart-eq1+else-hits w ↦ false≢true (sym w.if-hits.false ∙ w.hits.ensures part hits)
+            | else-read_apart-eq1 w ↦ absurd (omega (arith, w.if-read_apart-eq1.false, apart, c.read_apart.ensures.0, c.read_apart.ensures.1 reads))
+          ]),
     )
 
-returns-2 : tie.Need-returns-2 invariant-loop decreases-loop
+returns-2 : tie.Need-returns invariant-loop decreases-loop
 returns-2 c e part h reads apart hits =
-    absurd (c.before.loop.invariant.1 e (omega (arith, h, c.loop-test.false)) part reads apart hits)
+    absurd (c.loop-e.invariant.1 e (omega (arith, h, c.loop-e-test.false)) part reads apart hits)
 
-pub other-hits-spec : {M : Type 1} → statement M
-other-hits-spec =
+pub other_hits_spec : {M : Type 1} → statement M
+other_hits_spec =
     tie.close
     (tie.spec
     invariant-loop
