@@ -1,4 +1,6 @@
 // Loss tables: how the losses of the heavy blocks are shared among their chunks. Contracts cite specs/Tables.antt.
+#![tactic(auto)]
+
 ghost use Rattle.std.specs.Prelude.{◌≡◌, true, false, List, ℕ, ◌+◌, ◌-◌, ◌*◌, ◌<◌, ◌≤◌, length, get_or};
 ghost use Rattle.bits.specs.Bits.{AllBits, longest, most_chunks};
 ghost use Rattle.rows.specs.Slice.{rows_of_slice};

@@ -8,22 +8,26 @@ use lib.ListN.{get_or}
 use Rattle.tables.proofs.is_heavy.Statement.{statement}
 use Rattle.tables.proofs.is_heavy.Tie as tie
 
-returns : tie.Need-returns
-returns c = (λ e. absurd (false≢true e), λ e h. absurd (omega (arith, c.if1.true)))
+returns : tie.Need-returns-then-heavy-h
+returns c = (λ e. absurd (false≢true e), λ e h. absurd (omega (arith, c.if-heavy-h.true)))
 
-element-copy-out-result : tie.Need-element-copy-out-result
+element-copy-out-result : tie.Need-bounds-heavy-h
 element-copy-out-result c = search rules
 
-cast-result : tie.Need-overflow-cast-result
+cast-result : tie.Need-overflow_cast-result
 cast-result c = search rules
 
-returns-2 : tie.Need-returns-2
+returns-2 : tie.Need-returns
 returns-2 c =
-    let a = c.before.before.args in
-    let b = get_or a.t1.block a.h 0 in (
-      λ e. (omega (arith, c.before.if1.false), eqb-true b a.i e),
+    let a = c.args in
+    let b = get_or a.heavy.block a.h 0 in (
+      λ e. (omega (arith, c.if-heavy-h.false), eqb-true b a.i e),
       λ e h k. absurd (false≢true (sym e ∙ eq-eqb b a.i k)),
     )
 
-pub is-heavy-spec : {M : Type 1} → statement M
-is-heavy-spec = tie.close (tie.spec returns element-copy-out-result cast-result returns-2)
+pub is_heavy_spec : {M : Type 1} → statement M
+is_heavy_spec = tie.close (tie.spec
+    returns
+    element-copy-out-result
+    cast-result
+    returns-2)

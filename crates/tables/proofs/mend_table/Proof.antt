@@ -7,35 +7,40 @@ use Rattle.found.proofs.Found.{grown_nothing, grown_weaken}
 use Rattle.tables.proofs.mend_table.Statement.{statement}
 use Rattle.tables.proofs.mend_table.Tie as tie
 
-none-left-requires : tie.Need-none-left-requires
+none-left-requires : tie.Need-none_left-requires
 none-left-requires c κs = search rules
 
-mend-strings-requires : tie.Need-mend-strings-requires
+mend-strings-requires : tie.Need-mend_strings-requires
 mend-strings-requires c κs =
-    let n = c.before.before in
-    let p = n.before.before.before.before.before.before.before.requires in (
+    let p = c.requires in (
       (p.0, p.1.1.1),
-      (p.1.0, (p.1.1.0.0, p.1.1.0.1 (n.before.none_left.ensures.0 n.if1.true))),
+      (p.1.0, (p.1.1.0.0, p.1.1.0.1 (c.none_left.ensures.0 c.if-none_left.true))),
     )
 
-same_length : tie.Need-same-length
-same_length c = c.before.before.before.before.mend-strings.auto.1.1.1.1.0
+same_length : tie.Need-shape_of-row-then-none_left
+same_length c = c.mend_strings.auto.row
 
-same-length-2 : tie.Need-same-length-2
-same-length-2 c = c.before.before.before.before.mend-strings.auto.1.1.1.1.1.1.0
+same-length-2 : tie.Need-shape_of-list-then-none_left
+same-length-2 c = c.mend_strings.auto.list
 
-returns : tie.Need-returns
+returns : tie.Need-returns-then-none_left
 returns c =
-    let m = c.before.before.before.before.mend-strings.ensures in
+    let m = c.mend_strings.ensures in
     (grown_weaken (λ x s w. w.1) m.0, m.1)
 
-returns-2 : tie.Need-returns-2
+returns-2 : tie.Need-returns
 returns-2 c = (
-  grown_nothing c.before.before.before.before.before.before.before.requires.1.0
-      (λ x s w. false≢true (sym c.if1.false ∙ c.before.none_left.ensures.1 w.0)),
+  grown_nothing c.requires.1.0
+      (λ x s w. false≢true (sym c.if-none_left.false ∙ c.none_left.ensures.1 w.0)),
   same_refl,
 )
 
-pub mend-table-spec : {M : Type 1} → statement M
-mend-table-spec =
-    tie.close (tie.spec none-left-requires mend-strings-requires same_length same-length-2 returns returns-2)
+pub mend_table_spec : {M : Type 1} → statement M
+mend_table_spec =
+    tie.close (tie.spec
+    none-left-requires
+    mend-strings-requires
+    same_length
+    same-length-2
+    returns
+    returns-2)
