@@ -1,5 +1,7 @@
 // The search for all consistent rows: loss patterns, block by block. Contracts cite specs/Patterns.antt; one block is tried
 // with a count in pieces.
+#![tactic(auto)]
+
 ghost use Rattle.std.specs.Prelude.{◌≡◌, false, ◌*◌, ◌-◌, ◌<◌, ◌≤◌, length, get_or, take};
 ghost use Rattle.bits.specs.Bits.{bytes_for, most_chunks, most_in_line};
 ghost use Rattle.message.specs.Layout.{row_bits, block_bits};

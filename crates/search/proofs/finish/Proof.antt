@@ -34,11 +34,11 @@ counted : (s : tie.Start) → s.args.l.l1 ≤ length s.args.pattern.counts
 counted s = let n : length s.args.pattern.counts ≡ most_in_line = search rules in omega (arith, few s)
 
 -- where the function starts, seen from the call of `heavy_of`
-abbrev entry : tie.After-slice-known2 → tie.Start
+abbrev entry : tie.After-slice_known-2-1 → tie.Start
 entry c = c.before.before.before.before.before.before.before
 
 -- the function's entry
-abbrev start : tie.After-heavy-of → tie.Start
+abbrev start : tie.After-heavy_of-hs → tie.Start
 start h = entry h.before
 
 -- the anchor's chunks on the desk, and that rows near them are known
@@ -51,59 +51,57 @@ anchor-near l numbers y held desk given small a e x sent near =
     near-known given (a e) (take most_chunks (drop 1 desk))
     (λ c h. get_or-take most_chunks (drop 1 desk) c 0 (omega arith) ∙ get_or-drop 1 desk c 0) x sent (omega (arith, near))
 
-heavy-of-requires : tie.Need-heavy-of-requires
-heavy-of-requires c κs = let s = entry c in (few s, s.pre.1.1.0.0)
+heavy-of-requires : tie.Need-heavy_of-hs-requires
+heavy-of-requires c κs = let s = entry c in (few s, s.requires.1.1.0.0)
 
-add-row-requires : tie.Need-add-row-requires
+add-row-requires : tie.Need-add_row-requires
 add-row-requires c κs =
-    let s = start c.before.before.before.before.before in
-    (s.pre.0, (s.pre.1.1.0.1, s.pre.1.0))
+    let s = start c.before.before.before.before in
+    (s.requires.0, (s.requires.1.1.0.1, s.requires.1.0))
 
-same_length : tie.Need-same-length
+same_length : tie.Need-shape_of-row-then-heavy-eq0
 same_length c = refl
 
-same-length-2 : tie.Need-same-length-2
-same-length-2 c = c.before.before.add_row.auto.1.1.1.1.1.0
+same-length-2 : tie.Need-shape_of-list-then-heavy-eq0
+same-length-2 c = c.add_row.auto.list
 
-returns : tie.Need-returns
+returns : tie.Need-returns-then-heavy-eq0
 returns c =
-    let r = c.before.before in
-    let h = r.before.before.before.before.before.before in
-    let s = start h in
+    let s = start c.before.before.before.before.before.before.before in
     let a = s.args in
-    let low = (legal_bounds a.l s.pre.0.is_legal).l2_low in
-    let f = h.heavy-of in
+    let low = (legal_bounds a.l s.requires.0.is_legal).l2_low in
+    let f = c.heavy_of-hs in
     grown_weaken
     (λ x k u. all_in_hand a.l a.y.now a.pattern.counts f.result.heavy f.result.left f.ensures low
-    r.before.before.before.if1.true _ x u)
-    r.add_row.ensures
+    c.if-heavy-eq0.true _ x u)
+    c.add_row.ensures
 
-is-set-requires : tie.Need-is-set-requires
+is-set-requires : tie.Need-is_set-requires
 is-set-requires c κs = search rules
 
 -- where `heavy_of` has answered, seen from where `is_set` has answered
-abbrev at-heavy : tie.After-is-set → tie.After-heavy-of
+abbrev at-heavy : tie.After-is_set → tie.After-heavy_of-hs
 at-heavy c = c.before.before.before.before.before
 
-add-near : tie.Need-overflow-add-near
+add-near : tie.Need-overflow_add-near
 add-near c =
     let s = start (at-heavy c.before.before) in
-    omega (arith, (legal_bounds s.args.l s.pre.0.is_legal).r_high)
+    omega (arith, (legal_bounds s.args.l s.requires.0.is_legal).r_high)
 
-add-behind : tie.Need-overflow-add-behind
+add-behind : tie.Need-overflow_add-behind
 add-behind c = search rules
 
-sub-tables : tie.Need-overflow-sub-tables
+sub-tables : tie.Need-slice_bounds-tables-count
 sub-tables c = search rules
 
-part-tables-start : tie.Need-slice-bounds-tables-start
+part-tables-start : tie.Need-slice_bounds-tables-start
 part-tables-start c = search rules
 
 -- the desk has an anchor
-is-anchored : (c : tie.Then2) → is_set (start (at-heavy c.before)).args.desk.now ≡ true
-is-anchored c = sym c.before.is_set.ensures ∙ c.if2.true
+is-anchored : (c : tie.Then-is_set) → is_set (start (at-heavy c.before)).args.desk.now ≡ true
+is-anchored c = sym c.is_set.ensures ∙ c.if-is_set.true
 
-part-tables-end : tie.Need-slice-bounds-tables-end
+part-tables-end : tie.Need-slice_bounds-tables-end
 part-tables-end c =
     let s = start (at-heavy c.before.before.before) in
     omega (arith, set_long s.args.desk.now (is-anchored c.before.before))
@@ -113,45 +111,44 @@ tables-requires c κs =
     let h = at-heavy c.before.before.before.before.before in
     let s = start h in
     let a = s.args in
-    let f = h.heavy-of in
+    let f = h.heavy_of-hs in
     let sound =
     starts-sound a.l a.pattern.counts f.result.heavy _ f.ensures refl (zeros-at 12) (length a.y.now)
-    s.pre.1.1.0.0 in
+    s.requires.1.1.0.0 in
     let set = is-anchored c.before.before.before.before in
     let part = anchor-part a.desk.now set in (
-      (s.pre.0, s.pre.1.0),
+      (s.requires.0, s.requires.1.0),
       (
         (sound, refl),
         (
-          s.pre.1.1.1.0,
+          s.requires.1.1.1.0,
           (
-            (s.pre.1.1.0.1, omega (arith, part, chunks s)),
-            anchor-near a.l a.numbers.now a.y.now _ a.desk.now s.pre.0 (chunks s)
-                s.pre.1.1.1.1 set,
+            (s.requires.1.1.0.1, omega (arith, part, chunks s)),
+            anchor-near a.l a.numbers.now a.y.now _ a.desk.now s.requires.0 (chunks s)
+                s.requires.1.1.1.1 set,
           ),
         ),
       ),
     )
 
-same-length-3 : tie.Need-same-length-3
-same-length-3 c = c.before.before.before.before.tables.auto.1.1.1.1.1.1.1.0
+same-length-3 : tie.Need-shape_of-row-then-is_set
+same-length-3 c = c.tables.auto.row
 
-same-length-4 : tie.Need-same-length-4
-same-length-4 c = c.before.before.before.before.tables.auto.1.1.1.1.1.1.1.1.1.1.1.0
+same-length-4 : tie.Need-shape_of-list-then-is_set
+same-length-4 c = c.tables.auto.list
 
-returns-2 : tie.Need-returns-2
+returns-2 : tie.Need-returns-then-is_set
 returns-2 c =
-    let q = c.before.before.before.before in
-    let h = at-heavy q.before.before.before.before.before.before in
+    let h = at-heavy c.before.before.before.before.before.before.before.before.before.before in
     let s = start h in
     let a = s.args in
-    let f = h.heavy-of in
+    let f = h.heavy_of-hs in
     grown_weaken
     (λ x k u. starts-under a.l a.pattern.counts f.result.heavy _ f.ensures refl (zeros-at 12) a.y.now
     (counted s) a.row.now x u)
-    q.tables.ensures.0
+    c.tables.ensures.0
 
-slice-aggregate-tables : tie.Need-slice-aggregate-tables
+slice-aggregate-tables : tie.Need-slice_bounds-tables-end-2
 slice-aggregate-tables c = search rules
 
 tables-requires-2 : tie.Need-tables-requires-2
@@ -159,34 +156,33 @@ tables-requires-2 c κs =
     let h = at-heavy c.before.before.before.before in
     let s = start h in
     let a = s.args in
-    let f = h.heavy-of in
+    let f = h.heavy_of-hs in
     let sound =
     starts-sound a.l a.pattern.counts f.result.heavy _ f.ensures refl (zeros-at 12) (length a.y.now)
-    s.pre.1.1.0.0 in (
-      (s.pre.0, s.pre.1.0),
+    s.requires.1.1.0.0 in (
+      (s.requires.0, s.requires.1.0),
       (
         (sound, refl),
-        (s.pre.1.1.1.0, ((s.pre.1.1.0.1, omega (arith, chunks s)), λ x sent near. absurd (omega (arith, near)))),
+        (s.requires.1.1.1.0, ((s.requires.1.1.0.1, omega (arith, chunks s)), λ x sent near. absurd (omega (arith, near)))),
       ),
     )
 
-same-length-5 : tie.Need-same-length-5
-same-length-5 c = c.before.before.before.before.tables2.auto.1.1.1.1.1.1.1.0
+same-length-5 : tie.Need-shape_of-row
+same-length-5 c = c.tables-2.auto.row
 
-same-length-6 : tie.Need-same-length-6
-same-length-6 c = c.before.before.before.before.tables2.auto.1.1.1.1.1.1.1.1.1.1.1.0
+same-length-6 : tie.Need-shape_of-list
+same-length-6 c = c.tables-2.auto.list
 
-returns-3 : tie.Need-returns-3
+returns-3 : tie.Need-returns
 returns-3 c =
-    let q = c.before.before.before.before in
-    let h = at-heavy q.before.before.before.before.before in
+    let h = at-heavy c.before.before.before.before.before.before.before.before.before in
     let s = start h in
     let a = s.args in
-    let f = h.heavy-of in
+    let f = h.heavy_of-hs in
     grown_weaken
     (λ x k u. starts-under a.l a.pattern.counts f.result.heavy _ f.ensures refl (zeros-at 12) a.y.now
     (counted s) a.row.now x u)
-    q.tables2.ensures.0
+    c.tables-2.ensures.0
 
 pub finish_spec : {M : Type 1} → statement M
 finish_spec =
