@@ -12,7 +12,7 @@ use lib.Seq.{length-take-le}
 use Rattle.bits.specs.Bits.{longest_line, most_chunks}
 use Rattle.vt.specs.Sum.{sum}
 use Rattle.message.proofs.Fields.{field_room}
-use Rattle.message.proofs.Legal.{legal_bounds, sizes}
+use Rattle.message.proofs.Legal.{Sizes, legal_bounds, sizes}
 use Rattle.lines.proofs.Turns.{sum_low}
 use Rattle.lines.specs.Lines.{line}
 use Rattle.lines.proofs.Lines.{block_inside}
@@ -46,9 +46,13 @@ is_cut : (c : tie.Else-not-cut) → let a = (begin (read c)).args in
     × ((cut c).cut_out-cut.new.row ≡ bare a.l a.cells a.i 12 (read c).read_on.new.row)
 is_cut c = (cut c).cut_out-cut.ensures (not-false (cut c).cut_out-cut.result.ok c.if-not-cut.false)
 
+-- the row's parts are no longer than they may be
+sized : (s : tie.Start) → Sizes s.args.l
+sized s = sizes s.args.l (legal_bounds s.args.l s.requires.0.0)
+
 -- the block is no longer than a line
 block-high : (s : tie.Start) → s.args.l.l2 * s.args.l.nc ≤ longest_line
-block-high s = (sizes s.args.l (legal_bounds s.args.l s.requires.0.0)).block
+block-high s = (sized s).block
 
 -- the block stands in the row in hand and among as many chunks as a row has
 block_room : (s : tie.Start) → let a = s.args in
@@ -109,10 +113,10 @@ returns-2 : tie.Need-returns-then-not-cut
 returns-2 c = λ vs e. refl
 
 mul-modulus : tie.Need-overflow_mul-modulus
-mul-modulus c = record { fits = omega (arith, block-high (begin (read c.before))) }
+mul-modulus c = record { fits = omega (arith, sized (begin (read c.before))) }
 
 add-modulus : tie.Need-overflow_add-modulus
-add-modulus c = record { fits = omega (arith, block-high (begin (read c.before))) }
+add-modulus c = record { fits = omega (arith, sized (begin (read c.before))) }
 
 slice-aggregate-line-sum : tie.Need-slice_bounds-line_sum-end
 slice-aggregate-line-sum c = search rules
