@@ -1,5 +1,7 @@
 // Listing: from a message and the received row, all rows that are consistent with both. The checks of document 01's table run
 // in rising number; the search finds the rows. Contracts cite specs/ and consistent's specs/List.antt.
+#![tactic(auto)]
+
 ghost use Rattle.std.specs.Prelude.{◌≡◌, ◌*◌, ◌≤◌, length, take};
 ghost use Rattle.bits.specs.Bits.{longest, unpack as unpacked};
 ghost use Rattle.message.specs.Layout.{row_bits};

@@ -15,23 +15,22 @@ use Rattle.lister.proofs.Lent.{row_low, row-high, few_bits, bits_lent, room_fits
 use Rattle.lister.proofs.list_rows.Statement.{statement}
 use Rattle.lister.proofs.list_rows.Tie as tie
 
-slice-aggregate-unpack : tie.Need-slice-aggregate-unpack
+slice-aggregate-unpack : tie.Need-slice_bounds-unpack-end
 slice-aggregate-unpack c = search rules
 
 unpack-requires : tie.Need-unpack-requires
 unpack-requires c κs =
-    let start = c.before.before.before.before in
-    let a = start.args in
-    (start.requires.1, omega (arith, few_bits a.l a.numbers.now a.row.now a.m start.requires.0 start.requires.1))
+    let a = c.args in
+    (c.requires.1, omega (arith, few_bits a.l a.numbers.now a.row.now a.m c.requires.0 c.requires.1))
 
 -- the function's entry, seen from where the bits are unpacked
 abbrev start : tie.After-unpack → tie.Start
 start c = c.before.before.before.before.before
 
-mul-n : tie.Need-overflow-mul-n
+mul-n : tie.Need-overflow_mul-n
 mul-n c =
     let k = start c.before.before in
-    record { fits = omega (arith, (sizes k.args.l (legal_bounds k.args.l k.pre.0.is_legal)).chunks) }
+    record { fits = omega (arith, (sizes k.args.l (legal_bounds k.args.l k.requires.0.is_legal)).chunks) }
 
 -- a row has from 1 to 2,040 bits
 row-size : (c : tie.After-unpack) → let l = (start c).args.l in (1 ≤ row_bits l) × (row_bits l ≤ longest)
@@ -42,82 +41,77 @@ row-size c =
       row-high a.l a.numbers.now a.row.now a.m p.0 p.1,
     )
 
-mul-n-2 : tie.Need-overflow-mul-n-2
+mul-n-2 : tie.Need-overflow_mul-n-2
 mul-n-2 c = record { fits = omega (arith, (row-size c.before.before.before).1) }
 
-room-requires : tie.Need-room-requires
+room-requires : tie.Need-room-cap-requires
 room-requires c κs = row-size c.before.before.before
 
-sub-search : tie.Need-overflow-sub-search
+sub-search : tie.Need-slice_bounds-search-count
 sub-search c = search rules
 
-part-search-start : tie.Need-slice-bounds-search-start
+part-search-start : tie.Need-slice_bounds-search-start
 part-search-start c = search rules
 
-part-search-end : tie.Need-slice-bounds-search-end
+part-search-end : tie.Need-slice_bounds-search-end
 part-search-end c =
-    let k = start c.before.before.before.before.before in
+    let k = start c.before.before.before.before in
     let a = k.args in
-    let h : a.m ≤ longest = few_bits a.l a.numbers.now a.row.now a.m k.pre.0 k.pre.1 in
+    let h : a.m ≤ longest = few_bits a.l a.numbers.now a.row.now a.m k.requires.0 k.requires.1 in
     search rules
 
 -- what is lent: the bits of the row
 lent : (c : tie.After-unpack) → let a = (start c).args in
-    take (a.m - 0) c.unpack.new.1.1.0 ≡ take a.m (unpack a.row.now)
+    take (a.m - 0) c.unpack.new.out ≡ take a.m (unpack a.row.now)
 lent c =
     let a = (start c).args in
     let p = (start c).requires in
-    bits_lent a.l a.numbers.now a.row.now a.m p.0 p.1 c.unpack.new.1.1.0 _
+    bits_lent a.l a.numbers.now a.row.now a.m p.0 p.1 c.unpack.new.out _
     c.unpack.ensures
 
 -- there is room for the rows that are asked for
-fits : (c : tie.After-room) → let a = (start c.before.before.before.before).args in
-    c.room.result * bytes_for (row_bits a.l) ≤ length a.out.now
+fits : (c : tie.After-room-cap) → let a = (start c.before.before.before.before).args in
+    c.room-cap.result * bytes_for (row_bits a.l) ≤ length a.out.now
 fits c =
     let a = (start c.before.before.before.before).args in
-    rw c.room.ensures (room_fits (row_bits a.l) (length a.out.now))
+    rw c.room-cap.ensures (room_fits (row_bits a.l) (length a.out.now))
 
-search-requires : tie.Need-search-requires
+search-requires : tie.Need-search-kept-requires
 search-requires c κs =
-    let r = c.before.before.before in
-    let u = r.before.before.before.before in
-    (rw (lent u) (start u).requires.0, omega (arith, fits r))
+    (rw (lent c.before.before.before.before.before.before) (start c.before.before.before.before.before.before).requires.0, omega (arith, fits c.before.before))
 
 -- where the function starts, seen from where the search has answered; and what it leaves, by the room and the bits of the
 -- row
-abbrev entry : tie.After-search → tie.Start
-entry c = start c.before.before.before.before.before.before.before.before
+abbrev entry : tie.After-search-kept → tie.Start
+entry c = start c.before.before.before.before.before.before.before
 
-found : (c : tie.After-search) → let a = (entry c).args in
+found : (c : tie.After-search-kept) → let a = (entry c).args in
     Listed a.l a.numbers.now (take a.m (unpack a.row.now)) (room_for (row_bits a.l) (length a.out.now))
-    a.out.now c.search.new.1.1.1.1.0 c.search.result.count c.search.result.more
+    a.out.now c.search-kept.new.list c.search-kept.result.count c.search-kept.result.more
 found c =
-    let r = c.before.before.before.before in
     let a = (entry c).args in
-    searched a.l a.numbers.now _ c.search.ensures (lent r.before.before.before.before) r.room.ensures
+    searched a.l a.numbers.now _ c.search-kept.ensures (lent c.before.before.before.before.before.before.before) c.room-cap.ensures
 
-same_length : tie.Need-same-length
+same_length : tie.Need-shape_of-out-then-kept
 same_length c = search rules
 
-returns : tie.Need-returns
+returns : tie.Need-returns-then-kept
 returns c =
-    let q = c.before.before.before in
-    let a = (entry q).args in
+    let a = (entry c.before.before.before).args in
     let y = take a.m (unpack a.row.now) in
-    (more-found a.l a.numbers.now y (found q) c.if1.true, slice-found a.l a.numbers.now y (found q))
+    (more-found a.l a.numbers.now y (found c.before.before.before) c.if-kept.true, slice-found a.l a.numbers.now y (found c.before.before.before))
 
-same-length-2 : tie.Need-same-length-2
+same-length-2 : tie.Need-shape_of-out
 same-length-2 c = search rules
 
-returns-2 : tie.Need-returns-2
+returns-2 : tie.Need-returns
 returns-2 c =
-    let q = c.before.before.before in
-    let a = (entry q).args in
+    let a = (entry c.before.before.before).args in
     let y = take a.m (unpack a.row.now) in
-    (all_found a.l a.numbers.now y (found q) c.if1.false, slice-found a.l a.numbers.now y (found q))
+    (all_found a.l a.numbers.now y (found c.before.before.before) c.if-kept.false, slice-found a.l a.numbers.now y (found c.before.before.before))
 
-pub list-rows-spec : {M : Type 1} → statement M
-list-rows-spec =
+pub list_rows_spec : {M : Type 1} → statement M
+list_rows_spec =
     tie.close
     (tie.spec
     slice-aggregate-unpack

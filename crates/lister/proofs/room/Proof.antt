@@ -8,26 +8,31 @@ use Rattle.consistent.specs.List.{used_bytes}
 use Rattle.lister.proofs.room.Statement.{statement}
 use Rattle.lister.proofs.room.Tie as tie
 
-add-w : tie.Need-overflow-add-w
+add-w : tie.Need-overflow_add-w
 add-w c = search rules
 
-div-result : tie.Need-nonzero-div-result
+div-result : tie.Need-nonzero_div-result
 div-result c = search rules
 
-returns : tie.Need-returns
+returns : tie.Need-returns-then-slice-gt-USED_BYTES
 returns c =
-    let a = c.before.args in
+    let a = c.args in
     let u : min a.slice used_bytes ≡ used_bytes = omega arith in
     ap (λ (k : ℕ). k / bytes_for a.n) (sym u)
 
-div-result-2 : tie.Need-nonzero-div-result-2
+div-result-2 : tie.Need-nonzero_div-result-2
 div-result-2 c = search rules
 
-returns-2 : tie.Need-returns-2
+returns-2 : tie.Need-returns
 returns-2 c =
-    let a = c.before.args in
+    let a = c.args in
     let u : min a.slice used_bytes ≡ a.slice = omega arith in
     ap (λ (k : ℕ). k / bytes_for a.n) (sym u)
 
-pub room-spec : {M : Type 1} → statement M
-room-spec = tie.close (tie.spec add-w div-result returns div-result-2 returns-2)
+pub room_spec : {M : Type 1} → statement M
+room_spec = tie.close (tie.spec
+    add-w
+    div-result
+    returns
+    div-result-2
+    returns-2)
