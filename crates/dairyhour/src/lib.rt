@@ -1,6 +1,7 @@
 // The C boundary: each operation under its C name, with its answer as a plain struct. There is no logic here; each contract is
 // that of the operation which it wraps. include/dairyhour.h is this boundary in C, and the crate is built as the static library.
 #![tactic(auto)]
+
 ghost use Rattle.std.specs.Prelude.{◌≡◌, length};
 ghost use Rattle.vt.specs.Mend.{mend_refusal, mend_target};
 ghost use Rattle.message.specs.Layout.{layout};
