@@ -1,6 +1,7 @@
 // The program rowlist: reads a message, a bit count and a row from standard input, lists the rows that are consistent with them, and
 // prints their number and each row in hexadecimal, or the number of a refusal. Contracts cite specs/Output.antt.
 #![tactic(auto)]
+
 ghost use Rattle.std.specs.Prelude.{◌≡◌, ◌≤◌, length, IfOk};
 ghost use Rattle.bits.specs.Bits.{bytes_for};
 ghost use Rattle.io.specs.Counts.{IsPrefixLen};
