@@ -133,7 +133,7 @@ returns-2 c =
     let t = (told c.before.before.before.before.before.before.before).refused c.in-Refused.q c.in-Refused.is in
     let put = rw (c.number-number.ensures, t) at c.put_refused.ensures in
     let within = put-within put (omega arith) in
-    (put, (within, sym (length-take-le c.put_refused.result c.put_refused.new.1.0 within)))
+    (put, (within, sym (length-take-le c.put_refused.result c.put_refused.new.out within)))
 
 pub respond_spec : {M : Type 1} → statement M
 respond_spec =
