@@ -1,5 +1,7 @@
 // The refusals of document 01's table. Which inputs get which one is said by each operation's own definition; here stand
 // only their names, and in specs/ their numbers. Contracts cite specs/Refusal.antt.
+#![tactic(auto)]
+
 ghost use Rattle.std.specs.Prelude.{◌≡◌};
 ghost use Rattle.refusal.specs.Refusal.{number_of};
 
