@@ -13,31 +13,31 @@ use Rattle.refusal.proofs.Laws.{Numbered, numbered, refused_before, passed_befor
 use Rattle.message.specs.Layout.{legal}
 use Rattle.message.specs.Message.{message_bytes}
 use Rattle.message.specs.Read.{LayoutAnswer, no_layout, read_of, layout_of, message_checks, message_refusal, numbers_read, read_block_sums, read_string_sums, read_checks, read_refusal, layout_answer, read_target}
+use Rattle.std.specs.Prelude.{Result, Ok, Err}
 use Rattle.message.specs.declared.Layout.{Layout}
-use Rattle.message.specs.declared.Read.TheVariants.{Layout as Found, Refused}
-use Rattle.message.specs.declared.Read.{Read}
+use Rattle.message.specs.declared.layouts.Legal.{Legal}
 use Rattle.message.proofs.Messages.{Fit, fit}
 use Rattle.message.proofs.Numbers.{block_count, string_count, check-count}
 
 -- ---- what an answer says
 -- an answer with a layout: no refusal, and the layout is the one that the head names
-pub found : (s : List ℕ) (a : Read) (l : Layout) → a ≡ Found l → read_of a ≡ layout_answer (message_refusal s) s
-    → (message_refusal s ≡ 0) × (layout_of s ≡ l)
+pub found : (s : List ℕ) (a : Result Legal Refusal) (l : Legal) → a ≡ Ok l → read_of a ≡ layout_answer (message_refusal s) s
+    → (message_refusal s ≡ 0) × (layout_of s ≡ l.layout)
 unfolding layout_answer
 found s a l e h =
     let q : message_refusal s ≡ 0 =
-    sym (ap (λ (p : LayoutAnswer). p.refusal) h) ∙ ap (λ (v : Read). (read_of v).refusal) e in
+    sym (ap (λ (p : LayoutAnswer). p.refusal) h) ∙ ap (λ (v : Result Legal Refusal). (read_of v).refusal) e in
     let k : (read_of a).layout ≡ cond (eqb (message_refusal s) 0) (layout_of s) no_layout =
     ap (λ (p : LayoutAnswer). p.layout) h in
-    (q, sym (ap (λ (v : Read). (read_of v).layout) (sym e) ∙ k ∙ rw (eq-eqb (message_refusal s) 0 q) refl))
+    (q, sym (ap (λ (v : Result Legal Refusal). (read_of v).layout) (sym e) ∙ k ∙ rw (eq-eqb (message_refusal s) 0 q) refl))
 
 -- an answer without: the message is refused
-pub not_found : (s : List ℕ) (a : Read) (q : Refusal) → a ≡ Refused q → read_of a ≡ layout_answer (message_refusal s) s
+pub not_found : (s : List ℕ) (a : Result Legal Refusal) (q : Refusal) → a ≡ Err q → read_of a ≡ layout_answer (message_refusal s) s
     → message_refusal s ≡ 0 → ⊥
 unfolding layout_answer
 not_found s a q e h z =
     let n : message_refusal s ≡ number_of q =
-    sym (ap (λ (p : LayoutAnswer). p.refusal) h) ∙ ap (λ (v : Read). (read_of v).refusal) e in
+    sym (ap (λ (p : LayoutAnswer). p.refusal) h) ∙ ap (λ (v : Result Legal Refusal). (read_of v).refusal) e in
     omega (arith, numbered q)
 
 -- a fit message has a legal layout and the length that it gives

@@ -1,4 +1,5 @@
 pub mod Layout
+pub mod Legal
 pub mod Message
 pub mod Chunks
 pub mod Encoding

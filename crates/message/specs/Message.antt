@@ -42,6 +42,10 @@ unfoldable pub string_sums : Layout → List ℕ → List ℕ
 unfolding chunk_strings sum
 string_sums l x = map sum (chunk_strings l x)
 
+-- the sums of a row: those of its blocks, then those of its chunk-strings
+abbrev pub sums : Layout → List ℕ → List ℕ
+sums l x = block_sums l x ++ string_sums l x
+
 -- "a chunk is also a number, first bit highest": the r checks of a row
 unfoldable pub checks : Layout → List ℕ → List ℕ
 unfolding chunks number check numbers

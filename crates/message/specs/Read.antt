@@ -1,12 +1,12 @@
 -- Reading a message (document 01, "The side message" and "Operations and their refusal table").
-use Rattle.std.specs.Prelude.{ℕ, zero, suc, ◌+◌, ◌*◌, Bool, false, not, cond, ◌&&◌, ◌||◌, List, [], ◌∷◌, ◌++◌, eqb, ltb, leb, length, get_or, drop}
+use Rattle.std.specs.Prelude.{ℕ, Result, Ok, Err, zero, suc, ◌+◌, ◌*◌, Bool, false, not, cond, ◌&&◌, ◌||◌, List, [], ◌∷◌, ◌++◌, eqb, ltb, leb, length, get_or, drop}
 use Rattle.refusal.specs.Refusal.{Check, number_of, first_refusal}
+use Rattle.refusal.specs.declared.Refusal.{Refusal}
 use Rattle.bits.specs.Bits.{number, unpack, blank}
 use Rattle.message.specs.Layout.{legal, block_bits, string_bits}
 use Rattle.message.specs.Message.{width, fields_length, message_bytes}
 use Rattle.message.specs.declared.Layout.{Layout}
-use Rattle.message.specs.declared.Read.TheVariants.{Layout as Found, Refused}
-use Rattle.message.specs.declared.Read.{Read}
+use Rattle.message.specs.declared.layouts.Legal.{Legal}
 
 -- reading's answer as the papers number it: the refusal, 0 where there is none, and the layout, all 0 where there is none
 pub record LayoutAnswer : Type 0 where
@@ -18,9 +18,9 @@ abbrev pub no_layout : Layout
 no_layout = record { l1 = 0; l2 = 0; nc = 0; r = 0 }
 
 -- the number and the values of each answer: "the layout is answered"
-abbrev pub read_of : Read → LayoutAnswer
-read_of (Found l) = record { refusal = 0; layout = l }
-read_of (Refused q) = record { refusal = number_of q; layout = no_layout }
+abbrev pub read_of : Result Legal Refusal → LayoutAnswer
+read_of (Ok l) = record { refusal = 0; layout = l.layout }
+read_of (Err q) = record { refusal = number_of q; layout = no_layout }
 
 -- at least nine bytes, of which the first three are the mark
 unfoldable pub marked : List ℕ → Bool

@@ -1,17 +1,16 @@
 -- Writing a message (document 01, "Operations and their refusal table").
-use Rattle.std.specs.Prelude.{ℕ, not, cond, List, [], ◌∷◌, ◌++◌, eqb, ltb, length, take, drop}
+use Rattle.std.specs.Prelude.{ℕ, Result, Ok, Err, not, cond, List, [], ◌∷◌, ◌++◌, eqb, ltb, length, take, drop}
 use Rattle.refusal.specs.Refusal.{Answer, number_of, first_refusal}
+use Rattle.refusal.specs.declared.Refusal.{Refusal}
 use Rattle.bits.specs.Bits.{unpack, fits}
 use Rattle.message.specs.Layout.{legal, row_bits}
 use Rattle.message.specs.Message.{message_bytes, message}
 use Rattle.message.specs.declared.Layout.{Layout}
-use Rattle.message.specs.declared.Written.TheVariants.{Length, Refused}
-use Rattle.message.specs.declared.Written.{Written}
 
 -- the number and the value of each answer: "writing answers the message's length in bytes"
-abbrev pub written_of : Written → Answer
-written_of (Length n) = record { refusal = 0; value = n }
-written_of (Refused q) = record { refusal = number_of q; value = 0 }
+abbrev pub written_of : Result ℕ Refusal → Answer
+written_of (Ok n) = record { refusal = 0; value = n }
+written_of (Err q) = record { refusal = number_of q; value = 0 }
 
 -- what writing refuses, for a layout, a packed row and a target of so many bytes
 unfoldable pub write_refusal : Layout → (packed : List ℕ) (target : ℕ) → ℕ

@@ -7,8 +7,6 @@ pub mod layouts;
 pub mod reading;
 pub mod writing;
 
-use refusal::Refusal;
-
 #[derive(Clone, Copy)]
 pub struct Layout {
     pub l1: usize,
@@ -19,17 +17,3 @@ pub struct Layout {
 
 // The most numbers of a message: l1 + l2 is at most 256 in a legal layout, and r at most 16.
 pub const MOST_NUMBERS: usize = 272;
-
-// What writing answers: the message's length in bytes, or a refusal.
-#[derive(Clone, Copy)]
-pub enum Written {
-    Length(usize),
-    Refused(Refusal),
-}
-
-// What reading answers: the message's layout, or a refusal.
-#[derive(Clone, Copy)]
-pub enum Read {
-    Layout(Layout),
-    Refused(Refusal),
-}

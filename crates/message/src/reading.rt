@@ -1,45 +1,30 @@
 // Reading a message: its checks, and the numbers that stand in it.
 ghost use Rattle.std.specs.Prelude.{◌≡◌, true, ◌||◌, ◌++◌, ◌+◌, ◌*◌, ◌≤◌, length, take, drop};
 ghost use Rattle.bits.specs.Bits.{unpack as unpacked, blank};
-ghost use Rattle.message.specs.Layout.{layout, legal as isLegal, block_bits, string_bits};
+ghost use Rattle.message.specs.Layout.{block_bits, string_bits};
 ghost use Rattle.message.specs.Message.{fields_length, message_bytes};
 ghost use Rattle.message.specs.Read.{marked as isMarked, version_one, layout_of, fields, body, read_block_sums, read_string_sums, read_checks, some_above, message_refusal, read_refusal, read_of, layout_answer, read_target};
 
-use crate::{Layout, Read, layouts};
+use crate::layouts::{self, Legal};
+use crate::Layout;
 use bits::BitCursor;
 use refusal::Refusal;
 
 // Whether there are nine bytes, of which the first three are the mark.
+#[tactic(auto, unfolding(crate::specs::Read::marked))]
 fn marked(s: &[u8]) -> bool
     ensures { result ≡ isMarked s.now }
 {
-    if s.len() < 9 {
-        return false;
-    }
-    if s[0] != 0x52 {
-        return false;
-    }
-    if s[1] != 0x53 {
-        return false;
-    }
-    if s[2] != 0x4D {
-        return false;
-    }
-    true
+    9 <= s.len() && s[0] == 0x52 && s[1] == 0x53 && s[2] == 0x4D
 }
 
 // Whether the version is 1.
+#[tactic(auto, unfolding(crate::specs::Read::version_one))]
 fn version_one(s: &[u8]) -> bool
     requires { 9 ≤ length s.now }
     ensures { result ≡ version_one s.now }
 {
-    if s[3] != 0x00 {
-        return false;
-    }
-    if s[4] != 0x01 {
-        return false;
-    }
-    true
+    s[3] == 0x00 && s[4] == 0x01
 }
 
 // The bits of the head of a message.
@@ -51,26 +36,23 @@ fn some_above(s: &[u8], at: usize, n: usize, k: usize, limit: usize) -> bool
     ensures { result ≡ some_above limit (fields n k (drop at (unpacked s.now))) }
 {
     let mut c = BitCursor { at };
-    let mut i: usize = 0;
-    while i < n {
+    for _ in 0..n {
         let field = c.take_long(s, k);
-        let value = field.value as usize;
-        if limit < value {
+        if limit < usize::from(field.value) {
             return true;
         }
-        let next = field.next;
-        c = next;
-        i += 1;
+        c = field.next;
     }
     false
 }
 
 // Whether a sum of a message is above the length of its string.
-fn sum_high(l1: usize, l2: usize, nc: usize, r: usize, s: &[u8]) -> bool
-    requires { (isLegal (layout l1 l2 nc r) ≡ true) × (length s.now ≡ message_bytes (layout l1 l2 nc r)) }
-    ensures { result ≡ (some_above (block_bits (layout l1 l2 nc r)) (read_block_sums (layout l1 l2 nc r) s.now)
-        || some_above (string_bits (layout l1 l2 nc r)) (read_string_sums (layout l1 l2 nc r) s.now)) }
+fn sum_high(l: Legal, s: &[u8]) -> bool
+    requires { length s.now ≡ message_bytes l.layout }
+    ensures { result ≡ (some_above (block_bits l.layout) (read_block_sums l.layout s.now)
+        || some_above (string_bits l.layout) (read_string_sums l.layout s.now)) }
 {
+    let Layout { l1, l2, nc, .. } = l.layout;
     let block = layouts::width(l2 * nc);
     if some_above(s, HEAD_BITS, l1, block, l2 * nc) {
         return true;
@@ -80,107 +62,95 @@ fn sum_high(l1: usize, l2: usize, nc: usize, r: usize, s: &[u8]) -> bool
 }
 
 // Whether no spare bit of a message is 1.
-fn spare_blank(l1: usize, l2: usize, nc: usize, r: usize, s: &[u8]) -> bool
-    requires { (isLegal (layout l1 l2 nc r) ≡ true) × (length s.now ≡ message_bytes (layout l1 l2 nc r)) }
-    ensures { result ≡ blank (drop (fields_length (layout l1 l2 nc r)) (body s.now)) }
+fn spare_blank(l: Legal, s: &[u8]) -> bool
+    requires { length s.now ≡ message_bytes l.layout }
+    ensures { result ≡ blank (drop (fields_length l.layout) (body s.now)) }
 {
-    let used = layouts::fields_length(l1, l2, nc, r);
-    bits::fits(used, &s[9..])
+    bits::fits(l.fields_length(), &s[9..])
 }
 
 // What a message is refused for by rows 3 to 6 of the table, where its mark and version are right and its head names this layout; the
 // layout where it is fit.
-fn check_layout(l1: usize, l2: usize, nc: usize, r: usize, s: &[u8]) -> Read
-    requires { (isMarked s.now ≡ true) × ((version_one s.now ≡ true) × (layout_of s.now ≡ layout l1 l2 nc r)) }
+fn check_layout(layout: Layout, s: &[u8]) -> Result<Legal, Refusal>
+    requires { (isMarked s.now ≡ true) × ((version_one s.now ≡ true) × (layout_of s.now ≡ layout)) }
     ensures { read_of result ≡ layout_answer (message_refusal s.now) s.now }
 {
-    if !layouts::legal(l1, l2, nc, r) {
-        return Read::Refused(Refusal::Layout);
+    let l = Legal::try_from(layout)?;
+    if s.len() != l.message_bytes() {
+        return Err(Refusal::MessageLength);
     }
-    if s.len() != layouts::message_bytes(l1, l2, nc, r) {
-        return Read::Refused(Refusal::MessageLength);
+    if sum_high(l, s) {
+        return Err(Refusal::Sum);
     }
-    if sum_high(l1, l2, nc, r, s) {
-        return Read::Refused(Refusal::Sum);
+    if !spare_blank(l, s) {
+        return Err(Refusal::SpareBit);
     }
-    if !spare_blank(l1, l2, nc, r, s) {
-        return Read::Refused(Refusal::SpareBit);
-    }
-    Read::Layout(Layout { l1, l2, nc, r })
+    Ok(l)
 }
 
 // What a message is refused for by rows 1 to 6 of the table, whatever it is read for; its layout where it is fit.
-pub fn check(s: &[u8]) -> Read
+pub fn check(s: &[u8]) -> Result<Legal, Refusal>
     ensures { read_of result ≡ layout_answer (message_refusal s.now) s.now }
 {
     if !marked(s) {
-        return Read::Refused(Refusal::NoMessage);
+        return Err(Refusal::NoMessage);
     }
     if !version_one(s) {
-        return Read::Refused(Refusal::Version);
+        return Err(Refusal::Version);
     }
-    check_layout(
-        bits::wide(s[5]),
-        bits::wide(s[6]),
-        bits::wide(s[7]),
-        bits::wide(s[8]),
-        s,
-    )
+    let layout = Layout {
+        l1: usize::from(s[5]),
+        l2: usize::from(s[6]),
+        nc: usize::from(s[7]),
+        r: usize::from(s[8]),
+    };
+    check_layout(layout, s)
 }
 
-// n fields of k bits, the first at bit at of packed bytes, at least four, written to a slice from an entry on.
-fn read_fields(s: &[u8], at: usize, n: usize, k: usize, out: &mut [u16], from: usize)
+// Fields of k bits, the first at bit at of packed bytes, at least four: as many as the slice has entries.
+fn read_fields(s: &[u8], at: usize, k: usize, out: &mut [u16])
     requires { ((k ≤ 16) × (4 ≤ length s.now))
-        × ((length s.now ≤ 4096) × ((at + n * k ≤ length s.now * 8) × (from + n ≤ length out.old))) }
-    ensures { out.new
-        ≡ take from out.old ++ fields n k (drop at (unpacked s.now))
-        ++ drop (from + n) out.old }
+        × ((length s.now ≤ 4096) × (at + length out.old * k ≤ length s.now * 8)) }
+    ensures { out.new ≡ fields (length out.old) k (drop at (unpacked s.now)) }
 {
     let mut c = BitCursor { at };
-    let mut i: usize = 0;
-    while i < n {
+    for v in out.iter_mut() {
         let field = c.take_long(s, k);
-        out[from + i] = field.value;
-        let next = field.next;
-        c = next;
-        i += 1;
+        *v = field.value;
+        c = field.next;
     }
 }
 
 // The numbers of a fit message: block sums, chunk-string sums, checks, written to the start of a slice.
-fn read_numbers(l1: usize, l2: usize, nc: usize, r: usize, s: &[u8], out: &mut [u16])
-    requires { (isLegal (layout l1 l2 nc r) ≡ true)
-        × ((length s.now ≡ message_bytes (layout l1 l2 nc r)) × (l1 + l2 + r ≤ length out.old)) }
+fn read_numbers(l: Legal, s: &[u8], out: &mut [u16])
+    requires { (length s.now ≡ message_bytes l.layout)
+        × (l.layout.l1 + l.layout.l2 + l.layout.r ≤ length out.old) }
     ensures { out.new
-        ≡ read_block_sums (layout l1 l2 nc r) s.now ++ read_string_sums (layout l1 l2 nc r) s.now
-        ++ read_checks (layout l1 l2 nc r) s.now ++ drop (l1 + l2 + r) out.old }
+        ≡ read_block_sums l.layout s.now ++ read_string_sums l.layout s.now
+        ++ read_checks l.layout s.now ++ drop (l.layout.l1 + l.layout.l2 + l.layout.r) out.old }
 {
+    let Layout { l1, l2, nc, r } = l.layout;
     let block = layouts::width(l2 * nc);
     let string = layouts::width(nc * l1);
     let strings = HEAD_BITS + l1 * block;
     let checks = strings + l2 * string;
-    read_fields(s, HEAD_BITS, l1, block, out, 0);
-    read_fields(s, strings, l2, string, out, l1);
-    read_fields(s, checks, r, nc, out, l1 + l2);
+    let sums = l1 + l2;
+    read_fields(s, HEAD_BITS, block, &mut out[..l1]);
+    read_fields(s, strings, string, &mut out[l1..sums]);
+    read_fields(s, checks, nc, &mut out[sums..sums + r]);
 }
 
 // Reads a message: answers its layout, and writes its numbers to the start of a slice.
-pub fn read(s: &[u8], out: &mut [u16]) -> Read
+pub fn read(s: &[u8], out: &mut [u16]) -> Result<Legal, Refusal>
     ensures { (read_of result
         ≡ layout_answer (read_refusal s.now (length out.old)) s.now)
         × (out.new ≡ read_target s.now out.old) }
 {
-    let checked = check(s);
-    let Read::Layout(l) = checked else {
-        return checked;
-    };
-    let l1 = l.l1;
-    let l2 = l.l2;
-    let nc = l.nc;
-    let r = l.r;
+    let l = check(s)?;
+    let Layout { l1, l2, r, .. } = l.layout;
     if out.len() < l1 + l2 + r {
-        return Read::Refused(Refusal::ShortTarget);
+        return Err(Refusal::ShortTarget);
     }
-    read_numbers(l1, l2, nc, r, s, out);
-    Read::Layout(l)
+    read_numbers(l, s, out);
+    Ok(l)
 }

@@ -5,12 +5,14 @@ ghost use mathlib.Core.List.{◌++◌, flat_map};
 ghost use Rattle.bits.specs.Bits.{digits, bytes_for, pack, unpack as unpacked, fits};
 ghost use Rattle.bits.specs.Filling.{Ready, Goes};
 ghost use Rattle.vt.specs.Weights.{weights};
-ghost use Rattle.message.specs.Layout.{layout, legal as isLegal, row_bits};
-ghost use Rattle.message.specs.Chunks.{row_of, Chunked};
-ghost use Rattle.message.specs.Message.{width, fields_length, message_bytes, block_sums, string_sums, checks, head, field_bits, message};
+ghost use Rattle.message.specs.Layout.{layout, row_bits};
+ghost use Rattle.message.specs.Chunks.{row_of};
+ghost use Rattle.message.specs.Message.{fields_length, message_bytes, sums, block_sums, string_sums, checks, head, field_bits, message};
 ghost use Rattle.message.specs.Write.{written_of, write_answer, write_target};
 
-use crate::{Written, chunks, layouts};
+use crate::chunks::{self, Row};
+use crate::layouts::{self, Legal};
+use crate::Layout;
 use bits::Filler;
 use refusal::Refusal;
 
@@ -18,33 +20,23 @@ use refusal::Refusal;
 // then the chunk-string sums.
 fn put_sums(
     table: &[u16; 256],
-    l1: usize,
-    l2: usize,
-    nc: usize,
-    r: usize,
-    chunks: &[u8],
+    row: &Row<'_>,
     first: usize,
     count: usize,
     k: usize,
     start: Filler,
     out: &mut [u8],
 ) -> Filler
-    requires { ((table.now ≡ weights)
-        × ((isLegal (layout l1 l2 nc r) ≡ true) × Chunked (layout l1 l2 nc r) chunks.now))
-        × (((first + count ≤ l1 + l2) × (k ≤ 16))
+    requires { (table.now ≡ weights)
+        × (((first + count ≤ row.now.layout.l1 + row.now.layout.l2) × (k ≤ 16))
         × (Ready start × (start.at * 8 + start.count + count * k ≤ length out.old * 8))) }
     ensures { Goes start out.old (flat_map (digits k) (take count (drop first
-        (block_sums (layout l1 l2 nc r) (row_of nc chunks.now)
-        ++ string_sums (layout l1 l2 nc r) (row_of nc chunks.now)))))
+        (sums row.now.layout (row_of row.now.layout.nc row.now.chunks.now)))))
         result out.new }
 {
     let mut f = start;
-    let mut i: usize = 0;
-    while i < count {
-        let sum = chunks::sum_of(table, l1, l2, nc, r, chunks, first + i);
-        let next = f.put(out, k, sum);
-        f = next;
-        i += 1;
+    for i in first..first + count {
+        f = f.put(out, k, row.sum(table, i));
     }
     f
 }
@@ -56,45 +48,35 @@ fn put_checks(nc: usize, values: &[u8], start: Filler, out: &mut [u8]) -> Filler
     ensures { Goes start out.old (flat_map (digits nc) values.now) result out.new }
 {
     let mut f = start;
-    let mut i: usize = 0;
-    while i < values.len() {
-        let next = f.put(out, nc, bits::wide(values[i]));
-        f = next;
-        i += 1;
+    for v in values {
+        f = f.put(out, nc, usize::from(*v));
     }
     f
 }
 
 // The checks of a row behind the bits that a filler has taken.
-fn put_row_checks(
-    l1: usize,
-    l2: usize,
-    nc: usize,
-    r: usize,
-    chunks: &[u8],
-    start: Filler,
-    out: &mut [u8],
-) -> Filler
-    requires { ((isLegal (layout l1 l2 nc r) ≡ true) × Chunked (layout l1 l2 nc r) chunks.now)
-        × (Ready start × (start.at * 8 + start.count + r * nc ≤ length out.old * 8)) }
+fn put_row_checks(row: &Row<'_>, start: Filler, out: &mut [u8]) -> Filler
+    requires { Ready start
+        × (start.at * 8 + start.count + row.now.layout.r * row.now.layout.nc ≤ length out.old * 8) }
     ensures { Goes start out.old
-        (flat_map (digits nc) (checks (layout l1 l2 nc r) (row_of nc chunks.now))) result out.new }
+        (flat_map (digits row.now.layout.nc) (checks row.now.layout (row_of row.now.layout.nc row.now.chunks.now)))
+        result out.new }
 {
     let mut values: [u8; 16] = [0; 16];
-    chunks::fill_checks(l1, l2, nc, r, chunks, &mut values);
-    put_checks(nc, &values[0..r], start, out)
+    row.fill_checks(&mut values);
+    put_checks(row.layout.nc, &values[..row.layout.r], start, out)
 }
 
 // The fields of a row's message, packed, at the start of a slice.
-fn put_fields(l1: usize, l2: usize, nc: usize, r: usize, chunks: &[u8], out: &mut [u8])
-    requires { ((isLegal (layout l1 l2 nc r) ≡ true) × Chunked (layout l1 l2 nc r) chunks.now)
-        × (bytes_for (fields_length (layout l1 l2 nc r)) ≤ length out.old) }
+fn put_fields(row: &Row<'_>, out: &mut [u8])
+    requires { bytes_for (fields_length row.now.layout) ≤ length out.old }
     ensures { out.new
-        ≡ pack (field_bits (layout l1 l2 nc r) (block_sums (layout l1 l2 nc r) (row_of nc chunks.now))
-        (string_sums (layout l1 l2 nc r) (row_of nc chunks.now))
-        (checks (layout l1 l2 nc r) (row_of nc chunks.now)))
-        ++ drop (bytes_for (fields_length (layout l1 l2 nc r))) out.old }
+        ≡ pack (field_bits row.now.layout (block_sums row.now.layout (row_of row.now.layout.nc row.now.chunks.now))
+        (string_sums row.now.layout (row_of row.now.layout.nc row.now.chunks.now))
+        (checks row.now.layout (row_of row.now.layout.nc row.now.chunks.now)))
+        ++ drop (bytes_for (fields_length row.now.layout)) out.old }
 {
+    let Layout { l1, l2, nc, .. } = row.layout;
     let block = layouts::width(l2 * nc);
     let string = layouts::width(nc * l1);
     let t = vt::weights();
@@ -103,53 +85,56 @@ fn put_fields(l1: usize, l2: usize, nc: usize, r: usize, chunks: &[u8], out: &mu
         held: 0,
         count: 0,
     };
-    let blocks = put_sums(&t, l1, l2, nc, r, chunks, 0, l1, block, start, out);
-    let strings = put_sums(&t, l1, l2, nc, r, chunks, l1, l2, string, blocks, out);
-    let all = put_row_checks(l1, l2, nc, r, chunks, strings, out);
-    all.end(out);
+    let blocks = put_sums(&t, row, 0, l1, block, start, out);
+    let strings = put_sums(&t, row, l1, l2, string, blocks, out);
+    put_row_checks(row, strings, out).end(out);
 }
 
 // The head of a message at the start of a slice.
-fn put_head(l1: usize, l2: usize, nc: usize, r: usize, out: &mut [u8])
-    requires { (isLegal (layout l1 l2 nc r) ≡ true) × (9 ≤ length out.old) }
-    ensures { out.new ≡ head (layout l1 l2 nc r) ++ drop 9 out.old }
+fn put_head(l: Legal, out: &mut [u8])
+    requires { 9 ≤ length out.old }
+    ensures { out.new ≡ head l.layout ++ drop 9 out.old }
 {
+    let Layout { l1, l2, nc, r } = l.layout;
     let bytes: [u8; 9] = [
         0x52, 0x53, 0x4D, 0x00, 0x01, l1 as u8, l2 as u8, nc as u8, r as u8,
     ];
-    bits::copy_to(&bytes[0..9], out, 0);
+    out[..9].copy_from_slice(&bytes);
 }
 
 // The message of a packed row at the start of a slice.
-fn put_message(l1: usize, l2: usize, nc: usize, r: usize, row: &[u8], out: &mut [u8])
-    requires { (isLegal (layout l1 l2 nc r) ≡ true) × ((fits (row_bits (layout l1 l2 nc r)) row.now ≡ true)
-        × (message_bytes (layout l1 l2 nc r) ≤ length out.old)) }
+fn put_message(l: Legal, row: &[u8], out: &mut [u8])
+    requires { (fits (row_bits l.layout) row.now ≡ true)
+        × (message_bytes l.layout ≤ length out.old) }
     ensures { out.new
-        ≡ message (layout l1 l2 nc r) (take (row_bits (layout l1 l2 nc r)) (unpacked row.now))
-        ++ drop (message_bytes (layout l1 l2 nc r)) out.old }
+        ≡ message l.layout (take (row_bits l.layout) (unpacked row.now))
+        ++ drop (message_bytes l.layout) out.old }
 {
+    let Layout { l1, l2, nc, .. } = l.layout;
     let n = l1 * l2;
-    let mut values: [u8; bits::MOST_CHUNKS] = [0; bits::MOST_CHUNKS];
-    chunks::fill(row, n, nc, &mut values);
-    put_head(l1, l2, nc, r, out);
-    put_fields(l1, l2, nc, r, &values[0..n], &mut out[9..]);
+    let mut chunks: [u8; bits::MOST_CHUNKS] = [0; bits::MOST_CHUNKS];
+    chunks::fill(row, nc, &mut chunks[..n]);
+    put_head(l, out);
+    let row = Row {
+        layout: l.layout,
+        chunks: &chunks[..n],
+    };
+    put_fields(&row, &mut out[9..]);
 }
 
 // Writes the message of a packed row to the start of a slice. The layout's numbers may be any.
-pub fn write(l1: usize, l2: usize, nc: usize, r: usize, row: &[u8], out: &mut [u8]) -> Written
-    ensures { (written_of result ≡ write_answer (layout l1 l2 nc r) row.now (length out.old))
-        × (out.new ≡ write_target (layout l1 l2 nc r) row.now out.old) }
+pub fn write(layout: Layout, row: &[u8], out: &mut [u8]) -> Result<usize, Refusal>
+    ensures { (written_of result ≡ write_answer layout row.now (length out.old))
+        × (out.new ≡ write_target layout row.now out.old) }
 {
-    if !layouts::legal(l1, l2, nc, r) {
-        return Written::Refused(Refusal::Layout);
+    let l = Legal::try_from(layout)?;
+    if !bits::fits(layout.l1 * layout.l2 * layout.nc, row) {
+        return Err(Refusal::Packing);
     }
-    if !bits::fits(l1 * l2 * nc, row) {
-        return Written::Refused(Refusal::Packing);
-    }
-    let n = layouts::message_bytes(l1, l2, nc, r);
+    let n = l.message_bytes();
     if out.len() < n {
-        return Written::Refused(Refusal::ShortTarget);
+        return Err(Refusal::ShortTarget);
     }
-    put_message(l1, l2, nc, r, row, out);
-    Written::Length(n)
+    put_message(l, row, out);
+    Ok(n)
 }
