@@ -5,11 +5,14 @@
 ghost use Rattle.std.specs.Prelude.{◌≡◌, true, [], ◌∷◌, ◌++◌, ◌+◌, ◌-◌, ◌*◌, ◌<◌, ◌≤◌, length, get_or, take, drop};
 ghost use Rattle.bits.specs.Bits.{AllBits, same};
 ghost use Rattle.rows.specs.Deletion.{comes_from};
-ghost use Rattle.message.specs.Chunks.{row_of, Chunked};
-ghost use Rattle.message.specs.Layout.{layout, legal as isLegal, row_bits};
-ghost use Rattle.message.specs.Message.{block_sums, string_sums, checks};
+ghost use Rattle.message.specs.Chunks.{row_of};
+ghost use Rattle.message.specs.Layout.{row_bits};
+ghost use Rattle.message.specs.Message.{sums, checks};
 ghost use Rattle.consistent.specs.Consistent.{candidate};
 ghost use Rattle.consistent.specs.Greedy.{eat, losses};
+
+use message::chunks::Row;
+use message::layouts::Legal;
 
 // The most bits that are compared at a time.
 const PIECE: usize = 64;
@@ -34,11 +37,9 @@ pub fn taken(x: &[u8], y: &[u8]) -> usize
     ensures { (result ≤ length y.now) × ((eat x.now y.now ≡ drop result y.now)
         × (losses x.now y.now + result ≡ length x.now)) }
 {
-    let mut j: usize = 0;
-    let mut i: usize = 0;
-    while i < x.len() {
-        j = after_bit(x[i], y, j);
-        i += 1;
+    let mut j = 0;
+    for b in x {
+        j = after_bit(*b, y, j);
     }
     j
 }
@@ -50,12 +51,10 @@ fn starts(p: &[u8], y: &[u8]) -> bool
     ensures { result ≡ true → p.now ≡ take (length p.now) y.now }
 {
     let mut differ: u8 = 0;
-    let mut i: usize = 0;
-    while i < p.len() {
-        if p[i] != y[i] {
+    for (a, b) in p.iter().zip(y) {
+        if *a != *b {
             differ = 1;
         }
-        i += 1;
     }
     differ == 0
 }
@@ -65,10 +64,8 @@ fn piece_taken(p: &[u8], y: &[u8]) -> usize
     ensures { (result ≤ length y.now)
         × (eat p.now y.now ≡ drop result y.now) }
 {
-    if p.len() <= y.len() {
-        if starts(p, y) {
-            return p.len();
-        }
+    if p.len() <= y.len() && starts(p, y) {
+        return p.len();
     }
     taken(p, y)
 }
@@ -78,34 +75,23 @@ pub fn comes(x: &[u8], y: &[u8]) -> bool
     ensures { result
         ≡ comes_from x.now (length x.now - length y.now) y.now }
 {
-    let mut at: usize = 0;
-    let mut i: usize = 0;
-    while i < x.len() {
-        let mut end = x.len();
-        if PIECE < end - i {
-            end = i + PIECE;
-        }
-        at += piece_taken(&x[i..end], &y[at..]);
-        i = end;
+    let mut at = 0;
+    for piece in x.chunks(PIECE) {
+        at += piece_taken(piece, &y[at..]);
     }
     at == y.len()
 }
 
-// Whether these numbers are the sums of the row with these chunks.
-fn sums_agree(l1: usize, l2: usize, nc: usize, r: usize, chunks: &[u8], numbers: &[u16]) -> bool
-    requires { (isLegal (layout l1 l2 nc r) ≡ true)
-        × (Chunked (layout l1 l2 nc r) chunks.now × (length numbers.now ≡ l1 + l2)) }
-    ensures { result ≡ same (block_sums (layout l1 l2 nc r) (row_of nc chunks.now)
-        ++ string_sums (layout l1 l2 nc r) (row_of nc chunks.now)) numbers.now }
+// Whether these numbers are the sums of a row.
+fn sums_agree(row: &Row<'_>, numbers: &[u16]) -> bool
+    requires { length numbers.now ≡ row.now.layout.l1 + row.now.layout.l2 }
+    ensures { result ≡ same (sums row.now.layout (row_of row.now.layout.nc row.now.chunks.now)) numbers.now }
 {
     let t = vt::weights();
-    let mut k: usize = 0;
-    while k < numbers.len() {
-        let number = numbers[k] as usize;
-        if message::chunks::sum_of(&t, l1, l2, nc, r, chunks, k) != number {
+    for (k, number) in numbers.iter().enumerate() {
+        if row.sum(&t, k) != usize::from(*number) {
             return false;
         }
-        k += 1;
     }
     true
 }
@@ -115,73 +101,57 @@ fn equal(values: &[u8], numbers: &[u16]) -> bool
     requires { length values.now ≡ length numbers.now }
     ensures { result ≡ same values.now numbers.now }
 {
-    let mut i: usize = 0;
-    while i < numbers.len() {
-        if values[i] as u16 != numbers[i] {
+    for (value, number) in values.iter().zip(numbers) {
+        if u16::from(*value) != *number {
             return false;
         }
-        i += 1;
     }
     true
 }
 
-// Whether these numbers are the checks of the row with these chunks.
-fn checks_agree(l1: usize, l2: usize, nc: usize, r: usize, chunks: &[u8], numbers: &[u16]) -> bool
-    requires { (isLegal (layout l1 l2 nc r) ≡ true)
-        × (Chunked (layout l1 l2 nc r) chunks.now × (length numbers.now ≡ r)) }
-    ensures { result ≡ same (checks (layout l1 l2 nc r) (row_of nc chunks.now)) numbers.now }
+// Whether these numbers are the checks of a row.
+fn checks_agree(row: &Row<'_>, numbers: &[u16]) -> bool
+    requires { length numbers.now ≡ row.now.layout.r }
+    ensures { result ≡ same (checks row.now.layout (row_of row.now.layout.nc row.now.chunks.now)) numbers.now }
 {
     let mut values: [u8; 16] = [0; 16];
-    message::chunks::fill_checks(l1, l2, nc, r, chunks, &mut values);
-    equal(&values[0..r], numbers)
+    row.fill_checks(&mut values);
+    equal(&values[..row.layout.r], numbers)
 }
 
-// Whether these numbers, as they are read of a message, are the sums and the checks of the row with these chunks.
-fn chunks_agree(l1: usize, l2: usize, nc: usize, r: usize, chunks: &[u8], numbers: &[u16]) -> bool
-    requires { (isLegal (layout l1 l2 nc r) ≡ true)
-        × (Chunked (layout l1 l2 nc r) chunks.now × (length numbers.now ≡ l1 + l2 + r)) }
-    ensures { result ≡ same (block_sums (layout l1 l2 nc r) (row_of nc chunks.now)
-        ++ string_sums (layout l1 l2 nc r) (row_of nc chunks.now)
-        ++ checks (layout l1 l2 nc r) (row_of nc chunks.now)) numbers.now }
+// Whether these numbers, as they are read of a message, are the sums and the checks of a row.
+fn row_agrees(row: &Row<'_>, numbers: &[u16]) -> bool
+    requires { length numbers.now ≡ row.now.layout.l1 + row.now.layout.l2 + row.now.layout.r }
+    ensures { result ≡ same (sums row.now.layout (row_of row.now.layout.nc row.now.chunks.now)
+        ++ checks row.now.layout (row_of row.now.layout.nc row.now.chunks.now)) numbers.now }
 {
-    let n = l1 + l2;
-    if !sums_agree(l1, l2, nc, r, chunks, &numbers[0..n]) {
-        return false;
-    }
-    checks_agree(l1, l2, nc, r, chunks, &numbers[n..])
+    let n = row.layout.l1 + row.layout.l2;
+    sums_agree(row, &numbers[..n]) && checks_agree(row, &numbers[n..])
 }
 
-// Whether these numbers, as they are read of a message, are the sums and the checks of a row: the row yields that
+// Whether these numbers, as they are read of a message, are the sums and the checks of the row with these bits: the row yields that
 // message.
-fn agrees(l1: usize, l2: usize, nc: usize, r: usize, x: &[u8], numbers: &[u16]) -> bool
-    requires { (isLegal (layout l1 l2 nc r) ≡ true) × (AllBits x.now
-        × ((length x.now ≡ row_bits (layout l1 l2 nc r)) × (length numbers.now ≡ l1 + l2 + r))) }
-    ensures { result
-        ≡ same (block_sums (layout l1 l2 nc r) x.now ++ string_sums (layout l1 l2 nc r) x.now
-        ++ checks (layout l1 l2 nc r) x.now) numbers.now }
+fn agrees(l: Legal, x: &[u8], numbers: &[u16]) -> bool
+    requires { AllBits x.now × ((length x.now ≡ row_bits l.layout)
+        × (length numbers.now ≡ l.layout.l1 + l.layout.l2 + l.layout.r)) }
+    ensures { result ≡ same (sums l.layout x.now ++ checks l.layout x.now) numbers.now }
 {
-    let mut values: [u8; bits::MOST_CHUNKS] = [0; bits::MOST_CHUNKS];
-    message::chunks::fill_chunks(l1, l2, nc, r, x, &mut values);
-    let n = l1 * l2;
-    chunks_agree(l1, l2, nc, r, &values[0..n], numbers)
+    let mut chunks: [u8; bits::MOST_CHUNKS] = [0; bits::MOST_CHUNKS];
+    message::chunks::fill_chunks(l, x, &mut chunks);
+    let layout = l.layout;
+    let n = layout.l1 * layout.l2;
+    let row = Row {
+        layout,
+        chunks: &chunks[..n],
+    };
+    row_agrees(&row, numbers)
 }
 
 // Whether a candidate is consistent with the received row y and the numbers of a message.
-pub fn is_consistent(
-    l1: usize,
-    l2: usize,
-    nc: usize,
-    r: usize,
-    x: &[u8],
-    y: &[u8],
-    numbers: &[u16],
-) -> bool
-    requires { (isLegal (layout l1 l2 nc r) ≡ true) × (AllBits x.now
-        × ((length x.now ≡ row_bits (layout l1 l2 nc r)) × (length numbers.now ≡ l1 + l2 + r))) }
-    ensures { result ≡ candidate (layout l1 l2 nc r) numbers.now y.now x.now }
+pub fn is_consistent(l: Legal, x: &[u8], y: &[u8], numbers: &[u16]) -> bool
+    requires { AllBits x.now × ((length x.now ≡ row_bits l.layout)
+        × (length numbers.now ≡ l.layout.l1 + l.layout.l2 + l.layout.r)) }
+    ensures { result ≡ candidate l.layout numbers.now y.now x.now }
 {
-    if !comes(x, y) {
-        return false;
-    }
-    agrees(l1, l2, nc, r, x, numbers)
+    comes(x, y) && agrees(l, x, numbers)
 }

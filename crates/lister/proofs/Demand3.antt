@@ -13,6 +13,7 @@ use mathlib.Core.Bool.{Bool, true, false, cond}
 use mathlib.Core.Logic.{◌↔◌}
 use mathlib.Core.List.{List, ◌++◌, map}
 use native.Mathlib.Omega.{arith}
+use Rattle.std.specs.Prelude.{Result, Ok, Err}
 use borrow.Author.Tests.{ltb-false}
 use lib.Dec.{eqb}
 use lib.ListN.{length, take, drop}
@@ -35,32 +36,30 @@ use Rattle.consistent.proofs.Consistent.{Consistent, of_consistent, is_consisten
 use Rattle.consistent.proofs.Demand3.{one_at_most, own-consistent, own-listed}
 use Rattle.consistent.proofs.List.{input_passed, answer_is, list_writes}
 use Rattle.lister.specs.Answer.{listed_of}
-use Rattle.lister.specs.declared.Listed.TheVariants.{Count, Refused}
-use Rattle.lister.specs.declared.Listed.{Listed}
 use Rattle.lister.proofs.Answers.{by_room}
 
 -- the contract of `list`: s is the message, row the packed row of m bits, slice the list slice at entry
-abbrev pub Promised : (s row : List ℕ) (m : ℕ) (slice : List ℕ) (r : Listed) (exit : List ℕ) → Type 0
+abbrev pub Promised : (s row : List ℕ) (m : ℕ) (slice : List ℕ) (r : Result ℕ Refusal) (exit : List ℕ) → Type 0
 Promised s row m slice r exit = (listed_of r ≡ list_answer s row m (length slice)) × (exit ≡ list_slice s row m slice)
 
 -- ---- what an answer says
 -- no refusal is a count, so what is answered says which of the two the result is
-counted : (r : Listed) (n : ℕ) → listed_of r ≡ record { refusal = 0; count = n } → r ≡ Count n
-counted (Count k) n e = ap (λ (a : ListAnswer). Count a.count) e
-counted (Refused q) n e = absurd (omega (arith, numbered q, ap (λ (a : ListAnswer). a.refusal) e))
+counted : (r : Result ℕ Refusal) (n : ℕ) → listed_of r ≡ record { refusal = 0; count = n } → r ≡ Ok n
+counted (Ok k) n e = ap (λ (a : ListAnswer). Ok a.count) e
+counted (Err q) n e = absurd (omega (arith, numbered q, ap (λ (a : ListAnswer). a.refusal) e))
 
 -- the number answered is that of the first check that applies
-pub number_is : (s row : List ℕ) (m : ℕ) (slice : List ℕ) (r : Listed) (exit : List ℕ) → Promised s row m slice r exit
+pub number_is : (s row : List ℕ) (m : ℕ) (slice : List ℕ) (r : Result ℕ Refusal) (exit : List ℕ) → Promised s row m slice r exit
     → (listed_of r).refusal ≡ list_refusal s row m (length slice)
 number_is s row m slice r exit p =
     let q = list_refusal s row m (length slice) in
     ap (λ (a : ListAnswer). a.refusal) (p.0 ∙ answer_is s row m (length slice) q refl)
 
-module _ (s row : List ℕ) (m : ℕ) (slice : List ℕ) (r : Listed) (exit : List ℕ) (p : Promised s row m slice r exit)
-    (n : ℕ) (e : r ≡ Count n) where
+module _ (s row : List ℕ) (m : ℕ) (slice : List ℕ) (r : Result ℕ Refusal) (exit : List ℕ) (p : Promised s row m slice r exit)
+    (n : ℕ) (e : r ≡ Ok n) where
   -- a count: no check applies, all rows fit, and it is their number
   pub not_refused : list_refusal s row m (length slice) ≡ 0
-  not_refused = sym (number_is s row m slice r exit p) ∙ ap (λ (v : Listed). (listed_of v).refusal) e
+  not_refused = sym (number_is s row m slice r exit p) ∙ ap (λ (v : Result ℕ Refusal). (listed_of v).refusal) e
 
   pub input_fit : first_refusal (input_checks s row m) ≡ 0
   input_fit = input_passed s row m (length slice) not_refused
@@ -76,7 +75,7 @@ module _ (s row : List ℕ) (m : ℕ) (slice : List ℕ) (r : Listed) (exit : Li
 
   pub count_is : n ≡ length (wanted s row m)
   count_is =
-      sym (ap (λ (v : Listed). (listed_of v).count) e)
+      sym (ap (λ (v : Result ℕ Refusal). (listed_of v).count) e)
       ∙ ap (λ (a : ListAnswer). a.count) (p.0 ∙ answer_is s row m (length slice) 0 not_refused)
 
   pub rows_written : exit ≡ flat (map pack (wanted s row m)) ++ drop (length (flat (map pack (wanted s row m)))) slice
@@ -99,8 +98,8 @@ members s m y x = (
   λ h. (list_exact s m y x).1 ((h.1.long, h.0), is_consistent s m y x h.1),
 )
 
-pub exact : (s row : List ℕ) (m : ℕ) (slice : List ℕ) (r : Listed) (exit : List ℕ) → Promised s row m slice r exit
-    → (n : ℕ) → r ≡ Count n → Exact s row m slice n exit
+pub exact : (s row : List ℕ) (m : ℕ) (slice : List ℕ) (r : Result ℕ Refusal) (exit : List ℕ) → Promised s row m slice r exit
+    → (n : ℕ) → r ≡ Ok n → Exact s row m slice n exit
 unfolding wanted
 exact s row m slice r exit p n e = record {
   rows = wanted s row m;
@@ -111,11 +110,11 @@ exact s row m slice r exit p n e = record {
 }
 
 -- ---- "with none or one deleted it holds at most one row"
-pub at_most_one : (s row : List ℕ) (m : ℕ) (slice : List ℕ) (r : Listed) (exit : List ℕ) → Promised s row m slice r exit
-    → (n : ℕ) → r ≡ Count n → bits_of s - m ≤ 1 → n ≤ 1
+pub at_most_one : (s row : List ℕ) (m : ℕ) (slice : List ℕ) (r : Result ℕ Refusal) (exit : List ℕ) → Promised s row m slice r exit
+    → (n : ℕ) → r ≡ Ok n → bits_of s - m ≤ 1 → n ≤ 1
 at_most_one s row m slice r exit p n e h =
     let v : (list_answer s row m (length slice)).count ≡ n =
-    ap (λ (t : ListAnswer). t.count) (sym p.0) ∙ ap (λ (t : Listed). (listed_of t).count) e in
+    ap (λ (t : ListAnswer). t.count) (sym p.0) ∙ ap (λ (t : Result ℕ Refusal). (listed_of t).count) e in
     omega (arith, one_at_most s row m (length slice) h)
 
 -- ---- "the row is listed whenever the list fits its slice"
@@ -127,18 +126,18 @@ module _ (l : Layout) (x : List ℕ) (k : ℕ) (y : List ℕ) (g : legal l ≡ t
   abbrev pub own : List (List ℕ)
   own = the_list (message l x) (length y) y
 
-  module _ (slice : List ℕ) (r : Listed) (exit : List ℕ)
+  module _ (slice : List ℕ) (r : Result ℕ Refusal) (exit : List ℕ)
       (p : Promised (message l x) (pack y) (length y) slice r exit) where
     -- where the list fits, it is answered and written whole, and x is on it
     pub row_listed : length own ≤ room (message l x) (length slice)
-        → (r ≡ Count (length own))
+        → (r ≡ Ok (length own))
         × (Mem x own × (exit ≡ flat (map pack own) ++ drop (length (flat (map pack own))) slice))
     row_listed h =
         let w = own-listed l x k y slice g t most c h in
         (counted r (length own) (p.0 ∙ w.counted), (w.among, p.1 ∙ w.written))
 
     -- so it is on every list that was not refused
-    pub row-among : (n : ℕ) (q : r ≡ Count n) → Mem x (exact (message l x) (pack y) (length y) slice r exit p n q).rows
+    pub row-among : (n : ℕ) (q : r ≡ Ok n) → Mem x (exact (message l x) (pack y) (length y) slice r exit p n q).rows
     row-among n q =
         let e = exact (message l x) (pack y) (length y) slice r exit p n q in
         let b = comes-bits x k y c t.1 in
@@ -174,13 +173,13 @@ number_names ListFull = refl
 number_names ShortTarget = refl
 
 -- results with the same number and count are the same
-same_result : (r t : Listed) → listed_of r ≡ listed_of t → r ≡ t
-same_result r (Count n) e = counted r n e
-same_result (Count n) (Refused q) e = absurd (omega (arith, numbered q, ap (λ (a : ListAnswer). a.refusal) e))
-same_result (Refused p) (Refused q) e =
-    ap Refused (sym (number_names p) ∙ ap (λ (a : ListAnswer). numbered_by a.refusal) e ∙ number_names q)
+same_result : (r t : Result ℕ Refusal) → listed_of r ≡ listed_of t → r ≡ t
+same_result r (Ok n) e = counted r n e
+same_result (Ok n) (Err q) e = absurd (omega (arith, numbered q, ap (λ (a : ListAnswer). a.refusal) e))
+same_result (Err p) (Err q) e =
+    ap Err (sym (number_names p) ∙ ap (λ (a : ListAnswer). numbered_by a.refusal) e ∙ number_names q)
 
 -- two calls with the same message, row, bit count and slice answer the same and leave the same bytes
-pub same_again : (s row : List ℕ) (m : ℕ) (slice : List ℕ) (r t : Listed) (exit last : List ℕ)
+pub same_again : (s row : List ℕ) (m : ℕ) (slice : List ℕ) (r t : Result ℕ Refusal) (exit last : List ℕ)
     → Promised s row m slice r exit → Promised s row m slice t last → (r ≡ t) × (exit ≡ last)
 same_again s row m slice r t exit last p q = (same_result r t (p.0 ∙ sym q.0), p.1 ∙ sym q.1)

@@ -6,6 +6,7 @@ use mathlib.Core.Bool.{true, cond}
 use mathlib.Core.List.{List, [], ◌∷◌, ◌++◌, append_assoc}
 use native.Mathlib.Nat.{suc-mul, mul_comm}
 use native.Mathlib.Omega.{arith}
+use Rattle.std.specs.Prelude.{Result, Ok, Err}
 use lib.Dec.{eqb}
 use lib.ListN.{length, get_or, take, drop, get_or-append}
 use lib.Seq.{take_at, get_or-append-add}
@@ -21,8 +22,7 @@ use Rattle.message.specs.Layout.{legal, row_bits, block_bits, string_bits}
 use Rattle.message.specs.Message.{most_numbers}
 use Rattle.message.specs.Read.{LayoutAnswer, read_of, layout_answer, layout_of, read_block_sums, read_string_sums, read_checks, message_refusal, numbers_read, read_refusal, read_target}
 use Rattle.message.specs.declared.Layout.{Layout}
-use Rattle.message.specs.declared.Read.TheVariants.{Refused}
-use Rattle.message.specs.declared.Read.{Read}
+use Rattle.message.specs.declared.layouts.Legal.{Legal}
 use Rattle.message.proofs.Answers.{fit_named, refuses_message, refuses_nothing, numbers-count}
 use Rattle.message.proofs.Legal.{legal_bounds, sizes}
 use Rattle.message.proofs.Messages.{read_encodable}
@@ -58,12 +58,12 @@ reads_all s o n = go (message_refusal s) refl
 
 -- what reading a message to an array of as many entries gives: the answer is that of the message's own checks, and the
 -- first of the entries afterwards are the numbers of a fit message
-pub record Numbers (s : List ℕ) (a : Read) (entries : List ℕ) : Type 0 where
+pub record Numbers (s : List ℕ) (a : Result Legal Refusal) (entries : List ℕ) : Type 0 where
   pub answer : read_of a ≡ layout_answer (message_refusal s) s
   pub front : message_refusal s ≡ 0 → (l : Layout) → layout_of s ≡ l
       → take (l.l1 + l.l2 + l.r - 0) entries ≡ numbers_read s
 
-pub numbers-read : (s o entries : List ℕ) (a : Read) → length o ≡ most_numbers
+pub numbers-read : (s o entries : List ℕ) (a : Result Legal Refusal) → length o ≡ most_numbers
     → (read_of a ≡ layout_answer (read_refusal s (length o)) s) × (entries ≡ read_target s o) → Numbers s a entries
 unfolding read_target
 numbers-read s o entries a n h = record {
@@ -77,10 +77,11 @@ numbers-read s o entries a n h = record {
 }
 
 -- an answer that refuses says what the message is refused for
-pub message-number : (s : List ℕ) (a : Read) (q : Refusal) → a ≡ Refused q → read_of a ≡ layout_answer (message_refusal s) s
-    → message_refusal s ≡ number_of q
+pub message-number : (s : List ℕ) (a : Result Legal Refusal) (q : Refusal) → a ≡ Err q
+    → read_of a ≡ layout_answer (message_refusal s) s → message_refusal s ≡ number_of q
 unfolding layout_answer
-message-number s a q e h = sym (ap (λ (p : LayoutAnswer). p.refusal) h) ∙ ap (λ (v : Read). (read_of v).refusal) e
+message-number s a q e h =
+    sym (ap (λ (p : LayoutAnswer). p.refusal) h) ∙ ap (λ (v : Result Legal Refusal). (read_of v).refusal) e
 
 -- ---- each number is in range
 at-most-each : (w : ℕ) (vs : List ℕ) (i : ℕ) → AtMost w vs → i < length vs → get_or vs i 0 ≤ w

@@ -8,40 +8,32 @@ use borrow.Author.Tests.{lt-ltb, le-ltb, ltb-false, not-false}
 use lib.Dec.{ltb}
 use lib.ListN.{length, take}
 use lib.Seq.{length-take-le}
-use Rattle.refusal.specs.Refusal.{Check, number_of, first_refusal}
-use Rattle.refusal.specs.declared.Refusal.{Refusal}
+use Rattle.refusal.specs.Refusal.{Check, first_refusal}
 use Rattle.refusal.proofs.Laws.{passed}
 use Rattle.bits.specs.Bits.{unpack, fits}
 use Rattle.bits.proofs.Laws.{neither_left, neither_right, length-unpack}
 use Rattle.bits.proofs.Packing.{fits-length}
 use Rattle.consistent.specs.Consistent.{most_losses, bits_of}
-use Rattle.consistent.specs.List.{ListAnswer, row_checks}
-use Rattle.lister.specs.Answer.{listed_of}
+use Rattle.consistent.specs.List.{row_checks}
 use Rattle.lister.specs.Rows.{row_refusal}
-use Rattle.lister.specs.declared.Listed.TheVariants.{Count, Refused}
-use Rattle.lister.specs.declared.Listed.{Listed}
 
 module _ (n : ℕ) (row : List ℕ) (m : ℕ) where
-  -- what is answered for a received row of m bits
-  abbrev answered : ListAnswer
-  answered = record { refusal = row_refusal n row m; count = 0 }
-
   -- more bits than were sent
-  pub above : n < m → record { refusal = 7; count = 0 } ≡ answered
+  pub above : n < m → 7 ≡ row_refusal n row m
   unfolding row_refusal first_refusal
   above h = rw (lt-ltb n m h) refl
 
   -- more than 12 lost
-  pub many : m ≤ n → most_losses < n - m → record { refusal = 7; count = 0 } ≡ answered
+  pub many : m ≤ n → most_losses < n - m → 7 ≡ row_refusal n row m
   unfolding row_refusal first_refusal
   many h k = rw (le-ltb n m h, lt-ltb most_losses (n - m) k) refl
 
   -- where neither is so, the packing decides
-  pub unfit : m ≤ n → n - m ≤ most_losses → fits m row ≡ false → record { refusal = 8; count = 0 } ≡ answered
+  pub unfit : m ≤ n → n - m ≤ most_losses → fits m row ≡ false → 8 ≡ row_refusal n row m
   unfolding row_refusal first_refusal
   unfit h k f = rw (le-ltb n m h, le-ltb most_losses (n - m) k, f) refl
 
-  pub fit_row : m ≤ n → n - m ≤ most_losses → fits m row ≡ true → record { refusal = 0; count = 0 } ≡ answered
+  pub fit_row : m ≤ n → n - m ≤ most_losses → fits m row ≡ true → 0 ≡ row_refusal n row m
   unfolding row_refusal first_refusal
   fit_row h k f = rw (le-ltb n m h, le-ltb most_losses (n - m) k, f) refl
 
@@ -75,11 +67,3 @@ pub row-checks : (s row : List ℕ) (m n : ℕ) → bits_of s ≡ n → first_re
 unfolding row_checks row_refusal
 row-checks s row m n e =
     ap (λ (k : ℕ). first_refusal ((7, ltb k m || ltb most_losses (k - m)) ∷ (8, not (fits m row)) ∷ [])) e
-
--- what the answer of a check of the row says: the number of a refusal, or that there is none
-pub row_refused : (a : Listed) (q : Refusal) (n : ℕ) → a ≡ Refused q
-    → listed_of a ≡ record { refusal = n; count = 0 } → n ≡ number_of q
-row_refused a q n e h = sym (ap (λ (p : ListAnswer). p.refusal) h) ∙ ap (λ (v : Listed). (listed_of v).refusal) e
-
-pub row_not_refused : (a : Listed) (v n : ℕ) → a ≡ Count v → listed_of a ≡ record { refusal = n; count = 0 } → n ≡ 0
-row_not_refused a v n e h = sym (ap (λ (p : ListAnswer). p.refusal) h) ∙ ap (λ (t : Listed). (listed_of t).refusal) e

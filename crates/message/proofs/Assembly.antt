@@ -9,7 +9,7 @@ use borrow.Author.Rules.{part_to_end}
 use borrow.Rule.Slice.PartMut.{put_mid}
 use lib.ListN.{length, take, drop, length-append, length-drop, drop_of_length-le}
 use lib.Seq.{take_at, drop-drop, ext_get_or, get_or-take, length-take-le}
-use Rattle.bits.specs.Bits.{AllBits, longest, number, digits, bytes_for, pack, unpack, fits}
+use Rattle.bits.specs.Bits.{AllBits, longest, most_chunks, number, digits, bytes_for, pack, unpack, fits}
 use Rattle.bits.specs.Filling.{filled, Goes}
 use Rattle.bits.specs.declared.Filler.{Filler}
 use Rattle.bits.proofs.Filling.{drop-later, goes_then}
@@ -29,7 +29,19 @@ use Rattle.message.proofs.Messages.{length_field_bits}
 use Rattle.message.proofs.RowSums.{block_piece, string_piece}
 
 -- ---- the chunks that the checks are taken of
--- the chunks of a row at the front of an array, lent
+-- the chunks of a row as numbers
+module _ (l : Layout) (x : List ℕ) (a : AllBits x) (cs : List ℕ) (e : cs ≡ map (number l.nc) (chunks l x)) where
+  numbers_elements : Elements l.nc cs
+  numbers_elements = rw e (chunk_elements l x a)
+
+  length-numbers : length cs ≡ l.l1 * l.l2
+  length-numbers = ap length (e ∙ chunk-numbers l x) ∙ length_fields (l.l1 * l.l2) l.nc x
+
+  -- the row that they make
+  row_of_numbers : row_bits l ≤ length x → row_of l.nc cs ≡ take (row_bits l) x
+  row_of_numbers h = ap (row_of l.nc) (e ∙ chunk-numbers l x) ∙ flat-fields (l.l1 * l.l2) l.nc x a h
+
+-- at the front of an array, lent
 module _ (l : Layout) (x : List ℕ) (a : AllBits x) (q z : List ℕ) (e : q ≡ map (number l.nc) (chunks l x) ++ z) where
   chunks-lent : take (l.l1 * l.l2 - 0) q ≡ map (number l.nc) (chunks l x)
   chunks-lent =
@@ -38,14 +50,14 @@ module _ (l : Layout) (x : List ℕ) (a : AllBits x) (q z : List ℕ) (e : q ≡
       (ap length (chunk-numbers l x) ∙ length_fields (l.l1 * l.l2) l.nc x))
 
   pub chunks_elements : Elements l.nc (take (l.l1 * l.l2 - 0) q)
-  chunks_elements = rw chunks-lent (chunk_elements l x a)
+  chunks_elements = numbers_elements l x a _ chunks-lent
 
   pub length_lent : length (take (l.l1 * l.l2 - 0) q) ≡ l.l1 * l.l2
-  length_lent = ap length (chunks-lent ∙ chunk-numbers l x) ∙ length_fields (l.l1 * l.l2) l.nc x
+  length_lent = length-numbers l x a _ chunks-lent
 
   -- the row that they make
   pub row_again : row_bits l ≤ length x → row_of l.nc (take (l.l1 * l.l2 - 0) q) ≡ take (row_bits l) x
-  row_again h = ap (row_of l.nc) (chunks-lent ∙ chunk-numbers l x) ∙ flat-fields (l.l1 * l.l2) l.nc x a h
+  row_again h = row_of_numbers l x a _ chunks-lent h
 
 -- the chunks of the row that numbers make are these numbers
 numbers_again : (l : Layout) (cs : List ℕ) → Chunked l cs → map (number l.nc) (chunks l (row_of l.nc cs)) ≡ cs
@@ -179,20 +191,40 @@ module _ (l : Layout) (p o : List ℕ) (e : legal l ≡ true) (g : fits (row_bit
   pub enough : (row_bits l ≤ length p * 8) × (row_bits l ≤ longest)
   enough = let z = (sizes l (legal_bounds l e)).row in (omega (arith, fits-length (row_bits l) p g), z)
 
-  -- the numbers of its chunks at the front of an array, lent
-  module _ (q z : List ℕ) (h : q ≡ fields (l.l1 * l.l2) l.nc (unpack p) ++ z) where
-    numbers-lent : q ≡ map (number l.nc) (chunks l (unpack p)) ++ z
-    numbers-lent = h ∙ ap (λ (m : List ℕ). m ++ z) (sym (chunk-numbers l (unpack p)))
+  -- the numbers f of its chunks, filled in at the front of an array a
+  module _ (a : List ℕ) (long : most_chunks ≤ length a) where
+    pub length-front : length (take (l.l1 * l.l2) a) ≡ l.l1 * l.l2
+    length-front = length-take-le (l.l1 * l.l2) a (omega (arith, (legal_bounds l e).chunks))
 
-    pub row_lent : row_of l.nc (take (l.l1 * l.l2 - 0) q) ≡ held l p
-    row_lent = row_again l (unpack p) (bits-unpack p) q z numbers-lent (omega (arith, enough.0, length-unpack p))
+    module _ (f : List ℕ) (h : f ≡ fields (length (take (l.l1 * l.l2) a)) l.nc (unpack p)) where
+      abbrev front : List ℕ
+      front = take (l.l1 * l.l2) (f ++ drop (l.l1 * l.l2) a)
 
-    -- they are those of a row
-    pub lent_chunked : Chunked l (take (l.l1 * l.l2 - 0) q)
-    lent_chunked = (
-      length_lent l (unpack p) (bits-unpack p) q z numbers-lent,
-      chunks_elements l (unpack p) (bits-unpack p) q z numbers-lent,
-    )
+      front_numbers : front ≡ map (number l.nc) (chunks l (unpack p))
+      front_numbers =
+          let n : f ≡ fields (l.l1 * l.l2) l.nc (unpack p) =
+          h ∙ ap (λ (k : ℕ). fields k l.nc (unpack p)) length-front in
+          take_at f (drop (l.l1 * l.l2) a) (l.l1 * l.l2) (ap length n ∙ length_fields (l.l1 * l.l2) l.nc (unpack p)) ∙ n
+          ∙ sym (chunk-numbers l (unpack p))
+
+      pub front-within : l.l1 * l.l2 ≤ length (f ++ drop (l.l1 * l.l2) a)
+      front-within =
+          omega (
+            arith,
+            length-append f (drop (l.l1 * l.l2) a),
+            ap length h ∙ length_fields (length (take (l.l1 * l.l2) a)) l.nc (unpack p),
+            length-front,
+          )
+
+      pub row_held : row_of l.nc front ≡ held l p
+      row_held = row_of_numbers l (unpack p) (bits-unpack p) front front_numbers (omega (arith, enough.0, length-unpack p))
+
+      -- they are those of a row
+      pub front_chunked : Chunked l front
+      front_chunked = (
+        length-numbers l (unpack p) (bits-unpack p) front front_numbers,
+        numbers_elements l (unpack p) (bits-unpack p) front front_numbers,
+      )
 
   pub head-room : 9 ≤ length o
   unfolding message_bytes

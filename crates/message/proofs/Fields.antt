@@ -2,13 +2,14 @@
 use Prim.Native.Nat.{ℕ, zero, suc, ◌+◌, ◌*◌, ◌/◌, ◌^◌, ◌<◌, ◌≤◌}
 use mathlib.Core.Path.{◌≡◌, refl, sym, ap, ap₂, ◌∙◌}
 use mathlib.Core.Bool.{true, false}
-use mathlib.Core.List.{List, [], ◌∷◌, ◌++◌, append_assoc, flat_map}
+use mathlib.Core.List.{List, [], ◌∷◌, ◌++◌, append_assoc, append-nil, flat_map}
 use native.Mathlib.Nat.{add-mul, one-mul, mul-le-mul_right, add_comm, suc-mul, zero-mul, pow-suc, mod-eq_of_lt}
 use native.Mathlib.Numerals.{add-one}
 use native.Mathlib.Omega.{arith}
 use borrow.Author.Tests.{lt-ltb, le-ltb, ltb-false}
 use lib.Dec.{ltb}
 use lib.ListN.{length, get_or, take, drop, length-append, length-drop, drop_of_length-le}
+use Rattle.std.proofs.Common.{take_all}
 use lib.Seq.{drop-cons, drop_at, take-add, drop-drop}
 use Rattle.bits.specs.Bits.{AllBits, number, digits}
 use Rattle.bits.proofs.Laws.{neither_left, neither_right, bits-digits, bits-append, bits-drop, length_digits, number_digits, number_lt, digits_number, fill}
@@ -162,3 +163,7 @@ above-end w vs i h = rw (drop_of_length-le vs h) refl
 pub fit-width : (w : ℕ) (vs : List ℕ) → AtMost w vs → FitAll (width w) vs
 fit-width w [] a = tt
 fit-width w (v ∷ vs) a = (omega (arith, width_bound w, a.0), fit-width w vs a.1)
+
+-- a slice that is written to its end
+pub front_whole : (d f : List ℕ) (i : ℕ) → length d ≤ i → length f ≡ length d → take i f ++ drop i d ≡ f
+front_whole d f i h e = rw (take_all i f (omega arith), drop_of_length-le d {i = i} h) (append-nil f)

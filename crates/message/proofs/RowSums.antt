@@ -31,11 +31,14 @@ module _ (l : Layout) (x : List ℕ) where
       length-take-le count (drop first (block_sums l x ++ string_sums l x))
       (omega (arith, length-sums, length-drop first (block_sums l x ++ string_sums l x)))
 
-  pub sum_of_part : (first count i : ℕ) → i < count
-      → get_or (block_sums l x ++ string_sums l x) (first + i) 0
-      ≡ get_or (take count (drop first (block_sums l x ++ string_sums l x))) i 0
-  sum_of_part first count i h =
-      let all = block_sums l x ++ string_sums l x in sym (get_or-take count (drop first all) i 0 h ∙ get_or-drop first all i 0)
+  pub sum_of_part : (first count i : ℕ) → first ≤ i → i < first + count
+      → get_or (block_sums l x ++ string_sums l x) i 0
+      ≡ get_or (take count (drop first (block_sums l x ++ string_sums l x))) (i - first) 0
+  sum_of_part first count i h k =
+      let all = block_sums l x ++ string_sums l x in
+      let e : first + (i - first) ≡ i = omega arith in
+      sym (get_or-take count (drop first all) (i - first) 0 (omega arith) ∙ get_or-drop first all (i - first) 0
+      ∙ ap (λ (n : ℕ). get_or all n 0) e)
 
   pub block_piece : take l.l1 (drop 0 (block_sums l x ++ string_sums l x)) ≡ block_sums l x
   block_piece = take_at (block_sums l x) (string_sums l x) l.l1 (length_block_sums l x)

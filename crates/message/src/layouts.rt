@@ -73,10 +73,13 @@ impl Legal {
         ensures { result ≡ fields_length self.layout }
     {
         let Layout { l1, l2, nc, r } = self.layout;
-        l1 * width(l2 * nc) + l2 * width(nc * l1) + r * nc
+        let block = width(l2 * nc);
+        let string = width(nc * l1);
+        l1 * block + l2 * string + r * nc
     }
 
     // The length of a message in bytes.
+    #[tactic(auto, unfolding(crate::specs::Message::message_bytes))]
     pub fn message_bytes(self) -> usize
         ensures { result ≡ message_bytes self.layout }
     {

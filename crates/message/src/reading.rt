@@ -134,10 +134,11 @@ fn read_numbers(l: Legal, s: &[u8], out: &mut [u16])
     let string = layouts::width(nc * l1);
     let strings = HEAD_BITS + l1 * block;
     let checks = strings + l2 * string;
-    let sums = l1 + l2;
-    read_fields(s, HEAD_BITS, block, &mut out[..l1]);
-    read_fields(s, strings, string, &mut out[l1..sums]);
-    read_fields(s, checks, nc, &mut out[sums..sums + r]);
+    let (block_sums, behind) = out.split_at_mut(l1);
+    let (string_sums, behind) = behind.split_at_mut(l2);
+    read_fields(s, HEAD_BITS, block, block_sums);
+    read_fields(s, strings, string, string_sums);
+    read_fields(s, checks, nc, &mut behind[..r]);
 }
 
 // Reads a message: answers its layout, and writes its numbers to the start of a slice.

@@ -1,5 +1,5 @@
 -- Document 01's refusal table: the number of each refusal, and "checks run in rising number".
-use Rattle.std.specs.Prelude.{ℕ, Bool, cond, List, [], ◌∷◌}
+use Rattle.std.specs.Prelude.{ℕ, Result, Ok, Err, Bool, cond, List, [], ◌∷◌}
 use Rattle.refusal.specs.declared.Refusal.TheVariants.{NoMessage, Version, Layout, MessageLength, Sum, SpareBit, Losses, Packing, ListFull, ShortTarget}
 use Rattle.refusal.specs.declared.Refusal.{Refusal}
 
@@ -20,6 +20,11 @@ number_of ShortTarget = 10
 pub record Answer : Type 0 where
   pub refusal : ℕ
   pub value : ℕ
+
+-- what a check of the table answers, as the papers number it: the refusal, 0 where the check passes
+abbrev pub refusal_in : Result (Unit {0}) Refusal → ℕ
+refusal_in (Ok _) = 0
+refusal_in (Err q) = number_of q
 
 -- a line of an operation's table: the number that is returned when the condition holds
 abbrev pub Check : Type 0

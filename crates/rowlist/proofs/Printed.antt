@@ -5,6 +5,7 @@ use mathlib.Core.Bool.{false, cond}
 use mathlib.Core.List.{List, map}
 use native.Mathlib.Nat.{mul-zero, mul-one, mul-add, mul_assoc, mul-le-mul_left, mul-le-mul_right}
 use native.Mathlib.Omega.{arith}
+use Rattle.std.specs.Prelude.{Result, Ok, Err}
 use borrow.Author.Tests.{ne_eqb}
 use borrow.Author.Rules.{part_to_end}
 use lib.Dec.{eqb}
@@ -24,8 +25,6 @@ use Rattle.consistent.specs.List.{room, wanted, list_refusal}
 use Rattle.consistent.proofs.Consistent.{list_exact}
 use Rattle.consistent.proofs.List.{message_passed}
 use Rattle.lister.specs.Answer.{listed_of}
-use Rattle.lister.specs.declared.Listed.TheVariants.{Count, Refused}
-use Rattle.lister.specs.declared.Listed.{Listed}
 use Rattle.lister.proofs.Demand3.{Promised, number_is, not_refused, input_fit, all_fit, count_is, rows_written}
 use Rattle.lister.proofs.Lent.{row_low, room_fits}
 use Rattle.rowtext.specs.Input.{message_in, bits_in, row_in, Split}
@@ -43,8 +42,8 @@ module _ (s : List ℕ) where
   row-size = refl
 
 -- ---- a count
-module _ (s row : List ℕ) (m : ℕ) (slice : List ℕ) (r : Listed) (exit : List ℕ) (p : Promised s row m slice r exit)
-    (n : ℕ) (e : r ≡ Count n) where
+module _ (s row : List ℕ) (m : ℕ) (slice : List ℕ) (r : Result ℕ Refusal) (exit : List ℕ) (p : Promised s row m slice r exit)
+    (n : ℕ) (e : r ≡ Ok n) where
   abbrev w : ℕ
   w = bytes_for (bits_of s)
 
@@ -76,10 +75,10 @@ module _ (s row : List ℕ) (m : ℕ) (slice : List ℕ) (r : Listed) (exit : Li
 
 -- ---- what is printed
 -- what listing promises for the parts of the input s
-abbrev Asked : (s slice : List ℕ) (r : Listed) (exit : List ℕ) → Type 0
+abbrev Asked : (s slice : List ℕ) (r : Result ℕ Refusal) (exit : List ℕ) → Type 0
 Asked s slice r exit = Promised (message_in s) (row_in s) (bits_in s) slice r exit
 
-module _ (s slice : List ℕ) (r : Listed) (exit : List ℕ) (p : Asked s slice r exit) (l : length slice ≡ list_bytes) where
+module _ (s slice : List ℕ) (r : Result ℕ Refusal) (exit : List ℕ) (p : Asked s slice r exit) (l : length slice ≡ list_bytes) where
   abbrev rows : List (List ℕ)
   rows = map pack (wanted (message_in s) (row_in s) (bits_in s))
 
@@ -92,16 +91,16 @@ module _ (s slice : List ℕ) (r : Listed) (exit : List ℕ) (p : Asked s slice 
       ap (λ (k : ℕ). cond (eqb k 0) (count_text rows) (refused_text k)) (sym (ap first-refusal (sym l) ∙ e))
 
   -- a count
-  count-printed : (n : ℕ) → r ≡ Count n → count_text (cut n (bytes_for (bits_of (message_in s))) exit) ≡ printed s
+  count-printed : (n : ℕ) → r ≡ Ok n → count_text (cut n (bytes_for (bits_of (message_in s))) exit) ≡ printed s
   count-printed n e =
       ap count_text (rows-held (message_in s) (row_in s) (bits_in s) slice r exit p n e)
       ∙ printed-by 0 (not_refused (message_in s) (row_in s) (bits_in s) slice r exit p n e)
 
   -- a refusal
-  refused-printed : (q : Refusal) → r ≡ Refused q → refused_text (number_of q) ≡ printed s
+  refused-printed : (q : Refusal) → r ≡ Err q → refused_text (number_of q) ≡ printed s
   refused-printed q e =
       let n =
-      sym (number_is (message_in s) (row_in s) (bits_in s) slice r exit p) ∙ ap (λ (v : Listed). (listed_of v).refusal) e in
+      sym (number_is (message_in s) (row_in s) (bits_in s) slice r exit p) ∙ ap (λ (v : Result ℕ Refusal). (listed_of v).refusal) e in
       let z : eqb (number_of q) 0 ≡ false = ne_eqb (number_of q) 0 (λ z. omega (arith, numbered q)) in
       rw z at (printed-by (number_of q) n)
 
@@ -110,15 +109,15 @@ text_fits : (n w : ℕ) → n * w ≤ list_bytes → n ≤ list_bytes → 12 + n
 text_fits n w h k = omega (arith, mul-add n (w * 2) 1, mul-one n, sym (mul_assoc n w 2))
 
 -- what an answer for the input s says of what is printed: the rows of a count stand in the slice, and fit what is put out
-pub record Answers (s : List ℕ) (r : Listed) (exit : List ℕ) : Type 0 where
-  pub rows : (n : ℕ) → r ≡ Count n → count_text (cut n (bytes_for (bits_of (message_in s))) exit) ≡ printed s
-  pub fits : (n : ℕ) → r ≡ Count n → n * bytes_for (bits_of (message_in s)) ≤ list_bytes
-  pub few : (n : ℕ) → r ≡ Count n → n ≤ list_bytes
-  pub short : (n : ℕ) → r ≡ Count n → 12 + n * (bytes_for (bits_of (message_in s)) * 2 + 1) ≤ longest_text
-  pub refused : (q : Refusal) → r ≡ Refused q → refused_text (number_of q) ≡ printed s
+pub record Answers (s : List ℕ) (r : Result ℕ Refusal) (exit : List ℕ) : Type 0 where
+  pub rows : (n : ℕ) → r ≡ Ok n → count_text (cut n (bytes_for (bits_of (message_in s))) exit) ≡ printed s
+  pub fits : (n : ℕ) → r ≡ Ok n → n * bytes_for (bits_of (message_in s)) ≤ list_bytes
+  pub few : (n : ℕ) → r ≡ Ok n → n ≤ list_bytes
+  pub short : (n : ℕ) → r ≡ Ok n → 12 + n * (bytes_for (bits_of (message_in s)) * 2 + 1) ≤ longest_text
+  pub refused : (q : Refusal) → r ≡ Err q → refused_text (number_of q) ≡ printed s
 
 -- by the contract of listing, with the parts of the input as the code lends them
-pub answers : (s : List ℕ) (from to m row : ℕ) (slice exit : List ℕ) (r : Listed) → length slice ≡ list_bytes
+pub answers : (s : List ℕ) (from to m row : ℕ) (slice exit : List ℕ) (r : Result ℕ Refusal) → length slice ≡ list_bytes
     → Split s from to m row
     → Promised (take (to - from) (drop from s)) (take (length s - row) (drop row s)) m slice r exit → Answers s r exit
 answers s from to m row slice exit r l t h =
@@ -131,10 +130,10 @@ answers s from to m row slice exit r l t h =
       refused = refused-printed s slice r exit p l;
     }
   where
-    fits_in : Asked s slice r exit → (n : ℕ) → r ≡ Count n → n * bytes_for (bits_of (message_in s)) ≤ list_bytes
+    fits_in : Asked s slice r exit → (n : ℕ) → r ≡ Ok n → n * bytes_for (bits_of (message_in s)) ≤ list_bytes
     fits_in p n e = rw l at (rows_fit (message_in s) (row_in s) (bits_in s) slice r exit p n e)
 
-    few-in : Asked s slice r exit → (n : ℕ) → r ≡ Count n → n ≤ list_bytes
+    few-in : Asked s slice r exit → (n : ℕ) → r ≡ Ok n → n ≤ list_bytes
     few-in p n e = rw l at (few-rows (message_in s) (row_in s) (bits_in s) slice r exit p n e)
 
 -- no refusal has a long number

@@ -9,7 +9,6 @@ ghost use Rattle.consistent.specs.Consistent.{bits_of};
 ghost use Rattle.rowtext.specs.Text.{Put};
 ghost use Rattle.rowlist.specs.Output.{longest_text, printed};
 
-use lister::Listed;
 use std::io;
 use std::io::{Read, Write};
 
@@ -26,8 +25,8 @@ fn row_bytes(msg: &[u8]) -> usize
     if msg.len() < 8 {
         return 0;
     }
-    let chunks = bits::wide(msg[5]) * bits::wide(msg[6]);
-    (chunks * bits::wide(msg[7]) + 7) / 8
+    let chunks = usize::from(msg[5]) * usize::from(msg[6]);
+    (chunks * usize::from(msg[7]) + 7) / 8
 }
 
 // Puts what is to be printed for the input at the start of a slice, and answers its length.
@@ -41,16 +40,12 @@ fn respond(input: &[u8], out: &mut [u8]) -> usize
     let to = parts.to;
     let row = parts.row;
     let mut rows: [u8; BYTES] = [0; BYTES];
-    let answer = lister::list(&input[from..to], &input[row..], parts.m, &mut rows);
-    match answer {
-        Listed::Count(count) => {
+    match lister::list(&input[from..to], &input[row..], parts.m, &mut rows) {
+        Ok(count) => {
             let w = row_bytes(&input[from..to]);
             rowtext::output::put_count(&rows, count, w, out)
         }
-        Listed::Refused(q) => {
-            let number = refusal::number(q) as usize;
-            rowtext::output::put_refused(number, out)
-        }
+        Err(q) => rowtext::output::put_refused(u32::from(q) as usize, out),
     }
 }
 
