@@ -13,7 +13,7 @@ use Rattle.bits.proofs.Laws.{both_ways, same_eq, same_refl, same-append}
 use Rattle.rows.specs.Deletion.{comes_from}
 use Rattle.rows.specs.Order.{Row}
 use Rattle.message.specs.Layout.{legal, row_bits}
-use Rattle.message.specs.Message.{block_sums, string_sums, checks, encode, message}
+use Rattle.message.specs.Message.{block_sums, string_sums, sums, checks, encode, message}
 use Rattle.message.specs.Read.{layout_of, read_block_sums, read_string_sums, read_checks, message_refusal, numbers_read}
 use Rattle.message.specs.declared.Layout.{Layout}
 use Rattle.message.proofs.Answers.{fit_named}
@@ -88,40 +88,23 @@ yields-numbers s x b e r =
 
 -- ---- the numbers in two parts, as the code has them
 module _ (l : Layout) (x numbers : List ℕ) (h : length numbers ≡ l.l1 + l.l2 + l.r) where
-  -- all numbers of the row, and of these the sums
-  abbrev all : List ℕ
-  all = block_sums l x ++ string_sums l x ++ checks l x
-
-  abbrev sums : List ℕ
-  sums = block_sums l x ++ string_sums l x
-
-  in_parts : same all
-      numbers ≡ (same sums (take (l.l1 + l.l2) numbers) && same (checks l x) (drop (l.l1 + l.l2) numbers))
+  in_parts : same (sums l x ++ checks l x) numbers
+      ≡ (same (sums l x) (take (l.l1 + l.l2) numbers) && same (checks l x) (drop (l.l1 + l.l2) numbers))
   in_parts =
       let n : length (take (l.l1 + l.l2) numbers) ≡ l.l1 + l.l2 =
       length-take-le (l.l1 + l.l2) numbers (omega arith) in
-      ap (same all) (sym (take-append-drop (l.l1 + l.l2) numbers))
-      ∙ same-append sums (take (l.l1 + l.l2) numbers) (checks l x) (drop (l.l1 + l.l2) numbers)
+      ap (same (sums l x ++ checks l x)) (sym (take-append-drop (l.l1 + l.l2) numbers))
+      ∙ same-append (sums l x) (take (l.l1 + l.l2) numbers) (checks l x) (drop (l.l1 + l.l2) numbers)
       (length-sums l x ∙ sym n)
 
-  front : take (l.l1 + l.l2 - 0) (drop 0 numbers) ≡ take (l.l1 + l.l2) numbers
-  front =
-      let e : l.l1 + l.l2 - 0 ≡ l.l1 + l.l2 = omega arith in
-      ap (λ (n : ℕ). take n numbers) e
-
   -- other sums settle it
-  pub sums_differ : same sums (take (l.l1 + l.l2 - 0) (drop 0 numbers)) ≡ false → false ≡ same all numbers
-  sums_differ e =
-      sym (in_parts
-      ∙ ap (λ (b : Bool). b && same (checks l x) (drop (l.l1 + l.l2) numbers)) (ap (same sums) (sym front) ∙ e))
+  pub sums_differ : same (sums l x) (take (l.l1 + l.l2) numbers) ≡ false → false ≡ same (sums l x ++ checks l x) numbers
+  sums_differ e = sym (in_parts ∙ ap (λ (b : Bool). b && same (checks l x) (drop (l.l1 + l.l2) numbers)) e)
 
   -- where the sums are the same, the checks decide
-  pub sums_same : same sums (take (l.l1 + l.l2 - 0) (drop 0 numbers)) ≡ true
-      → same (checks l x) (take (length numbers - (l.l1 + l.l2)) (drop (l.l1 + l.l2) numbers)) ≡ same all numbers
-  sums_same e =
-      ap (same (checks l x)) (part_to_end numbers (l.l1 + l.l2))
-      ∙ sym (in_parts
-      ∙ ap (λ (b : Bool). b && same (checks l x) (drop (l.l1 + l.l2) numbers)) (ap (same sums) (sym front) ∙ e))
+  pub sums_same : same (sums l x) (take (l.l1 + l.l2) numbers) ≡ true
+      → same (checks l x) (drop (l.l1 + l.l2) numbers) ≡ same (sums l x ++ checks l x) numbers
+  sums_same e = sym (in_parts ∙ ap (λ (b : Bool). b && same (checks l x) (drop (l.l1 + l.l2) numbers)) e)
 
 -- ---- the whole test
 -- for a fit message, its numbers and a row of its length, the test of a candidate is that of the definition

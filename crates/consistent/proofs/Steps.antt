@@ -73,21 +73,13 @@ comes_is x y r h e =
 pub whole_eats : (p y : List ℕ) → p ≡ take (length p) y → eat p y ≡ drop (length p) y
 whole_eats p y e = (piece (length p) 0 p y refl (reads_whole p y e)).rest ∙ ap (λ (n : ℕ). drop n y) (sub-zero (length p))
 
--- what is left to be matched after the piece of x from i up to e, which takes r bits of y from place at on; the code
--- has both as parts of their slices
-pub piece_eaten : (x y : List ℕ) (i e at r : ℕ) → i ≤ e → at ≤ length y
+-- what is left to be matched after a piece, which takes r bits of y from place at on; the code has these as a part of y
+pub piece_eaten : (p x y : List ℕ) (at r : ℕ) → at ≤ length y
     → (r ≤ length (take (length y - at) (drop at y)))
-    × (eat (take (e - i) (drop i x)) (take (length y - at) (drop at y)) ≡ drop r (take (length y - at) (drop at y)))
-    → (at + r ≤ length y) × (eat (drop e x) (drop (at + r) y) ≡ eat (drop i x) (drop at y))
-piece_eaten x y i e at r h k f =
-    let p : List ℕ = take (e - i) (drop i x) in
-    let g : (r ≤ length (drop at y)) × (eat p (drop at y) ≡ drop r (drop at y)) = rw (part_to_end y at) at f in
-    let n : i + (e - i) ≡ e = omega arith in
-    let d : drop i x ≡ p ++ drop e x =
-    sym (take-append-drop (e - i) (drop i x))
-    ∙ ap (λ (t : List ℕ). p ++ t) (drop-drop (e - i) i x ∙ ap (λ (m : ℕ). drop m x) n)
-    in (
+    × (eat p (take (length y - at) (drop at y)) ≡ drop r (take (length y - at) (drop at y)))
+    → (at + r ≤ length y) × (eat x (drop (at + r) y) ≡ eat (p ++ x) (drop at y))
+piece_eaten p x y at r k f =
+    let g : (r ≤ length (drop at y)) × (eat p (drop at y) ≡ drop r (drop at y)) = rw (part_to_end y at) at f in (
       omega (arith, g.0, length-drop at y),
-      sym (ap (λ (t : List ℕ). eat t (drop at y)) d ∙ eat-append p (drop e x) (drop at y)
-          ∙ ap (eat (drop e x)) (g.1 ∙ drop-drop r at y)),
+      sym (eat-append p x (drop at y) ∙ ap (eat x) (g.1 ∙ drop-drop r at y)),
     )

@@ -43,20 +43,19 @@ module _ (l : Layout) (x : List ℕ) (a : AllBits x) (cs : List ℕ) (e : cs ≡
 
 -- at the front of an array, lent
 module _ (l : Layout) (x : List ℕ) (a : AllBits x) (q z : List ℕ) (e : q ≡ map (number l.nc) (chunks l x) ++ z) where
-  chunks-lent : take (l.l1 * l.l2 - 0) q ≡ map (number l.nc) (chunks l x)
+  chunks-lent : take (l.l1 * l.l2) q ≡ map (number l.nc) (chunks l x)
   chunks-lent =
-      let n : l.l1 * l.l2 - 0 ≡ l.l1 * l.l2 = omega arith in
-      rw (e, n) (take_at (map (number l.nc) (chunks l x)) z (l.l1 * l.l2)
+      rw e (take_at (map (number l.nc) (chunks l x)) z (l.l1 * l.l2)
       (ap length (chunk-numbers l x) ∙ length_fields (l.l1 * l.l2) l.nc x))
 
-  pub chunks_elements : Elements l.nc (take (l.l1 * l.l2 - 0) q)
+  pub chunks_elements : Elements l.nc (take (l.l1 * l.l2) q)
   chunks_elements = numbers_elements l x a _ chunks-lent
 
-  pub length_lent : length (take (l.l1 * l.l2 - 0) q) ≡ l.l1 * l.l2
+  pub length_lent : length (take (l.l1 * l.l2) q) ≡ l.l1 * l.l2
   length_lent = length-numbers l x a _ chunks-lent
 
   -- the row that they make
-  pub row_again : row_bits l ≤ length x → row_of l.nc (take (l.l1 * l.l2 - 0) q) ≡ take (row_bits l) x
+  pub row_again : row_bits l ≤ length x → row_of l.nc (take (l.l1 * l.l2) q) ≡ take (row_bits l) x
   row_again h = row_of_numbers l x a _ chunks-lent h
 
 -- the chunks of the row that numbers make are these numbers

@@ -10,9 +10,9 @@ ghost use Rattle.message.specs.Chunks.{row_of};
 ghost use Rattle.message.specs.Message.{fields_length, message_bytes, sums, block_sums, string_sums, checks, head, field_bits, message};
 ghost use Rattle.message.specs.Write.{written_of, write_answer, write_target};
 
+use crate::Layout;
 use crate::chunks::{self, Row};
 use crate::layouts::{self, Legal};
-use crate::Layout;
 use bits::Filler;
 use refusal::Refusal;
 
@@ -123,6 +123,7 @@ fn put_message(l: Legal, row: &[u8], out: &mut [u8])
 }
 
 // Writes the message of a packed row to the start of a slice. The layout's numbers may be any.
+#[tactic(auto, unfolding(crate::specs::Write::write_answer, crate::specs::Write::write_target, crate::specs::Write::write_refusal), using(crate::proofs::Legal::legal_bounds))]
 pub fn write(layout: Layout, row: &[u8], out: &mut [u8]) -> Result<usize, Refusal>
     ensures { (written_of result ≡ write_answer layout row.now (length out.old))
         × (out.new ≡ write_target layout row.now out.old) }

@@ -4,4 +4,7 @@ use Rattle.consistent.specs.Greedy.{eat}
 use Rattle.consistent.proofs.comes.Given as goal
 
 abbrev pub invariant-loop-piece : goal.invariant-loop-piece
-invariant-loop-piece l = ?
+invariant-loop-piece l = record {
+  within : l.at ≤ length l.y;
+  left : eat l.piece-iterator.rest.now (drop l.at l.y) ≡ eat l.x l.y;
+}

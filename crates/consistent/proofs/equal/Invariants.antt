@@ -1,7 +1,10 @@
 -- The loop's invariant: whether the two are equal is up to what is left of them.
-use Rattle.std.proofs.Common.{◌≡◌, length, drop}
+use Rattle.std.proofs.Common.{◌≡◌, length}
 use Rattle.bits.specs.Bits.{same}
 use Rattle.consistent.proofs.equal.Given as goal
 
 abbrev pub invariant-loop-value : goal.invariant-loop-value
-invariant-loop-value l = same (drop (length l.yielded) l.values) (drop (length l.yielded) l.numbers) ≡ same l.values l.numbers
+invariant-loop-value l = record {
+  as_long : length l.value-iterator.a.rest.now ≡ length l.value-iterator.b.rest.now;
+  left : same l.value-iterator.a.rest.now l.value-iterator.b.rest.now ≡ same l.values l.numbers;
+}

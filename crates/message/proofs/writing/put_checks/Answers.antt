@@ -21,9 +21,3 @@ loop-v-preserved c =
     let p = c.loop-v in
     placed-next a.start a.out.now a.nc a.values.now p.v-index p.f p.out p.invariant (omega arith) _ c.from.ensures _ _
     c.put-f.ensures
-
-pub returns : goal.returns
-returns c =
-    let a = c.args in
-    let p = c.loop-v in
-    placed_end a.start a.out.now a.nc a.values.now p.v-index p.f p.out p.invariant (omega arith)

@@ -25,8 +25,7 @@ pub fill-requires : goal.fill-requires
 fill-requires c =
     let l = c.args.l in
     let e = enough l.layout c.args.row.now c.args.out.now l.is_legal c.requires.0 c.requires.1 in
-    let n = length-front l.layout c.args.row.now c.args.out.now l.is_legal c.requires.0 c.requires.1 blank (omega arith) in
-    (
+    let n = length-front l.layout c.args.row.now c.args.out.now l.is_legal c.requires.0 c.requires.1 blank (omega arith) in (
       ((legal_bounds l.layout l.is_legal).nc_high, omega (arith, e.1, fits-length (row_bits l.layout) c.args.row.now c.requires.0)),
       rw n e.0,
     )

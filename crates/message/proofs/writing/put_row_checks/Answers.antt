@@ -23,4 +23,3 @@ put_checks-requires c =
     let n : length (take r.layout.r c.fill_checks.new.out) ≡ r.layout.r =
     ap length c.fill_checks.ensures ∙ length-checks r.layout (row_of r.layout.nc r.chunks.now) in
     (omega (arith, b.nc_high), (c.requires.0, rw n c.requires.1))
-

@@ -42,13 +42,3 @@ loop-i-preserved c =
     rw next
     (placed-next a.start a.out.now a.k vs (p.i - a.first) p.f p.out p.invariant (omega arith) _
     (c.sum.ensures ∙ sum_of_part r.layout x a.first a.count p.i (omega arith) (omega arith)) _ _ c.put-f.ensures)
-
-pub returns : goal.returns
-returns c =
-    let a = c.args in
-    let r = c.args.row.now in
-    let p = c.loop-i in
-    let x = row_of r.layout.nc r.chunks.now in
-    let vs = take a.count (drop a.first (sums r.layout x)) in
-    let n : length vs ≡ a.count = length_part r.layout x a.first a.count (omega arith) in
-    placed_end a.start a.out.now a.k vs (p.i - a.first) p.f p.out p.invariant (omega arith)
