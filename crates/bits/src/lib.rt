@@ -2,7 +2,7 @@
 // field by field through a filler, both passed by value. Contracts cite specs/Bits.antt and specs/Filling.antt.
 #![tactic(auto)]
 
-ghost use Rattle.std.specs.Prelude.{◌≡◌, ◌++◌, ◌+◌, ◌-◌, ◌*◌, ◌/◌, ◌%◌, ◌^◌, ◌<◌, ◌≤◌, min, length, take, drop, get_or};
+ghost use Rattle.std.specs.Prelude.{◌≡◌, ◌++◌, ◌+◌, ◌-◌, ◌*◌, ◌/◌, ◌%◌, ◌^◌, ◌<◌, ◌≤◌, length, take, drop, get_or};
 ghost use Rattle.bits.specs.Filling.{filled, Ready, Goes};
 ghost use Rattle.bits.specs.Bits.{AllBits, longest, number, digits, bytes, bytes_for, pack as packed, unpack as unpacked, fits as fit};
 
@@ -22,7 +22,7 @@ pub const LONGEST_LINE: usize = 2040;
 pub fn wide(b: u8) -> usize
     ensures { result ≡ b }
 {
-    b as usize
+    usize::from(b)
 }
 
 // 2 to the power k.
@@ -40,11 +40,7 @@ pub fn copy_to(part: &[u8], out: &mut [u8], at: usize)
         ≡ take at out.old ++ part.now
         ++ drop (at + length part.now) out.old }
 {
-    let mut i: usize = 0;
-    while i < part.len() {
-        out[at + i] = part[i];
-        i += 1;
-    }
+    out[at..at + part.len()].copy_from_slice(part);
 }
 
 // Bit i of packed bytes.
@@ -77,10 +73,8 @@ fn unpack_bytes(s: &[u8], n: usize, out: &mut [u8])
     requires { (n ≤ length s.now) × (n * 8 ≤ length out.old) }
     ensures { out.new ≡ take (n * 8) (unpacked s.now) ++ drop (n * 8) out.old }
 {
-    let mut i: usize = 0;
-    while i < n {
-        unpack_byte(s[i], out, i * 8);
-        i += 1;
+    for (i, b) in s[..n].iter().enumerate() {
+        unpack_byte(*b, out, i * 8);
     }
 }
 
@@ -91,11 +85,8 @@ fn unpack_part(s: &[u8], from: usize, to: usize, out: &mut [u8])
         ≡ take from out.old ++ take (to - from) (drop from (unpacked s.now))
         ++ drop (from + (to - from)) out.old }
 {
-    let n = to - from;
-    let mut i: usize = 0;
-    while i < n {
-        out[from + i] = bit_at(s, from + i);
-        i += 1;
+    for i in from..to {
+        out[i] = bit_at(s, i);
     }
 }
 
@@ -115,8 +106,8 @@ fn four_bits(bits: &[u8], at: usize) -> usize
     requires { AllBits bits.now × (at + 4 ≤ length bits.now) }
     ensures { (result ≡ number 4 (drop at bits.now)) × (result < 16) }
 {
-    let low = bits[at] as usize + bits[at + 1] as usize * 256;
-    let high = bits[at + 2] as usize + bits[at + 3] as usize * 256;
+    let low = usize::from(bits[at]) + usize::from(bits[at + 1]) * 256;
+    let high = usize::from(bits[at + 2]) + usize::from(bits[at + 3]) * 256;
     (low + high * 65536) * 134480385 / 16777216 % 16
 }
 
@@ -133,16 +124,11 @@ fn last_byte(bits: &[u8], at: usize) -> u8
     requires { AllBits bits.now × (at < length bits.now) }
     ensures { result ≡ number 8 (drop at bits.now) }
 {
-    let mut v: u8 = 0;
-    let mut j: usize = 0;
-    while j < 8 {
-        v = v * 2;
-        if j < bits.len() - at {
-            v += bits[at + j];
-        }
-        j += 1;
+    let mut v = 0;
+    for j in 0..8 {
+        v = v * 2 + byte_at(bits, at + j);
     }
-    v
+    v as u8
 }
 
 // The first n whole bytes of a string, at the start of a slice.
@@ -150,10 +136,8 @@ fn pack_bytes(bits: &[u8], n: usize, out: &mut [u8])
     requires { AllBits bits.now × ((n * 8 ≤ length bits.now) × (n ≤ length out.old)) }
     ensures { out.new ≡ bytes n bits.now ++ drop n out.old }
 {
-    let mut i: usize = 0;
-    while i < n {
-        out[i] = whole_byte(bits, i * 8);
-        i += 1;
+    for (i, b) in out[..n].iter_mut().enumerate() {
+        *b = whole_byte(bits, i * 8);
     }
 }
 
@@ -176,12 +160,11 @@ pub fn fits(w: usize, s: &[u8]) -> bool
     requires { w ≤ longest }
     ensures { result ≡ fit w s.now }
 {
-    let n = (w + 7) / 8;
+    let n = w.div_ceil(8);
     if s.len() != n {
         return false;
     }
-    let end = BitCursor { at: w };
-    let spare = end.take(s, n * 8 - w);
+    let spare = BitCursor { at: w }.take(s, n * 8 - w);
     spare.value == 0
 }
 
@@ -189,7 +172,7 @@ pub fn fits(w: usize, s: &[u8]) -> bool
 pub fn byte_at(s: &[u8], i: usize) -> usize
     ensures { (result ≡ get_or s.now i 0) × (result < 256) }
 {
-    if i < s.len() { wide(s[i]) } else { 0 }
+    s.get(i).map_or(0, |b| usize::from(*b))
 }
 
 // Four bytes from a place on, as a number.
@@ -197,7 +180,7 @@ fn four_bytes(s: &[u8], i: usize) -> usize
     requires { i + 4 ≤ length s.now }
     ensures { (result ≡ number 32 (drop (i * 8) (unpacked s.now))) × (result < 2 ^ 32) }
 {
-    wide(s[i]) * 16777216 + wide(s[i + 1]) * 65536 + wide(s[i + 2]) * 256 + wide(s[i + 3])
+    u32::from_be_bytes([s[i], s[i + 1], s[i + 2], s[i + 3]]) as usize
 }
 
 // The first four bytes as a number; past the end stands 0.
@@ -205,17 +188,6 @@ fn first_bytes(s: &[u8]) -> usize
     ensures { (result ≡ number 32 (unpacked s.now)) × (result < 2 ^ 32) }
 {
     byte_at(s, 0) * 16777216 + byte_at(s, 1) * 65536 + byte_at(s, 2) * 256 + byte_at(s, 3)
-}
-
-// The first of the four bytes in which a field lies: the field's own first byte, or the fourth from the end where that comes
-// first. There are n bytes.
-fn start_of(n: usize, at: usize) -> usize
-    requires { 4 ≤ n }
-    ensures { result ≡ min (at / 8) (n - 4) }
-{
-    let first = at / 8;
-    let last = n - 4;
-    if first < last { first } else { last }
 }
 
 // Bits on their way into packed bytes: so many bytes are whole, and the bits behind them are held as a number.
@@ -297,7 +269,9 @@ impl BitCursor {
     {
         let at = self.at;
         let end = at + k;
-        let i = start_of(s.len(), at);
+        // the first of the four bytes in which the field lies: its own first byte, or the fourth from the end where that
+        // comes first
+        let i = (at / 8).min(s.len() - 4);
         cut(four_bytes(s, i), (i + 4) * 8 - end, k, end)
     }
 

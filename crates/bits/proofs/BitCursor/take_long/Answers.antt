@@ -1,0 +1,14 @@
+-- What the tactics leave open of `bits::BitCursor::take_long`.
+use Rattle.std.proofs.Common.{◌+◌, ◌-◌, ◌*◌, ℕ, ◌∙◌, arith}
+use Rattle.bits.specs.Bits.{unpack}
+use Rattle.bits.proofs.Laws.{bits-unpack}
+use Rattle.bits.proofs.Spans.{number_in_four}
+use Rattle.bits.proofs.BitCursor.take_long.Goals as goal
+
+pub returns : goal.returns
+returns c =
+    let a = c.args in
+    let i : ℕ = c.min-i.result in
+    let behind : ℕ = (i + 4) * 8 - (a.self.at + a.k) in
+    let is = number_in_four i a.self.at a.k behind (unpack a.s.now) (bits-unpack a.s.now) (omega arith) (omega arith) in
+    (c.cut.ensures.0 ∙ rw c.four_bytes.ensures.0 is, c.cut.ensures.1)
