@@ -79,10 +79,6 @@ bit_at [] a i = omega arith
 bit_at (b ∷ x) a zero = a.0
 bit_at (b ∷ x) a (suc i) = bit_at x a.1 i
 
-pub bits_of-each : (x : List ℕ) → ((i : ℕ) → get_or x i 0 < 2) → AllBits x
-bits_of-each [] h = tt
-bits_of-each (b ∷ x) h = (h 0, bits_of-each x (λ i. h (suc i)))
-
 pub bits-append : (x y : List ℕ) → AllBits x → AllBits y → AllBits (x ++ y)
 bits-append [] y a b = b
 bits-append (v ∷ x) y a b = (a.0, bits-append x y a.1 b)

@@ -8,7 +8,12 @@ use mathlib.Core.List.{List, [], ◌∷◌, ◌++◌, map}
 use native.Mathlib.Omega.{arith}
 use borrow.Author.Tests.{leb-true, leb-false, eqb-true, eqb-false}
 use lib.Dec.{is_le, compare_is_eq}
-use Rattle.rows.specs.Order.{Less, by_order, order, Mem, Before, After, Ascending, Row}
+use Rattle.std.specs.Cmp.{nat_cmp_is}
+use Rattle.std.specs.Cmp.Lexicographic.{slice_cmp}
+use Rattle.std.specs.Ordering.{nat_cmp, ordering_then}
+use Rattle.std.specs.declared.cmp.Ordering.{Ordering as Answer}
+use Rattle.std.specs.declared.cmp.Ordering.TheVariants.{Less as before, Equal as same, Greater as after}
+use Rattle.rows.specs.Order.{Less, by_order, order, Mem, Before, Ascending, Row}
 use Rattle.rows.specs.Rows.{all_rows, keep}
 
 -- ---- the order
@@ -105,6 +110,27 @@ answer x y o h = go (order x y) o (compared x y) h
     go Ordering.gt Ordering.eq u v = absurd (more-not u v)
     go Ordering.gt Ordering.gt u v = refl
 
+-- the answer as std names it: it is that of comparing slices of bytes
+abbrev pub answered : Ordering → Answer
+answered o = by_order o before same after
+
+pub slices_compared : (x y : List ℕ) → slice_cmp nat_cmp x y ≡ answered (order x y)
+unfolding order
+slices_compared [] [] = refl
+slices_compared [] (b ∷ y) = refl
+slices_compared (a ∷ x) [] = refl
+slices_compared (a ∷ x) (b ∷ y) = go (compare a b) (compared_n a b) (slices_compared x y)
+  where
+    first : (r : Answer) → r ≡ nat_cmp a b
+        → ordering_then (nat_cmp a b) (slice_cmp nat_cmp x y) ≡ ordering_then r (slice_cmp nat_cmp x y)
+    first r e = ap (λ (o : Answer). ordering_then o (slice_cmp nat_cmp x y)) (sym e)
+
+    go : (o : Ordering) → ComparedN a b o → slice_cmp nat_cmp x y ≡ answered (order x y)
+        → ordering_then (nat_cmp a b) (slice_cmp nat_cmp x y) ≡ answered (by_order o Ordering.lt (order x y) Ordering.gt)
+    go Ordering.lt h e = first before (nat_cmp_is a b before h)
+    go Ordering.eq h e = first same (nat_cmp_is a b same h) ∙ e
+    go Ordering.gt h e = first after (nat_cmp_is a b after h)
+
 pub order-less : (x y : List ℕ) → order x y ≡ Ordering.lt → Less x y
 order-less x y e = subst (λ (o : Ordering). Compared x y o) e (compared x y)
 
@@ -116,19 +142,6 @@ pub mem_before : (x y : List ℕ) (ys : List (List ℕ)) → Before x ys → Mem
 mem_before x y [] b m = absurd m
 mem_before x y (z ∷ zs) b (inl e) = subst (λ (v : List ℕ). Less x v) (sym e) b.0
 mem_before x y (z ∷ zs) b (inr m) = mem_before x y zs b.1 m
-
-pub mem_after : (x y : List ℕ) (ys : List (List ℕ)) → After ys x → Mem y ys → Less y x
-mem_after x y [] a m = absurd m
-mem_after x y (z ∷ zs) a (inl e) = subst (λ (v : List ℕ). Less v x) (sym e) a.0
-mem_after x y (z ∷ zs) a (inr m) = mem_after x y zs a.1 m
-
-pub after_of : (x : List ℕ) (ys : List (List ℕ)) → ((y : List ℕ) → Mem y ys → Less y x) → After ys x
-after_of x [] h = tt
-after_of x (y ∷ ys) h = (h y (inl refl), after_of x ys (λ z m. h z (inr m)))
-
-pub before_of : (x : List ℕ) (ys : List (List ℕ)) → ((y : List ℕ) → Mem y ys → Less x y) → Before x ys
-before_of x [] h = tt
-before_of x (y ∷ ys) h = (h y (inl refl), before_of x ys (λ z m. h z (inr m)))
 
 pub mem_left : (z : List ℕ) (a b : List (List ℕ)) → Mem z a → Mem z (a ++ b)
 mem_left z [] b m = absurd m

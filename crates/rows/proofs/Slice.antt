@@ -1,20 +1,23 @@
 -- Rows in a slice, and where a row goes. Assumes nothing.
-use Prim.Native.Nat.{ℕ, zero, suc, ◌+◌, ◌*◌, ◌-◌, ◌<◌, ◌≤◌, compare, Ordering}
+use Prim.Native.Nat.{ℕ, zero, suc, ◌+◌, ◌*◌, ◌-◌, ◌<◌, ◌≤◌, Ordering}
 use mathlib.Core.Path.{◌≡◌, refl, sym, ap, ◌∙◌, subst}
-use mathlib.Core.Bool.{Bool}
+use mathlib.Core.Bool.{Bool, true, false, true≢false}
 use mathlib.Core.Logic.{inl, inr}
 use mathlib.Core.List.{List, [], ◌∷◌, ◌++◌, append_assoc}
 use native.Mathlib.Nat.{suc-mul, zero-mul, mul-le-mul_right}
 use native.Mathlib.Numerals.{add-one}
 use native.Mathlib.Omega.{arith}
-use lib.ListN.{length, take, drop, get_or, set, length-append, length-drop, take-append-drop, drop_of_length-le, get_or-append}
+use lib.ListN.{length, take, drop, get_or, set, length-append, length-drop, take-append-drop, get_or-append}
 use lib.Seq.{take_at, take-append-le, drop-append-le, drop_at, drop-drop, take-take, take-add, take-suc, drop-cons, get_or-take, set_at, append_snoc, length-take-le, drop-append-add}
+use Rattle.std.specs.declared.cmp.Ordering.{Ordering as Answer}
+use Rattle.std.specs.Bool.{◌==◌}
+use Rattle.std.specs.Ordering.{ordering_index}
 use Rattle.bits.specs.Bits.{cut}
 use Rattle.rows.specs.Held.{Held, insert}
 use Rattle.rows.specs.Order.{Less, by_order, order, Mem, Ascending}
 use Rattle.rows.specs.Slice.{flat, held_in, Written, place}
 use Rattle.rows.proofs.Held.{insert_held}
-use Rattle.rows.proofs.Order.{less_trans, Compared, compared, answer, ComparedN, answer_n, order_same, mem_before}
+use Rattle.rows.proofs.Order.{answered, less_trans, Compared, compared, answer, order_same, mem_before}
 
 -- ---- the place of a row among ordered rows
 row_mem : (m : ℕ) (ys : List (List ℕ)) → m < length ys → Mem (get_or ys m []) ys
@@ -186,48 +189,6 @@ written-written w g h entry mid exit c d m o a le r s =
     in
     record { slice = s.slice ∙ ap (λ (l : List ℕ). flat h.rows ++ l) b; count = s.count; more = s.more }
 
--- ---- two rows compared byte by byte
--- the order of what is left of the row at a place of the slice and of x, from byte i on
-abbrev pub From : (s : List ℕ) (at : ℕ) (x : List ℕ) (i : ℕ) → Ordering
-From s at x i = order (take (length x - i) (drop (at + i) s)) (drop i x)
-
-pub from_start : (s : List ℕ) (at : ℕ) (x : List ℕ) → From s at x 0 ≡ order (take (length x) (drop at s)) x
-from_start s at x =
-    let e : length x - 0 ≡ length x = omega arith in
-    let f : at + 0 ≡ at = omega arith in
-    rw (e, f) refl
-
-pub from_end : (s : List ℕ) (at : ℕ) (x : List ℕ) (i : ℕ) → i ≡ length x → From s at x i ≡ Ordering.eq
-unfolding order
-from_end s at x i h =
-    let e : length x - i ≡ 0 = omega arith in
-    rw (e, drop_of_length-le x {i = i} (omega arith)) refl
-
-module _ (s : List ℕ) (at : ℕ) (x : List ℕ) (i : ℕ) (fits : at + length x ≤ length s) (h : i < length x) where
-  from_step : From s at x i ≡ by_order (compare (get_or s (at + i) 0) (get_or x i 0)) Ordering.lt (From s at x (i + 1))
-      Ordering.gt
-  unfolding order
-  from_step =
-      let e : length x - i ≡ suc (length x - suc i) = omega arith in
-      let f : at + suc i ≡ suc (at + i) = omega arith in
-      rw (add-one i, e, f, drop-cons s (at + i) 0 (omega arith), drop-cons x i 0 h) refl
-
-  from-by : (o : Ordering) → ComparedN (get_or s (at + i) 0) (get_or x i 0) o
-      → From s at x i ≡ by_order o Ordering.lt (From s at x (i + 1)) Ordering.gt
-  from-by o l =
-      from_step
-      ∙ ap (λ (p : Ordering). by_order p Ordering.lt (From s at x (i + 1)) Ordering.gt)
-      (answer_n (get_or s (at + i) 0) (get_or x i 0) o l)
-
-  pub from_less : get_or s (at + i) 0 < get_or x i 0 → From s at x i ≡ Ordering.lt
-  from_less l = from-by Ordering.lt l
-
-  pub from_more : get_or x i 0 < get_or s (at + i) 0 → From s at x i ≡ Ordering.gt
-  from_more l = from-by Ordering.gt l
-
-  pub from_next : get_or s (at + i) 0 ≡ get_or x i 0 → From s at x i ≡ From s at x (i + 1)
-  from_next l = from-by Ordering.eq l
-
 -- ---- bytes moved up by w, from the last down to byte i
 abbrev pub Moved : (s : List ℕ) (to w i : ℕ) → List ℕ
 Moved s to w i = take (i + w) s ++ (take (to - i) (drop i s) ++ drop (to + w) s)
@@ -252,14 +213,6 @@ module _ (s : List ℕ) (to w i : ℕ) (fits : to + w ≤ length s) (low : i < t
       let r : List ℕ = take (to - suc i) (drop (suc i) s) ++ drop (to + w) s in
       rw (e, add-one i, f, take-suc s (i + w) 0 (omega arith), drop-cons s i 0 (omega arith), append_snoc)
       (set_at (take (i + w) s) (get_or s (i + w) 0) r (get_or s i 0) (i + w) (length-take-le (i + w) s (omega arith)))
-
--- as many bytes stand there as before
-pub length_moved : (s : List ℕ) (to w i : ℕ) → i ≤ to → to + w ≤ length s → length (Moved s to w i) ≡ length s
-length_moved s to w i low fits =
-    let a = length-take-le (i + w) s (omega arith) in
-    let b = length-take-le (to - i) (drop i s) (omega (arith, length-drop i s)) in
-    length-append (take (i + w) s) (take (to - i) (drop i s) ++ drop (to + w) s)
-    ∙ omega (arith, a, b, length-append (take (to - i) (drop i s)) (drop (to + w) s), length-drop (to + w) s)
 
 -- a part of the bytes that stand before those moved is still the one at entry
 part_of : (p r : List ℕ) (n k : ℕ) → k + n ≤ length p → take n (drop k (p ++ r)) ≡ take n (drop k p)
@@ -292,22 +245,34 @@ moved_part s to w i k fits low high =
     rw (a, b, c, d, append_assoc) refl
 
 -- ---- the place of a row, found by halving
--- what the answer of a comparison says
-pub answered_less : (o : Ordering) (r : ℕ) → r ≡ by_order o 0 1 2 → r ≡ 0 → o ≡ Ordering.lt
-answered_less Ordering.lt r e z = refl
-answered_less Ordering.eq r e z = absurd (omega arith)
-answered_less Ordering.gt r e z = absurd (omega arith)
+-- what a test of the answer of a comparison says
+module _ (o : Ordering) (r : Answer) (e : r ≡ answered o) where
+  number : (k : ℕ) → (ordering_index r == k) ≡ (ordering_index (answered o) == k)
+  number k = ap (λ (a : Answer). ordering_index a == k) e
 
-pub answered_not_less : (o : Ordering) (r : ℕ) → r ≡ by_order o 0 1 2 → (r ≡ 0 → ⊥) → o ≡ Ordering.lt → ⊥
-answered_not_less o r e n l = n (e ∙ ap (λ (p : Ordering). by_order p 0 1 2) l)
+  pub answered_less : true ≡ (ordering_index r == 0) → o ≡ Ordering.lt
+  answered_less h = go o (h ∙ number 0)
+    where
+      go : (p : Ordering) → true ≡ (ordering_index (answered p) == 0) → p ≡ Ordering.lt
+      go Ordering.lt z = refl
+      go Ordering.eq z = absurd (true≢false z)
+      go Ordering.gt z = absurd (true≢false z)
 
-pub answered_same : (o : Ordering) (r : ℕ) → r ≡ by_order o 0 1 2 → r ≡ 1 → o ≡ Ordering.eq
-answered_same Ordering.lt r e z = absurd (omega arith)
-answered_same Ordering.eq r e z = refl
-answered_same Ordering.gt r e z = absurd (omega arith)
+  pub answered_not_less : false ≡ (ordering_index r == 0) → o ≡ Ordering.lt → ⊥
+  answered_not_less h l =
+      true≢false (sym (h ∙ number 0 ∙ ap (λ (p : Ordering). ordering_index (answered p) == 0) l))
 
-pub answered_not_same : (o : Ordering) (r : ℕ) → r ≡ by_order o 0 1 2 → (r ≡ 1 → ⊥) → o ≡ Ordering.eq → ⊥
-answered_not_same o r e n l = n (e ∙ ap (λ (p : Ordering). by_order p 0 1 2) l)
+  pub answered_same : true ≡ (ordering_index r == 1) → o ≡ Ordering.eq
+  answered_same h = go o (h ∙ number 1)
+    where
+      go : (p : Ordering) → true ≡ (ordering_index (answered p) == 1) → p ≡ Ordering.eq
+      go Ordering.lt z = absurd (true≢false z)
+      go Ordering.eq z = refl
+      go Ordering.gt z = absurd (true≢false z)
+
+  pub answered_not_same : false ≡ (ordering_index r == 1) → o ≡ Ordering.eq → ⊥
+  answered_not_same h l =
+      true≢false (sym (h ∙ number 1 ∙ ap (λ (p : Ordering). ordering_index (answered p) == 1) l))
 
 -- a row below the count lies in the bytes of the rows
 pub row_fits : (i c w : ℕ) → i < c → i * w + w ≤ c * w
@@ -321,34 +286,20 @@ pub order-at : (s : List ℕ) (c : ℕ) (x : List ℕ) (m : ℕ) → m < c
     → order (get_or (cut c (length x) s) m []) x ≡ OrderAt s m x
 order-at s c x m low = ap (λ (v : List ℕ). order v x) (row_at (length x) m c s low)
 
-module _ (s : List ℕ) (c : ℕ) (x : List ℕ) (m r : ℕ) (low : m < c) (e : r ≡ by_order (OrderAt s m x) 0 1 2) where
+module _ (s : List ℕ) (c : ℕ) (x : List ℕ) (m : ℕ) (r : Answer) (low : m < c) (e : r ≡ answered (OrderAt s m x)) where
   in_rows : m < length (cut c (length x) s)
   in_rows = rw length_cut low
 
-  pub place_up : Ascending (cut c (length x) s) → r ≡ 0 → m + 1 ≤ place x (cut c (length x) s)
+  pub place_up : Ascending (cut c (length x) s) → true ≡ (ordering_index r == 0) → m + 1 ≤ place x (cut c (length x) s)
   place_up a z =
       let p =
       place-above x m (cut c (length x) s) a in_rows (order-at s c x m low ∙ answered_less (OrderAt s m x) r e z) in
       omega arith
 
-  pub place_down : (r ≡ 0 → ⊥) → place x (cut c (length x) s) ≤ m
+  pub place_down : false ≡ (ordering_index r == 0) → place x (cut c (length x) s) ≤ m
   place_down n =
       place-below x m (cut c (length x) s) in_rows
       (λ l. answered_not_less (OrderAt s m x) r e n (sym (order-at s c x m low) ∙ l))
 
 pub place-count : (s : List ℕ) (c : ℕ) (x : List ℕ) → place x (cut c (length x) s) ≤ c
 place-count s c x = let p = place-length x (cut c (length x) s) in omega (arith, length_cut (length x) c s)
-
--- ---- a row put in at a place
--- the bytes moved up, and then the row written
-pub moved_written : (s x : List ℕ) (at to : ℕ) → at ≤ to → to + length x ≤ length s
-    → take at (Moved s to (length x) at) ++ (x ++ drop (at + length x) (Moved s to (length x) at))
-    ≡ take at s ++ (x ++ (take (to - at) (drop at s) ++ drop (to + length x) s))
-moved_written s x at to h k =
-    let w : ℕ = length x in
-    let l : length (take (at + w) s) ≡ at + w = length-take-le (at + w) s (omega arith) in
-    let r : List ℕ = take (to - at) (drop at s) ++ drop (to + w) s in
-    let a : take at (take (at + w) s ++ r) ≡ take at s =
-    take-append-le at (take (at + w) s) r (omega arith) ∙ take-take at (at + w) s (omega arith) in
-    let b : drop (at + w) (take (at + w) s ++ r) ≡ r = drop_at (take (at + w) s) r (at + w) l in
-    cc

@@ -11,22 +11,26 @@ use borrow.Author.Tests.{lt-ltb, le-ltb}
 use lib.Dec.{ltb}
 use lib.ListN.{length, take, drop, get_or, length-append, length-take, length-drop, take-append-drop}
 use lib.Seq.{take_all, take_at, take-append-add, length-take-le}
+use Rattle.std.specs.declared.cmp.Ordering.{Ordering as Answer}
+use Rattle.std.specs.Bool.{◌==◌}
+use Rattle.std.specs.Ordering.{ordering_index}
 use Rattle.bits.specs.Bits.{cut}
 use Rattle.rows.specs.Held.{Held, insert, union, add}
-use Rattle.rows.specs.Order.{by_order, order, Ascending}
+use Rattle.rows.specs.Order.{order, Ascending}
 use Rattle.rows.specs.Slice.{flat, held_in, Written, place}
 use Rattle.rows.proofs.Held.{or_true, or_false}
+use Rattle.rows.proofs.Order.{answered}
 use Rattle.rows.proofs.Slice.{place-length, insert-there, insert-place, length_cut, cut-take, cut-drop, flat-cut, flat_append, OrderAt, order-at, answered_same, answered_not_same}
 
 -- the row at the place p of x, if there is one, is not x
 abbrev pub Absent : (s : List ℕ) (c : ℕ) (x : List ℕ) (p : ℕ) → Type 0
 Absent s c x p = p < c → order (get_or (cut c (length x) s) p []) x ≡ Ordering.eq → ⊥
 
-module _ (s : List ℕ) (c : ℕ) (x : List ℕ) (p r : ℕ) (low : p < c) (e : r ≡ by_order (OrderAt s p x) 0 1 2) where
-  pub present : r ≡ 1 → order (get_or (cut c (length x) s) p []) x ≡ Ordering.eq
+module _ (s : List ℕ) (c : ℕ) (x : List ℕ) (p : ℕ) (r : Answer) (low : p < c) (e : r ≡ answered (OrderAt s p x)) where
+  pub present : true ≡ (ordering_index r == 1) → order (get_or (cut c (length x) s) p []) x ≡ Ordering.eq
   present one = order-at s c x p low ∙ answered_same (OrderAt s p x) r e one
 
-  pub absent_other : (r ≡ 1 → ⊥) → Absent s c x p
+  pub absent_other : false ≡ (ordering_index r == 1) → Absent s c x p
   absent_other n h q = answered_not_same (OrderAt s p x) r e n (sym (order-at s c x p low) ∙ q)
 
 pub absent_end : (s : List ℕ) (c : ℕ) (x : List ℕ) (p : ℕ) → c ≤ p → Absent s c x p

@@ -8,6 +8,8 @@ ghost use Rattle.rows.specs.Held.{add};
 ghost use Rattle.bits.specs.Bits.{cut};
 ghost use Rattle.rows.specs.Slice.{held_in, Written, place as placed};
 
+use std::cmp::Ordering;
+
 // How many rows the list slice holds, and whether more were found than fit.
 #[derive(Clone, Copy)]
 pub struct Kept {
@@ -15,26 +17,13 @@ pub struct Kept {
     pub more: bool,
 }
 
-// Whether the row at a place of the list slice comes before x (0), is x (1) or comes after x (2).
-pub fn compare(list: &[u8], at: usize, x: &[u8]) -> u8
+// Whether the row at a place of the list slice comes before x, is x or comes after x.
+#[tactic(auto, using(crate::proofs::Order::slices_compared))]
+pub fn compare(list: &[u8], at: usize, x: &[u8]) -> Ordering
     requires { at + length x.now ≤ length list.now }
-    ensures { result ≡ by_order (order (take (length x.now) (drop at list.now)) x.now) 0 1 2 }
+    ensures { result ≡ by_order (order (take (length x.now) (drop at list.now)) x.now) Ordering.Less Ordering.Equal Ordering.Greater }
 {
-    let w = x.len();
-    let mut left = w;
-    while 0 < left {
-        let i = w - left;
-        let a = list[at + i];
-        let b = x[i];
-        if a < b {
-            return 0;
-        }
-        if b < a {
-            return 2;
-        }
-        left -= 1;
-    }
-    1
+    list[at..at + x.len()].cmp(x)
 }
 
 // How many of the rows held come before x.
@@ -43,11 +32,11 @@ pub fn place(list: &[u8], count: usize, x: &[u8]) -> usize
     ensures { result ≡ placed x.now (cut count (length x.now) list.now) }
 {
     let w = x.len();
-    let mut low: usize = 0;
+    let mut low = 0;
     let mut high = count;
     while low < high {
         let mid = low + (high - low) / 2;
-        if compare(list, mid * w, x) == 0 {
+        if compare(list, mid * w, x) == Ordering::Less {
             low = mid + 1;
         } else {
             high = mid;
@@ -66,9 +55,9 @@ fn move_piece(list: &mut [u8], from: usize, w: usize)
         ++ (take 64 (drop from list.old) ++ drop (from + 64 + w) list.old) }
 {
     let end = from + PIECE;
-    let mut held: [u8; PIECE] = [0; PIECE];
-    bits::copy_to(&list[from..end], &mut held, 0);
-    bits::copy_to(&held, list, from + w);
+    let mut held = [0; PIECE];
+    held.copy_from_slice(&list[from..end]);
+    list[from + w..end + w].copy_from_slice(&held);
 }
 
 // The bytes from one place to another are moved up by w, one by one.
@@ -77,11 +66,8 @@ fn move_bytes(list: &mut [u8], from: usize, to: usize, w: usize)
     ensures { list.new ≡ take (from + w) list.old
         ++ (take (to - from) (drop from list.old) ++ drop (to + w) list.old) }
 {
-    let mut i = to;
-    while from < i {
-        i -= 1;
-        let b = list[i];
-        list[i + w] = b;
+    for i in (from..to).rev() {
+        list[i + w] = list[i];
     }
 }
 
@@ -107,7 +93,7 @@ fn put_row(list: &mut [u8], at: usize, to: usize, x: &[u8])
 {
     let w = x.len();
     move_up(list, at, to, w);
-    bits::copy_to(x, list, at);
+    list[at..at + w].copy_from_slice(x);
 }
 
 // Adds the row x to the rows held: it goes to its place in the order, once; of a full list the last row is pushed out.
@@ -122,10 +108,8 @@ pub fn insert(list: &mut [u8], kept: Kept, cap: usize, x: &[u8]) -> Kept
     let count = kept.count;
     let more = kept.more;
     let at = place(list, count, x);
-    if at < count {
-        if compare(list, at * w, x) == 1 {
-            return kept;
-        }
+    if at < count && compare(list, at * w, x) == Ordering::Equal {
+        return kept;
     }
     if count < cap {
         put_row(list, at * w, count * w, x);
