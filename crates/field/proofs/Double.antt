@@ -1,5 +1,5 @@
 -- The laws of doubling in the fields. Assumes nothing.
-use Prim.Native.Nat.{ℕ, zero, suc, ◌+◌, ◌-◌, ◌*◌, ◌/◌, ◌%◌, ◌^◌, ◌<◌, ◌≤◌}
+use Prim.Native.Nat.{ℕ, zero, suc, ◌*◌, ◌/◌, ◌%◌, ◌^◌, ◌<◌, ◌≤◌}
 use mathlib.Core.Path.{◌≡◌, refl, sym, ap, ap₂, ◌∙◌}
 use mathlib.Core.Bool.{Bool, cond}
 use native.Mathlib.Decide.{dec_lt}
@@ -8,7 +8,7 @@ use native.Mathlib.Omega.{arith}
 use borrow.Author.Tests.{lt-ltb, le-ltb}
 use lib.Bits.{bit_xor, xor_lt, xor_shr, xor_zero_r, xor_self}
 use lib.Dec.{eqb}
-use lib.Pow.{pow_pos, pow_mono, pow-add}
+use lib.Pow.{pow_pos, pow_mono}
 use Rattle.field.specs.Field.{polynomial, Element, double, power}
 use Rattle.field.proofs.Xor.{digit, xor_twice, xor_cross, xor_same}
 
@@ -31,10 +31,6 @@ size_low nc lo = pow_mono {i = 3} {j = nc} lo
 
 pub size-high : (nc : ℕ) → nc ≤ 8 → 2 ^ nc ≤ 256
 size-high nc hi = pow_mono {i = nc} {j = 8} hi
-
--- a multiple of 8
-pub size_eights : (nc : ℕ) → 3 ≤ nc → 2 ^ nc ≡ 8 * 2 ^ (nc - 3)
-size_eights nc lo = let e : nc ≡ 3 + (nc - 3) = omega arith in ap (λ (k : ℕ). 2 ^ k) e ∙ pow-add 2 3 (nc - 3)
 
 -- b for a digit 1, 0 for a digit 0
 abbrev pub pick : ℕ → ℕ → ℕ

@@ -138,10 +138,9 @@ AreTerms nc n i cs es fs = (k : ℕ) → k < n → power nc (get_or fs k 0) ≡ 
 -- the sum of these, of the exponents that are lent, is the check
 pub terms_check : (nc n i : ℕ) (xs cs es fs : List ℕ) → n ≤ length fs → Terms nc n (length xs) xs cs es
     → AreTerms nc n i cs es fs
-    → sum_to (length (take (n - 0) fs)) (λ k. power nc (get_or (take (n - 0) fs) k 0)) ≡ check nc i xs
+    → sum_to (length (take n fs)) (λ k. power nc (get_or (take n fs) k 0)) ≡ check nc i xs
 terms_check nc n i xs cs es fs l q t =
-    let z : n - 0 ≡ n = omega arith in
-    rw (z, length-take-le n fs l)
+    rw (length-take-le n fs l)
     (sum_same n _ _ (λ k h. rw (get_or-take n fs k 0 h) (t k h)) ∙ terms_all nc n i xs cs es q)
 
 module _ (nc : ℕ) (lo : 3 ≤ nc) (hi : nc ≤ 8) where

@@ -81,11 +81,9 @@ pub fn fill_logs(t: &[u8; 498], nc: usize, logs: &mut [u8])
     ensures { (logs.new ≡ with_logs nc (2 ^ nc - 1) logs.old) × Logs nc logs.new }
 {
     let n = order(nc);
-    let mut e: usize = 0;
-    while e < n {
-        let x = bits::wide(entry(t, nc, e));
+    for e in 0..n {
+        let x = usize::from(entry(t, nc, e));
         logs[x] = e as u8;
-        e += 1;
     }
 }
 
@@ -94,7 +92,7 @@ pub fn log_of(nc: usize, logs: &[u8], x: u8) -> usize
     requires { Logs nc logs.now × Element nc x × (0 < x) }
     ensures { (result + 1 < 2 ^ nc) × (power nc result ≡ x) }
 {
-    bits::wide(logs[bits::wide(x)])
+    usize::from(logs[usize::from(x)])
 }
 
 // 2 to the power e, times x.
@@ -126,16 +124,13 @@ fn fill_terms(nc: usize, logs: &[u8], xs: &[u8], cs: &mut [u8], es: &mut [u8]) -
         × (Exponents nc cs.old × Exponents nc es.old) }
     ensures { Terms nc result (length xs.now) xs.now cs.new es.new }
 {
-    let mut n: usize = 0;
-    let mut c: usize = 0;
-    while c < xs.len() {
-        let x = xs[c];
-        if x != 0 {
+    let mut n = 0;
+    for (c, x) in xs.iter().enumerate() {
+        if *x != 0 {
             cs[n] = c as u8;
-            es[n] = log_of(nc, logs, x) as u8;
+            es[n] = log_of(nc, logs, *x) as u8;
             n += 1;
         }
-        c += 1;
     }
     n
 }
@@ -148,10 +143,8 @@ fn raise_all(nc: usize, n: usize, cs: &[u8], es: &mut [u8])
         × ((k : ℕ) → k < n → power nc (get_or es.new k 0)
         ≡ times nc (power nc (get_or cs.now k 0)) (power nc (get_or es.old k 0))) }
 {
-    let mut k: usize = 0;
-    while k < n {
+    for k in 0..n {
         es[k] = raise(nc, es[k], cs[k]);
-        k += 1;
     }
 }
 
@@ -160,21 +153,11 @@ fn sum(t: &[u8; 498], nc: usize, es: &[u8]) -> u8
     requires { (t.now ≡ powers) × (3 ≤ nc) × (nc ≤ 8) × Exponents nc es.now }
     ensures { result ≡ sum_to (length es.now) (λ k. power nc (get_or es.now k 0)) }
 {
-    let mut s: u8 = 0;
-    let mut k: usize = 0;
-    while k < es.len() {
-        s ^= entry(t, nc, bits::wide(es[k]));
-        k += 1;
+    let mut s = 0;
+    for e in es {
+        s ^= entry(t, nc, usize::from(*e));
     }
     s
-}
-
-// n rounded up to a multiple of 8: so many exponents are raised eight at a time, with none left over.
-fn eights(nc: usize, n: usize) -> usize
-    requires { (3 ≤ nc) × (nc ≤ 8) × (n ≤ 2 ^ nc) }
-    ensures { (n ≤ result) × (result ≤ 2 ^ nc) }
-{
-    (n + 7) / 8 * 8
 }
 
 // The first r checks of the chunks, at the start of a slice: the exponents of all terms of a check are made those of the next.
@@ -183,16 +166,15 @@ pub fn checks(t: &[u8; 498], nc: usize, r: usize, logs: &[u8], chunks: &[u8], ou
         × ((length chunks.now < 2 ^ nc) × (r ≤ length out.old)) }
     ensures { Checks nc r chunks.now out.new }
 {
-    let mut cs: [u8; 256] = [0; 256];
-    let mut es: [u8; 256] = [0; 256];
+    let mut cs = [0; 256];
+    let mut es = [0; 256];
     let n = fill_terms(nc, logs, chunks, &mut cs, &mut es);
-    let m = eights(nc, n);
-    let mut i: usize = 0;
-    while i < r {
-        if 0 < i {
+    // So many exponents are raised eight at a time, with none left over.
+    let m = n.next_multiple_of(8);
+    for (i, check) in out[..r].iter_mut().enumerate() {
+        if i > 0 {
             raise_all(nc, m, &cs, &mut es);
         }
-        out[i] = sum(t, nc, &es[0..n]);
-        i += 1;
+        *check = sum(t, nc, &es[..n]);
     }
 }
