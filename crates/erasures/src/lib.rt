@@ -28,10 +28,8 @@ fn take_out(t: &[u8; 498], nc: usize, logs: &[u8], c: usize, n: usize, s: [u8; 1
     ensures { Elements nc result × ((i : ℕ) → suc i < n → get_or result i 0 ≡ without nc c (get_or s i 0) (get_or s (suc i) 0)) }
 {
     let mut out = s;
-    let mut i: usize = 1;
-    while i < n {
+    for i in 1..n {
         out[i - 1] = s[i] ^ field::shift(t, nc, logs, c, s[i - 1]);
-        i += 1;
     }
     out
 }
@@ -54,21 +52,14 @@ fn settle(
         → first ≡ brought nc 0 (λ v. get_or cs v 0) e u (n - u)
         → (z : ℕ) → u ≤ z → z < n → get_or result z 0 ≡ e z) }
 {
-    let own = field::entry(t, nc, bits::wide(cs[u]));
+    let own = field::entry(t, nc, usize::from(cs[u]));
     let mut out = rest;
     let mut sum = first;
-    let mut z = u + 1;
-    while z < n {
-        let v = divide(
-            t,
-            nc,
-            logs,
-            rest[z],
-            field::entry(t, nc, bits::wide(cs[z])) ^ own,
-        );
+    for z in u + 1..n {
+        let other = field::entry(t, nc, usize::from(cs[z]));
+        let v = divide(t, nc, logs, rest[z], other ^ own);
         out[z] = v;
         sum ^= v;
-        z += 1;
     }
     out[u] = sum;
     out
@@ -92,7 +83,7 @@ pub fn solve(
     if u == n {
         return [0; 12];
     }
-    let left = take_out(t, nc, logs, bits::wide(cs[u]), n - u, s);
+    let left = take_out(t, nc, logs, usize::from(cs[u]), n - u, s);
     let rest = solve(t, nc, logs, cs, n, u + 1, left);
     settle(t, nc, logs, cs, n, u, s[0], rest)
 }
