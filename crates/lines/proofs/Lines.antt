@@ -13,7 +13,7 @@ use Rattle.bits.specs.Bits.{AllBits, number, digits}
 use Rattle.bits.proofs.Laws.{length_digits, bits-append, bits-digits, bits-drop}
 use Rattle.rows.specs.Order.{Row}
 use Rattle.vt.specs.Sum.{sum}
-use Rattle.message.specs.Layout.{legal, row_bits, block_bits, blocks, chunk, chunk_string, chunks}
+use Rattle.message.specs.Layout.{legal, row_bits, block_bits, blocks, chunk, chunk_string}
 use Rattle.message.specs.Message.{block_sums, string_sums}
 use Rattle.message.specs.Read.{fields}
 use Rattle.message.specs.declared.Layout.{Layout}

@@ -1,6 +1,6 @@
 -- A chunk that lost one bit: what the bit adds to the total of the positions, wherever the chunk's first bit stands,
 -- and the chunk that it makes again. Assumes nothing.
-use Prim.Native.Nat.{ℕ, zero, suc, ◌+◌, ◌-◌, ◌*◌, ◌%◌, ◌<◌, ◌≤◌}
+use Prim.Native.Nat.{ℕ, zero, suc, ◌+◌, ◌*◌, ◌%◌, ◌<◌, ◌≤◌}
 use mathlib.Core.Path.{◌≡◌, refl, sym, ap, ◌∙◌}
 use mathlib.Core.Bool.{true}
 use mathlib.Core.Logic.{◌⊎◌, inl, inr}
@@ -110,10 +110,10 @@ made_again w whole x y a c n e =
 
 -- the front of a slice to which it was mended
 pub front_mended : (w s : ℕ) (y q z : List ℕ) → AllBits y → length y + 1 ≡ w → s ≤ w → q ≡ mended (length y + 1) s y ++ z
-    → (take (w - 0) q ≡ mended w s y) × Row w (mended w s y)
+    → (take w q ≡ mended w s y) × Row w (mended w s y)
 front_mended w s y q z a n h e =
     let r = (mended-mends w s y a n h).row in
-    (rw (e, n) (take_at (mended w s y) z (w - 0) (omega (arith, r.0))), r)
+    (rw (e, n) (take_at (mended w s y) z w (omega (arith, r.0))), r)
 
 -- few bits have a small total
 pub few_bits : (y : List ℕ) → AllBits y → length y < 8 → (total 1 y ≤ 7 * 8) × (ones y ≤ 7)

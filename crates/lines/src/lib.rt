@@ -21,11 +21,9 @@ fn put_chunk(nc: usize, v: u8, out: &mut [u8], at: usize)
         bits::unpack_byte(v, out, at);
         return;
     }
-    let mut i: usize = 0;
-    while i < nc {
+    for i in 0..nc {
         let shift = nc - 1 - i;
         out[at + i] = (v >> shift) % 2;
-        i += 1;
     }
 }
 
@@ -44,10 +42,8 @@ pub fn spread(
         ≡ take at out.old ++ line nc start stride count vs.now
         ++ drop (at + count * nc) out.old }
 {
-    let mut t: usize = 0;
-    while t < count {
+    for t in 0..count {
         put_chunk(nc, vs[start + t * stride], out, at + t * nc);
-        t += 1;
     }
 }
 
@@ -73,11 +69,9 @@ pub fn line_total(
     requires { (table.now ≡ weights) × Inside nc start stride count (length vs.now) }
     ensures { result ≡ total 1 (line nc start stride count vs.now) }
 {
-    let mut sum: usize = 0;
-    let mut t: usize = 0;
-    while t < count {
+    let mut sum = 0;
+    for t in 0..count {
         sum += chunk_total(table, nc, vs[start + t * stride], t * nc + 1);
-        t += 1;
     }
     sum
 }
@@ -91,50 +85,40 @@ pub fn line_sum(nc: usize, start: usize, stride: usize, count: usize, vs: &[u8])
     line_total(&table, nc, start, stride, count, vs) % (count * nc + 1)
 }
 
+// The chunk of nc bits whose positions have this total in the chunk itself, and from which the bits at hand come by one deletion.
+fn put_back(nc: usize, whole: usize, bits: &[u8]) -> u8
+    requires { ((length bits.now + 1 ≡ nc) × (nc ≤ 8)) × AllBits bits.now }
+    ensures { (x : List ℕ) → AllBits x → comes_from x 1 bits.now ≡ true → total 1 x ≡ whole
+        → result ≡ number nc x }
+{
+    let mut out = [0; 8];
+    vt::mend_bits(whole % (nc + 1), bits, &mut out);
+    message::chunks::number_at(&out[..nc], 0, nc)
+}
+
+// The chunk of nc bits that the bits at hand, which weigh so much, make with a bit that adds g to the total of their positions, the
+// first of which is given. A 0 adds at most the number of their ones; a 1 adds at least that and the first position.
+fn mend_chunk(nc: usize, first: usize, w: Weight, g: usize, bits: &[u8]) -> Option<u8>
+    requires { (((length bits.now + 1 ≡ nc) × (nc ≤ 8)) × AllBits bits.now) × (((1 ≤ first)
+        × (first ≤ longest_line) × (g ≤ longest_line))
+        × ((w.total ≡ total 1 bits.now) × (w.ones ≡ ones bits.now))) }
+    ensures { (x : List ℕ) → AllBits x → comes_from x 1 bits.now ≡ true
+        → total first x ≡ total first bits.now + g → result ≡ Some (number nc x) }
+{
+    if g <= w.ones {
+        return Some(put_back(nc, w.total + g, bits));
+    }
+    if g < first + w.ones || first + nc <= g {
+        return None;
+    }
+    Some(put_back(nc, w.total + g + 1 - first, bits))
+}
+
 // A chunk that was mended in its line: whether it can be, and its number.
 #[derive(Clone, Copy)]
 pub struct Mended {
     pub ok: bool,
     pub value: u8,
-}
-
-// The chunk of nc bits whose positions have this total in the chunk itself, and from which the bits at hand come by one deletion.
-fn put_back(nc: usize, whole: usize, bits: &[u8]) -> Mended
-    requires { ((length bits.now + 1 ≡ nc) × (nc ≤ 8)) × AllBits bits.now }
-    ensures { (x : List ℕ) → AllBits x → comes_from x 1 bits.now ≡ true → total 1 x ≡ whole
-        → (result.ok ≡ true) × (result.value ≡ number nc x) }
-{
-    let mut out: [u8; 8] = [0; 8];
-    vt::mend_bits(whole % (nc + 1), bits, &mut out);
-    Mended {
-        ok: true,
-        value: message::chunks::number_at(&out[0..nc], 0, nc),
-    }
-}
-
-// The chunk of nc bits that the bits at hand, which weigh so much, make with a bit that adds g to the total of their positions, the
-// first of which is given. A 0 adds at most the number of their ones; a 1 adds at least that and the first position.
-fn mend_chunk(nc: usize, first: usize, w: Weight, g: usize, bits: &[u8]) -> Mended
-    requires { (((length bits.now + 1 ≡ nc) × (nc ≤ 8)) × AllBits bits.now) × (((1 ≤ first)
-        × (first ≤ longest_line) × (g ≤ longest_line))
-        × ((w.total ≡ total 1 bits.now) × (w.ones ≡ ones bits.now))) }
-    ensures { (x : List ℕ) → AllBits x → comes_from x 1 bits.now ≡ true
-        → total first x ≡ total first bits.now + g → (result.ok ≡ true) × (result.value ≡ number nc x) }
-{
-    let none = Mended {
-        ok: false,
-        value: 0,
-    };
-    if g <= w.ones {
-        return put_back(nc, w.total + g, bits);
-    }
-    if g < first + w.ones {
-        return none;
-    }
-    if first + nc <= g {
-        return none;
-    }
-    put_back(nc, w.total + g + 1 - first, bits)
 }
 
 // The chunk of a line that lost one bit: its sum says what the lost bit adds to the total of the line with the bits at hand, one
@@ -163,5 +147,11 @@ pub fn mend_line(
     let w = vt::weigh(bits);
     let short = whole - own + (before * w.ones + w.total);
     let g = vt::lacking(count * nc, sum, short);
-    mend_chunk(nc, first, w, g, bits)
+    match mend_chunk(nc, first, w, g, bits) {
+        Some(value) => Mended { ok: true, value },
+        None => Mended {
+            ok: false,
+            value: 0,
+        },
+    }
 }
