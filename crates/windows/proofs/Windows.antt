@@ -1,10 +1,10 @@
 -- The tables of a string: how they are filled place by place, that those of its later part are their later part, and
 -- that they give the sum of the next bits. Assumes nothing.
 use Prim.Native.Nat.{ℕ, zero, suc, ◌+◌, ◌-◌, ◌*◌, ◌%◌, ◌<◌, ◌≤◌}
-use mathlib.Core.Path.{◌≡◌, refl, sym, ap, ◌∙◌}
+use mathlib.Core.Path.{◌≡◌, sym, ap, ◌∙◌}
 use mathlib.Core.Logic.{⊎_elim}
 use mathlib.Core.List.{List, [], ◌∷◌}
-use native.Mathlib.Nat.{zero-mul, suc-mul, mul-le-mul_left}
+use native.Mathlib.Nat.{zero-mul, suc-mul}
 use native.Mathlib.Numerals.{add-one}
 use native.Mathlib.Omega.{arith}
 use lib.ListN.{length, get_or, take, drop, set, length-drop}
@@ -129,10 +129,7 @@ tables-later y p a totals counts h t =
 
 -- what the tables give for the next w bits
 pub record Next (y : List ℕ) (p w t0 tw c0 cw : ℕ) : Type 0 where
-  pub totals_rise : t0 ≤ tw
-  pub counts_rise : c0 ≤ cw
   pub below : p * (cw - c0) ≤ tw - t0
-  pub product : p * (cw - c0) ≤ p * w
   pub sums : (tw - t0 - p * (cw - c0)) % (w + 1) ≡ sum (take w y)
 
 pub next : (y : List ℕ) (p w : ℕ) (totals counts : List ℕ) → AllBits y → w ≤ length y → Tables y p totals counts
@@ -145,10 +142,7 @@ next y p w totals counts b h t =
     omega (arith, total_on p (take w y)) in
     let long = length-take-le w y h in
     record {
-      totals_rise = omega arith;
-      counts_rise = omega arith;
       below = rw (k, d) (omega arith);
-      product = rw k (mul-le-mul_left p (omega (arith, ones-length (take w y) (bits-take w y b))));
       sums = rw (k, d) (remainder (total 1 (take w y)) (p * ones (take w y)) ∙ is_sum);
     }
   where

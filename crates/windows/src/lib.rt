@@ -15,14 +15,9 @@ pub fn fill(y: &[u8], totals: &mut [u32], counts: &mut [u16])
 {
     totals[0] = 0;
     counts[0] = 0;
-    let mut i: usize = 0;
-    while i < y.len() {
-        let b = y[i];
-        let total = totals[i];
-        let count = counts[i];
-        i += 1;
-        totals[i] = total + (i as u32) * (b as u32);
-        counts[i] = count + b as u16;
+    for (i, b) in y.iter().enumerate() {
+        totals[i + 1] = totals[i] + (i + 1) as u32 * u32::from(*b);
+        counts[i + 1] = counts[i] + u16::from(*b);
     }
 }
 
@@ -33,6 +28,6 @@ pub fn window_sum(y: &[u8], totals: &[u32], counts: &[u16], p: usize, w: usize) 
     ensures { result ≡ sum (take w y.now) }
 {
     let high = (totals[w] - totals[0]) as usize;
-    let count = (counts[w] - counts[0]) as usize;
+    let count = usize::from(counts[w] - counts[0]);
     (high - p * count) % (w + 1)
 }
