@@ -22,32 +22,25 @@ pub struct Cells {
 pub fn share(keys: [u8; 12], lost: [u8; 12], key: u8) -> usize
     ensures { result ≡ shared keys lost key }
 {
-    let mut total: u16 = 0;
-    let mut z: usize = 0;
-    while z < 12 {
-        if keys[z] == key {
-            total += lost[z] as u16;
+    let mut total = 0;
+    for (z, k) in keys.iter().enumerate() {
+        if *k == key {
+            total += u16::from(lost[z]);
         }
-        z += 1;
     }
-    total as usize
+    usize::from(total)
 }
 
 // The first cell that has the only open loss of its key; 12 where there is none.
 pub fn single(keys: [u8; 12], lost: [u8; 12]) -> usize
     ensures { (result ≤ 12) × ((result < 12 → SingleAt keys lost result) × (result ≡ 12 → NoSingle keys lost)) }
 {
-    let mut z: usize = 0;
-    while z < 12 {
-        let key = keys[z];
-        if lost[z] == 1 {
-            if share(keys, lost, key) == 1 {
-                return z;
-            }
+    for (z, key) in keys.iter().enumerate() {
+        if lost[z] == 1 && share(keys, lost, *key) == 1 {
+            return z;
         }
-        z += 1;
     }
-    z
+    12
 }
 
 // Whether the chunk with number v loses just a bits against y from a place on.
@@ -55,12 +48,8 @@ pub fn loses_just(nc: usize, v: u8, y: &[u8], place: usize, a: u8) -> bool
     requires { (1 ≤ nc) × ((nc ≤ 8) × (place ≤ length y.now)) }
     ensures { result ≡ eqb (losses (digits nc v) (drop place y.now)) a }
 {
-    let one: [u8; 1] = [v; 1];
-    let mut bits: [u8; 8] = [0; 8];
-    lines::spread(nc, 0, 1, 1, &one, &mut bits, 0);
-    let n = consistent::taken(&bits[0..nc], &y[place..]);
-    if n + bits::wide(a) == nc {
-        return true;
-    }
-    false
+    let mut bits = [0; 8];
+    lines::spread(nc, 0, 1, 1, &[v], &mut bits, 0);
+    let n = consistent::taken(&bits[..nc], &y[place..]);
+    n + usize::from(a) == nc
 }
