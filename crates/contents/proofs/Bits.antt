@@ -13,7 +13,7 @@ use lib.Seq.{drop-cons}
 use Rattle.bits.specs.Bits.{digits}
 use Rattle.bits.proofs.Laws.{length_digits, lt_or_ge, pow_next}
 use Rattle.consistent.specs.Greedy.{losses}
-use Rattle.consistent.proofs.Greedy.{losses-most}
+use Rattle.consistent.proofs.Greedy.{length-eat, losses-most}
 use Rattle.contents.specs.Contents.{Ends, EndsAfter}
 
 -- ---- the number
@@ -43,6 +43,10 @@ ends-here left v a y w e h = sym (div-one w) ∙ (rw e at h.0)
 -- a content loses no more bits than it has
 pub ends-few : (left v a : ℕ) (y : List ℕ) (w : ℕ) → left < a → Ends left v a y w → ⊥
 ends-few left v a y w g h = absurd (omega (arith, losses-most (digits left w) y, length_digits left w, h.1))
+
+-- and loses one where fewer are received
+pub ends-room : (left v : ℕ) (y : List ℕ) (w : ℕ) → length y < left → Ends left v 0 y w → ⊥
+ends-room left v y w g h = absurd (omega (arith, length-eat (digits left w) y, length_digits left w, h.1))
 
 -- the next bit is 0 or 1
 next_digit : (left w a : ℕ) (y : List ℕ) → 0 < left → losses (digits left w) y ≡ a

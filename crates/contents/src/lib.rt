@@ -17,18 +17,15 @@ fn follow(left: usize, v: u8, y: &[u8], p: usize, out: &mut [u8], n: usize) -> u
     requires { Room left v n (length out.old) × (p ≤ length y.now) }
     ensures { Gathered (Ends left v 0 (drop p y.now)) (2 ^ left) n out.old result out.new }
 {
+    if y.len() - p < left {
+        return n;
+    }
     let mut whole = v;
-    let mut i: usize = 0;
-    while i < left {
-        if y.len() <= p + i {
+    for b in &y[p..p + left] {
+        if *b > 1 {
             return n;
         }
-        let b = y[p + i];
-        if 1 < b {
-            return n;
-        }
-        whole = 2 * whole + b;
-        i += 1;
+        whole = 2 * whole + *b;
     }
     out[n] = whole;
     n + 1
@@ -69,10 +66,8 @@ fn gather_bit(
     ensures { Gathered (EndsAfter b left v a (drop p y.now)) (2 ^ left) n
         out.old result out.new }
 {
-    if p < y.len() {
-        if y[p] == b {
-            return gather(left, v, y, p + 1, a, out, n);
-        }
+    if p < y.len() && y[p] == b {
+        return gather(left, v, y, p + 1, a, out, n);
     }
     if a == 0 {
         return n;
@@ -86,7 +81,7 @@ pub fn list_behind(nc: usize, y: &[u8], place: usize, a: u8, out: &mut [u8], n: 
     ensures { Gathered (λ w. (w < 2 ^ nc) × (losses (digits nc w) (drop place y.now) ≡ a)) 256 n
         out.old result out.new }
 {
-    gather(nc, 0, y, place, bits::wide(a), out, n)
+    gather(nc, 0, y, place, usize::from(a), out, n)
 }
 
 // Lists them from the first entry on; the answer is how many there are.
@@ -142,9 +137,9 @@ pub fn asked(
     let whole = lines::line_total(&table, nc, start, stride, count, row);
     Ask {
         rest: (whole - own) % modulus,
-        first: first,
-        modulus: modulus,
-        want: want,
+        first,
+        modulus,
+        want,
     }
 }
 
@@ -155,15 +150,13 @@ fn sift_each(nc: usize, a: Ask, out: &mut [u8], n: usize) -> usize
         → Among out.new 0 result w) }
 {
     let table = vt::weights();
-    let mut k: usize = 0;
-    let mut i: usize = 0;
-    while i < n {
+    let mut k = 0;
+    for i in 0..n {
         let v = out[i];
         if (a.rest + lines::chunk_total(&table, nc, v, a.first)) % a.modulus == a.want {
             out[k] = v;
             k += 1;
         }
-        i += 1;
     }
     k
 }
