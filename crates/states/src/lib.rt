@@ -31,13 +31,11 @@ pub fn shape_of(n: usize, size: [u8; MOST_HEAVY]) -> Shape
     requires { n ≤ 6 }
     ensures { ((result.n ≡ n) × (result.size ≡ size)) × Shaped result.n result.size result.stride result.states }
 {
-    let mut stride: [usize; MOST_HEAVY] = [0; MOST_HEAVY];
-    let mut states: usize = 1;
-    let mut s: usize = 0;
-    while s < n {
+    let mut stride = [0; MOST_HEAVY];
+    let mut states = 1;
+    for (s, most) in size[..n].iter().enumerate() {
         stride[s] = states;
-        states *= bits::wide(size[s]) + 1;
-        s += 1;
+        states *= usize::from(*most) + 1;
     }
     Shape {
         n,
@@ -53,12 +51,9 @@ pub fn losses_left(shape: Shape, q: usize) -> [u8; MOST_HEAVY]
     ensures { (left : ℕ → ℕ) → ((s : ℕ) → s < shape.n → left s ≤ each shape.size s)
         → q ≡ state (each shape.size) left shape.n → (s : ℕ) → s < shape.n → get_or result s 0 ≡ left s }
 {
-    let n = shape.n;
-    let mut left: [u8; MOST_HEAVY] = [0; MOST_HEAVY];
-    let mut s: usize = 0;
-    while s < n {
-        left[s] = (q / shape.stride[s] % (bits::wide(shape.size[s]) + 1)) as u8;
-        s += 1;
+    let mut left = [0; MOST_HEAVY];
+    for s in 0..shape.n {
+        left[s] = (q / shape.stride[s] % (usize::from(shape.size[s]) + 1)) as u8;
     }
     left
 }
@@ -71,14 +66,12 @@ pub fn next_left(n: usize, size: [u8; MOST_HEAVY], left: [u8; MOST_HEAVY]) -> [u
         → state (each size) (each result) n ≡ state (each size) (each left) n + 1) }
 {
     let mut next = left;
-    let mut s: usize = 0;
-    while s < n {
+    for s in 0..n {
         if next[s] < size[s] {
             next[s] += 1;
             return next;
         }
         next[s] = 0;
-        s += 1;
     }
     next
 }
@@ -88,12 +81,9 @@ pub fn number_of(shape: Shape, left: [u8; MOST_HEAVY]) -> usize
     requires { (shape.n ≤ 6) × Shaped shape.n shape.size shape.stride shape.states }
     ensures { result ≡ state (each shape.size) (each left) shape.n }
 {
-    let n = shape.n;
-    let mut q: usize = 0;
-    let mut s: usize = 0;
-    while s < n {
-        q += bits::wide(left[s]) * shape.stride[s];
-        s += 1;
+    let mut q = 0;
+    for s in 0..shape.n {
+        q += usize::from(left[s]) * shape.stride[s];
     }
     q
 }
@@ -105,10 +95,8 @@ fn put_raised(sums: &mut [u16], to: usize, len: usize, v: u16)
     ensures { (length sums.new ≡ length sums.old)
         × Raised to len v sums.old sums.new }
 {
-    let mut p: usize = 0;
-    while p < len {
+    for p in 0..len {
         sums[to + p] = sums[p] + v;
-        p += 1;
     }
 }
 
@@ -120,9 +108,7 @@ fn add_block(sums: &mut [u16], len: usize, size: u8, values: &[u16], at: usize)
     ensures { (length sums.new ≡ length sums.old)
         × WithBlock len size at values.now sums.old sums.new }
 {
-    let mut d = bits::wide(size) + 1;
-    while 0 < d {
-        d -= 1;
+    for d in (0..=usize::from(size)).rev() {
         put_raised(sums, d * len, len, values[at + d]);
     }
 }
@@ -137,9 +123,7 @@ pub fn add_up(shape: Shape, values: &[u16], sums: &mut [u16])
         → get_or sums.new (state_of shape left) 0 ≡ added_up values.now left shape.n) }
 {
     sums[0] = 0;
-    let mut s: usize = 0;
-    while s < shape.n {
+    for s in 0..shape.n {
         add_block(sums, shape.stride[s], shape.size[s], values, s * LEFTS);
-        s += 1;
     }
 }
