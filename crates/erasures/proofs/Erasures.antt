@@ -1,7 +1,7 @@
 -- The one law of the checks: a check and 2 ^ c times the one before it have no term of chunk c left, and keep the
 -- others as terms. So as many checks as there are erased chunks fix their contents. Assumes nothing.
 use Prim.Native.Nat.{ℕ, zero, suc, ◌+◌, ◌-◌, ◌*◌, ◌^◌, ◌<◌, ◌≤◌}
-use mathlib.Core.Path.{◌≡◌, refl, sym, ap, ap₂, ◌∙◌}
+use mathlib.Core.Path.{◌≡◌, sym, ap, ap₂, ◌∙◌}
 use mathlib.Core.List.{List}
 use native.Mathlib.Nat.{zero-mul, suc-mul, add_comm}
 use native.Mathlib.Decide.{ℕ_discrete}
@@ -190,9 +190,6 @@ module _ (nc : ℕ) (lo : 3 ≤ nc) (hi : nc ≤ 8) where
 
   -- ---- the last step: the contents after the u-th unscaled one by one, and the sum of what is left for the u-th itself
   module _ (c : ℕ → ℕ) (n u first : ℕ) (rest : List ℕ) where
-    pub settled_start : Settled nc c n u first rest rest first (u + 1)
-    settled_start e he h = (λ w a b. absurd (omega arith), refl)
-
     pub settled_next : (out : List ℕ) (sum z v : ℕ) → u < z → z < n → z < length out
         → ((x : ℕ) → Element nc x → get_or rest z 0 ≡ times nc (bit_xor (power nc (c z)) (power nc (c u))) x → v ≡ x)
         → Settled nc c n u first rest out sum z → Settled nc c n u first rest (set out z v) (bit_xor sum v) (z + 1)

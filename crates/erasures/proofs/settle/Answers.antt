@@ -2,19 +2,8 @@ use Rattle.std.proofs.Common.{ℕ, ◌<◌, length, get_or, ap, ap₂, sym, ◌�
 use Rattle.std.proofs.Math.ListN.{length-set}
 use Rattle.std.specs.Int.Bits.{bit_xor, xor_lt}
 use Rattle.field.specs.Field.{Element, power, times}
-use Rattle.erasures.proofs.Erasures.{set-each, divisor, settled_start, settled_next, settled_end}
+use Rattle.erasures.proofs.Erasures.{set-each, divisor, settled_next, settled_end}
 use Rattle.erasures.proofs.settle.Goals as goal
-
-pub loop-z-init : goal.loop-z-init
-loop-z-init c =
-    let a = c.args in
-    let p = c.requires in
-    record {
-      long = omega arith;
-      elements = p.1.4;
-      element = p.1.3;
-      settled = settled_start a.nc p.0.1 p.0.2 (λ w. get_or a.cs w 0) a.n a.u a.first a.rest;
-    }
 
 pub divide-v-requires : goal.divide-v-requires
 divide-v-requires c =
