@@ -15,9 +15,9 @@ pub fn fill(y: &[u8], totals: &mut [u32], counts: &mut [u16])
 {
     totals[0] = 0;
     counts[0] = 0;
-    for (i, b) in y.iter().enumerate() {
-        totals[i + 1] = totals[i] + (i + 1) as u32 * u32::from(*b);
-        counts[i + 1] = counts[i] + u16::from(*b);
+    for (i, &b) in y.iter().enumerate() {
+        totals[i + 1] = totals[i] + (i + 1) as u32 * u32::from(b);
+        counts[i + 1] = counts[i] + u16::from(b);
     }
 }
 
