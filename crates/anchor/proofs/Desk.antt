@@ -3,13 +3,15 @@ use Prim.Native.Nat.{ℕ, ◌+◌, ◌-◌, ◌*◌, ◌<◌, ◌≤◌}
 use mathlib.Core.Path.{◌≡◌, refl, sym, ap, ◌∙◌}
 use mathlib.Core.Bool.{cond}
 use mathlib.Core.List.{List, ◌++◌}
-use mathlib.Core.Logic.{⊎_elim}
+use mathlib.Core.Logic.{◌⊎◌, inl, inr, ⊎_elim}
 use native.Mathlib.Decide.{ℕ_discrete}
 use native.Mathlib.Nat.{zero-mul, one-mul, add-mul}
 use native.Mathlib.Omega.{arith}
+use borrow.Rule.Slice.PartMut.{put_mid}
+use Rattle.std.proofs.lemmas.Slice.{put_mid-paste}
 use lib.Dec.{ltb}
 use lib.ListN.{length, get_or, take, drop, set, replicate, get_or-replicate, length-append, length-drop, get_or-append}
-use lib.Seq.{get_or-set_same, get_or-set_other, length-take-le, get_or-take, get_or-append-add}
+use lib.Seq.{get_or-set_same, get_or-set_other, length-take-le, take_all, get_or-take, get_or-append-add}
 use Rattle.bits.specs.Bits.{most_chunks, most_in_line}
 use Rattle.bits.proofs.Laws.{lt_or_ge}
 use Rattle.consistent.specs.Consistent.{most_losses}
@@ -35,10 +37,6 @@ abbrev pub Runs : (nc : ℕ) (y : List ℕ) (c v : ℕ) (out : List ℕ) → Typ
 Runs nc y c v out = (d t : ℕ) → d ≤ most_losses → d ≤ t → t < d + get_or out d 0 → Reads nc y c v t
 
 module _ (nc : ℕ) (y : List ℕ) (c v : ℕ) where
-  -- entries 0 say nothing
-  pub runs_none : Runs nc y c v (replicate 13 0)
-  runs_none d t m lo hi = absurd (omega (arith, get_or-replicate {A = ℕ} 13 d 0 0 (omega arith)))
-
   -- one entry more
   pub runs-set : (out : List ℕ) (d run : ℕ) → d < length out → ((t : ℕ) → d ≤ t → t < d + run → Reads nc y c v t)
       → Runs nc y c v out → Runs nc y c v (set out d run)
@@ -59,6 +57,18 @@ module _ (nc : ℕ) (y : List ℕ) (c v : ℕ) where
       go : Dec (t ≡ d) → Reads nc y c v t
       go (yes k) = rw k r
       go (no n) = f t (omega arith) (omega arith)
+
+  -- the run and the entries with one more: the run grows where the chunk stays v, and begins anew elsewhere
+  pub runs_next : (out : List ℕ) (d run next : ℕ) → d < length out
+      → (Reads nc y c v d × (next ≡ run + 1)) ⊎ (next ≡ 0)
+      → ((t : ℕ) → d + 1 ≤ t → t < d + 1 + run → Reads nc y c v t)
+      → Runs nc y c v out
+      → ((t : ℕ) → d ≤ t → t < d + next → Reads nc y c v t) × Runs nc y c v (set out d next)
+  runs_next out d run next h b f r = (here, runs-set out d next h here r)
+    where
+      here : (t : ℕ) → d ≤ t → t < d + next → Reads nc y c v t
+      here t lo hi =
+          elim b [ inl g ↦ run_more d run g.0 f t lo (omega (arith, g.1)) | inr z ↦ absurd (omega arith) ]
 
 -- ---- all blocks from a block on: every entry from entry i on is the sum over the chunks from its own block on
 module _ (f : ℕ → ℕ) (l1 l2 : ℕ) where
@@ -124,6 +134,13 @@ module _ (s p : List ℕ) (at : ℕ) (room : at + length p ≤ length s) where
       ∙ ap (λ (n : ℕ). get_or (take at s ++ p) (n + j) 0) (sym (length-take-le at s (omega arith)))
       ∙ get_or-append-add (take at s) p j 0
 
+-- what a write of n elements to a part of a slice leaves
+pub put_part : (at n : ℕ) (s p now : List ℕ) → length p ≡ n → now ≡ p
+    → put_mid at (at + n - at) s now ≡ take at s ++ p ++ drop (at + length p) s
+put_part at n s p now w e =
+    put_mid-paste at (at + n - at) s now p (length p) e (omega arith) refl
+    ∙ ap (λ (q : List ℕ). take at s ++ q ++ drop (at + length p) s) (take_all (length p) p (omega arith))
+
 -- how many chunks can be another than the anchor's depends on the second part of the desk alone
 pub wide-same : (l : Layout) (s u : List ℕ) (i d a : ℕ) → i ≤ l.l1 → d ≤ most_losses → l.l1 * l.l2 ≤ most_chunks
     → ((q : ℕ) → q < later_from → get_or s q 0 ≡ get_or u q 0)
@@ -134,9 +151,6 @@ wide-same l s u i d a h m few e =
     (λ t k. ap (λ (v : ℕ). cond (ltb a v) 0 1) (e (near_at (i * l.l2 + t) d) (omega arith)))
 
 -- ---- the second part of the desk
-pub near_none : (nc : ℕ) (y s : List ℕ) → NearFor nc y 0 s s
-near_none nc y s = record { size = refl; before = λ q h. refl; near = λ c d t h m lo hi. absurd (omega arith) }
-
 -- one chunk more
 pub near_next : (nc : ℕ) (y : List ℕ) (n : ℕ) (entry s p exit : List ℕ) → n < most_chunks → desk_size ≤ length entry
     → length p ≡ 13
@@ -164,9 +178,6 @@ near_next nc y n entry s p exit h k w r e f =
     }
 
 -- ---- the third part of the desk
-pub later-none : (l : Layout) (k : ℕ) (s : List ℕ) → LaterFor l k 0 s s
-later-none l k s = record { size = refl; before = λ q h. refl; later = λ i d h m. absurd (omega arith) }
-
 -- one number of losses more
 pub later-next : (l : Layout) (k n : ℕ) (entry s p exit : List ℕ) → l.l1 ≤ most_in_line → n ≤ most_losses
     → desk_size ≤ length entry → length p ≡ most_in_line + 1

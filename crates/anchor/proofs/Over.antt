@@ -1,6 +1,6 @@
 -- Sums over places, and how many places of two lists differ. Rests on the erasures' law of two rows with the same
 -- checks. Assumes nothing.
-use Prim.Native.Nat.{ℕ, zero, suc, ◌+◌, ◌<◌, ◌≤◌}
+use Prim.Native.Nat.{ℕ, zero, suc, ◌+◌, ◌-◌, ◌<◌, ◌≤◌}
 use mathlib.Core.Path.{◌≡◌, refl, sym, ap, ap₂, ◌∙◌}
 use mathlib.Core.Bool.{Bool, true, false, cond}
 use mathlib.Core.List.{List, [], ◌∷◌}
@@ -29,6 +29,16 @@ over_suc f c n = refl
 -- one place more
 pub over-next : (f : ℕ → ℕ) (c n : ℕ) → over f c (n + 1) ≡ over f c n + f (c + n)
 over-next f c n = let e : n + 1 ≡ suc n = omega arith in rw e (over_suc f c n)
+
+-- the places from c up to a place t: none at c itself, and one more at each
+pub over-start : (f : ℕ → ℕ) (c : ℕ) → over f c (c - c) ≡ 0
+over-start f c = let z : c - c ≡ 0 = omega arith in rw z (over_none f c)
+
+pub over_up : (f : ℕ → ℕ) (c t : ℕ) → c ≤ t → over f c (t + 1 - c) ≡ over f c (t - c) + f t
+over_up f c t h =
+    let e : t + 1 - c ≡ t - c + 1 = omega arith in
+    let k : c + (t - c) ≡ t = omega arith in
+    ap (over f c) e ∙ over-next f c (t - c) ∙ ap (λ (n : ℕ). over f c (t - c) + f n) k
 
 -- a sum splits at any place
 pub over_split : (f : ℕ → ℕ) (c a b : ℕ) → over f c (a + b) ≡ over f c a + over f (c + a) b

@@ -37,10 +37,7 @@ pub const DESK: usize = LATER + SHIFTS * BLOCKS;
 pub fn is_set(desk: &[u8]) -> bool
     ensures { result ≡ is_set desk.now }
 {
-    if desk.len() < DESK {
-        return false;
-    }
-    desk[0] == 1
+    DESK <= desk.len() && desk[0] == 1
 }
 
 // Whether chunk c, read after t losses, is v, or the received row does not have it there.
@@ -64,16 +61,10 @@ fn shifts(nc: usize, y: &[u8], c: usize, k: usize, v: u8) -> [u8; SHIFTS]
     requires { AllBits y.now × ((nc ≤ 8) × ((c ≤ most_chunks) × (k ≤ most_losses))) }
     ensures { (d t : ℕ) → d ≤ most_losses → d ≤ t → t < d + get_or result d 0 → Reads nc y.now c v t }
 {
-    let mut out: [u8; SHIFTS] = [0; SHIFTS];
-    let mut run: u8 = 0;
-    let mut d = k + 1;
-    while 0 < d {
-        d -= 1;
-        if reads(nc, y, c, d, v) {
-            run += 1;
-        } else {
-            run = 0;
-        }
+    let mut out = [0; SHIFTS];
+    let mut run = 0;
+    for d in (0..=k).rev() {
+        run = if reads(nc, y, c, d, v) { run + 1 } else { 0 };
         out[d] = run;
     }
     out
@@ -84,12 +75,10 @@ fn fill_near(l: Layout, y: &[u8], k: usize, desk: &mut [u8])
     requires { (legal l ≡ true) × (AllBits y.now × ((k ≤ most_losses) × (desk_size ≤ length desk.old))) }
     ensures { NearFor l.nc y.now (l.l1 * l.l2) desk.old desk.new }
 {
-    let n = l.l1 * l.l2;
-    let mut c: usize = 0;
-    while c < n {
+    for c in 0..l.l1 * l.l2 {
         let near = shifts(l.nc, y, c, k, desk[1 + c]);
-        bits::copy_to(&near, desk, NEAR + c * SHIFTS);
-        c += 1;
+        let at = NEAR + c * SHIFTS;
+        desk[at..at + SHIFTS].copy_from_slice(&near);
     }
 }
 
@@ -98,14 +87,11 @@ fn count_wide(desk: &[u8], from: usize, n: usize, d: usize, a: usize) -> usize
     requires { (desk_size ≤ length desk.now) × ((from + n ≤ most_chunks) × (d ≤ most_losses)) }
     ensures { (result ≡ over (wide desk.now d a) from n) × (result ≤ n) }
 {
-    let mut count: usize = 0;
-    let mut t: usize = 0;
-    while t < n {
-        let c = from + t;
-        if bits::wide(desk[NEAR + c * SHIFTS + d]) <= a {
+    let mut count = 0;
+    for c in from..from + n {
+        if usize::from(desk[NEAR + c * SHIFTS + d]) <= a {
             count += 1;
         }
-        t += 1;
     }
     count
 }
@@ -117,11 +103,9 @@ fn later(l: Layout, desk: &[u8], d: usize, k: usize) -> [u8; BLOCKS]
     ensures { (i : ℕ) → i ≤ l.l1
         → get_or result i 0 ≡ over (wide desk.now d (k - d)) (i * l.l2) ((l.l1 - i) * l.l2) }
 {
-    let mut out: [u8; BLOCKS] = [0; BLOCKS];
-    let mut count: usize = 0;
-    let mut i = l.l1;
-    while 0 < i {
-        i -= 1;
+    let mut out = [0; BLOCKS];
+    let mut count = 0;
+    for i in (0..l.l1).rev() {
         count += count_wide(desk, i * l.l2, l.l2, d, k - d);
         out[i] = count as u8;
     }
@@ -133,11 +117,10 @@ fn fill_later(l: Layout, k: usize, desk: &mut [u8])
     requires { (legal l ≡ true) × ((k ≤ most_losses) × (desk_size ≤ length desk.old)) }
     ensures { LaterFor l k (k + 1) desk.old desk.new }
 {
-    let mut d: usize = 0;
-    while d <= k {
+    for d in 0..k + 1 {
         let counts = later(l, desk, d, k);
-        bits::copy_to(&counts, desk, LATER + d * BLOCKS);
-        d += 1;
+        let at = LATER + d * BLOCKS;
+        desk[at..at + BLOCKS].copy_from_slice(&counts);
     }
 }
 
@@ -150,7 +133,7 @@ fn first_chunks(l: Layout, list: &[u8], out: &mut [u8])
 {
     let n = l.l1 * l.l2 * l.nc;
     let w = (n + 7) / 8;
-    let mut row: [u8; bits::LONGEST] = [0; bits::LONGEST];
+    let mut row = [0; bits::LONGEST];
     bits::unpack(&list[0..w], n, &mut row);
     message::chunks::fill_chunks(l.l1, l.l2, l.nc, l.r, &row[0..n], out);
 }
@@ -163,9 +146,9 @@ fn prepare(l: Layout, y: &[u8], list: &[u8], desk: &mut [u8])
     ensures { Prepared l y.now
         (values l (take (row_bits l) (unpacked (take (bytes_for (row_bits l)) list.now)))) desk.new }
 {
-    let mut chunks: [u8; bits::MOST_CHUNKS] = [0; bits::MOST_CHUNKS];
+    let mut chunks = [0; bits::MOST_CHUNKS];
     first_chunks(l, list, &mut chunks);
-    bits::copy_to(&chunks, desk, 1);
+    desk[1..NEAR].copy_from_slice(&chunks);
     let k = l.l1 * l.l2 * l.nc - y.len();
     fill_near(l, y, k, desk);
     fill_later(l, k, desk);
@@ -201,13 +184,12 @@ pub fn count_unlike(us: &[u8], vs: &[u8], from: usize, n: usize) -> usize
     requires { (from + n ≤ length us.now) × (from + n ≤ length vs.now) }
     ensures { (result ≡ over (unlike us.now vs.now) from n) × (result ≤ n) }
 {
-    let mut count: usize = 0;
-    let mut t: usize = 0;
-    while t < n {
-        if us[from + t] != vs[from + t] {
+    let to = from + n;
+    let mut count = 0;
+    for (u, v) in us[from..to].iter().zip(&vs[from..to]) {
+        if u != v {
             count += 1;
         }
-        t += 1;
     }
     count
 }
@@ -259,18 +241,16 @@ pub fn near_anchor(
     }
     // two consistent rows differ in at least so many chunks
     let least = l.r + 1;
-    let mut most: usize = 0;
-    let mut d: usize = 0;
-    let mut b: usize = 0;
-    while b < i {
-        let a = bits::wide(counts[b]);
+    let mut most = 0;
+    let mut d = 0;
+    for (b, count) in counts[..i].iter().enumerate() {
+        let a = usize::from(*count);
         most += block_most(l, numbers, y, desk, row, b, d, a);
         if least <= most {
             return false;
         }
         d += a;
-        b += 1;
     }
     let left = l.l1 * l.l2 * l.nc - y.len() - d;
-    most + bits::wide(desk[LATER + d * BLOCKS + i]) + left < least
+    most + usize::from(desk[LATER + d * BLOCKS + i]) + left < least
 }
