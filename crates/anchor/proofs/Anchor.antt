@@ -20,7 +20,7 @@ use Rattle.rows.specs.Held.{Held, Known}
 use Rattle.rows.specs.declared.Kept.{Kept}
 use Rattle.rows.proofs.Held.{known-stays}
 use Rattle.rows.proofs.Slice.{length_cut}
-use Rattle.message.specs.Layout.{row_bits, chunks}
+use Rattle.message.specs.Layout.{row_bits}
 use Rattle.message.specs.Message.{checks}
 use Rattle.message.specs.declared.Layout.{Layout}
 use Rattle.message.proofs.Cutting.{each_number}

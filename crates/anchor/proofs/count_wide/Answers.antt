@@ -1,6 +1,6 @@
-use Rattle.std.proofs.Common.{◌≡◌, ℕ, get_or, sym, arith}
+use Rattle.std.proofs.Common.{ℕ, get_or, sym, arith}
 use borrow.Author.Tests.{lt-ltb, le-ltb}
-use Rattle.anchor.specs.Anchor.{over, near_at, wide}
+use Rattle.anchor.specs.Anchor.{near_at, wide}
 use Rattle.anchor.proofs.Over.{over-start, over_up}
 use Rattle.anchor.proofs.count_wide.Goals as goal
 use Rattle.anchor.proofs.count_wide.Goals.{then-from-a, else-from-a}

@@ -1,7 +1,7 @@
 use Rattle.std.proofs.Common.{◌≡◌, ◌+◌, ◌*◌, length, arith, rules}
 use Rattle.bits.specs.Bits.{most_in_line}
-use Rattle.message.proofs.Legal.{Sizes, legal_bounds, sizes}
-use Rattle.anchor.specs.Anchor.{later_from, LaterFor}
+use Rattle.message.proofs.Legal.{legal_bounds, sizes}
+use Rattle.anchor.specs.Anchor.{later_from}
 use Rattle.anchor.proofs.Desk.{put_part, later-next}
 use Rattle.anchor.proofs.fill_later.Goals as goal
 

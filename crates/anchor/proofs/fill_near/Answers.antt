@@ -1,6 +1,6 @@
 use Rattle.std.proofs.Common.{◌≡◌, ◌+◌, ◌*◌, length, arith, rules}
-use Rattle.message.proofs.Legal.{Bounds, Sizes, legal_bounds, sizes}
-use Rattle.anchor.specs.Anchor.{near_from, NearFor}
+use Rattle.message.proofs.Legal.{legal_bounds, sizes}
+use Rattle.anchor.specs.Anchor.{near_from}
 use Rattle.anchor.proofs.Desk.{put_part, near_next}
 use Rattle.anchor.proofs.fill_near.Goals as goal
 

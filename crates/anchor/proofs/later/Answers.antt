@@ -1,11 +1,9 @@
 use Rattle.std.proofs.Common.{◌≡◌, ◌+◌, ◌-◌, ◌*◌, ◌<◌, ◌≤◌, length, sym, refl, arith, rules}
 use Rattle.bits.specs.Bits.{most_chunks}
-use Rattle.message.specs.Layout.{legal}
-use Rattle.message.specs.declared.Layout.{Layout}
 use Rattle.message.proofs.Fields.{field_room}
-use Rattle.message.proofs.Legal.{Sizes, legal_bounds, sizes}
+use Rattle.message.proofs.Legal.{legal_bounds, sizes}
 use Rattle.anchor.specs.Anchor.{over, wide}
-use Rattle.anchor.proofs.Desk.{Sums, blocks_split, blocks-next, sum-last, sums_none, sum-next, sums-set}
+use Rattle.anchor.proofs.Desk.{blocks_split, blocks-next, sum-last, sums_none, sum-next, sums-set}
 use Rattle.anchor.proofs.later.Goals as goal
 use Rattle.anchor.proofs.later.Goals.{After-count_wide-count}
 

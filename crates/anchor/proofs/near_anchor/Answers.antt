@@ -1,11 +1,11 @@
-use Rattle.std.proofs.Common.{◌≡◌, ℕ, Bool, true, ◌+◌, ◌<◌, ◌≤◌, length, take, get_or, sym, ap, ◌∙◌, arith}
+use Rattle.std.proofs.Common.{◌≡◌, ℕ, true, ◌+◌, ◌<◌, ◌≤◌, length, take, get_or, sym, ap, ◌∙◌, arith}
 use borrow.Author.Tests.{ltb-true}
 use lib.Dec.{ltb}
 use lib.Seq.{length-take-le, get_or-take}
 use Rattle.message.specs.Layout.{row_bits}
-use Rattle.message.proofs.Legal.{Bounds, Sizes, legal_bounds, sizes}
+use Rattle.message.proofs.Legal.{legal_bounds, sizes}
 use Rattle.consistent.specs.Greedy.{in_all}
-use Rattle.anchor.specs.Anchor.{desk_size, is_set, later_at}
+use Rattle.anchor.specs.Anchor.{is_set}
 use Rattle.anchor.proofs.Anchor.{counted_none, counted_next, counted-known, set_long}
 use Rattle.anchor.proofs.Totals.{total-none, total-next, total-grows}
 use Rattle.anchor.proofs.near_anchor.Goals as goal

@@ -1,7 +1,7 @@
 -- The chunks are copied to the desk, and the other parts are written after them.
 use Rattle.std.proofs.Common.{◌≡◌, length, arith, rules}
 use Rattle.bits.specs.Bits.{most_chunks}
-use Rattle.message.proofs.Legal.{Sizes, legal_bounds, sizes}
+use Rattle.message.proofs.Legal.{legal_bounds, sizes}
 use Rattle.lines.proofs.Lines.{length-values}
 use Rattle.anchor.proofs.Desk.{put_part, prepared}
 use Rattle.anchor.proofs.prepare.Goals as goal

@@ -1,4 +1,4 @@
-use Rattle.std.proofs.Common.{◌≡◌, ◌+◌, ◌-◌, ◌<◌, ◌≤◌, inl, inr, arith, rules}
+use Rattle.std.proofs.Common.{◌≡◌, ◌+◌, ◌-◌, inl, inr, arith, rules}
 use Rattle.anchor.proofs.Desk.{runs_next}
 use Rattle.anchor.proofs.shifts.Goals as goal
 use Rattle.anchor.proofs.shifts.Goals.{then-reads, else-reads}
