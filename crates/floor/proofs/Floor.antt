@@ -2,13 +2,17 @@
 -- chunk; and a row that comes after the last row held is known where more were found than fit. Assumes nothing.
 use Prim.Native.Nat.{ℕ, ◌+◌, ◌-◌, ◌*◌, ◌<◌, ◌≤◌}
 use mathlib.Core.Path.{◌≡◌, refl, sym, ap, ◌∙◌}
-use mathlib.Core.Bool.{Bool, true}
+use mathlib.Core.Bool.{true}
 use mathlib.Core.Logic.{◌⊎◌, inl, inr, ⊎_elim}
 use mathlib.Core.List.{List, []}
 use native.Mathlib.Nat.{add-mul, one-mul, mul-le-mul_right}
 use native.Mathlib.Omega.{arith}
 use lib.ListN.{length, get_or, take, drop, length-map, get_or-map}
 use lib.Seq.{take-nil}
+use Rattle.std.specs.declared.cmp.Ordering.{Ordering}
+use Rattle.std.specs.declared.cmp.Ordering.TheVariants.{Equal}
+use Rattle.std.specs.Ordering.{nat_cmp}
+use Rattle.std.proofs.lemmas.Cmp.{ranked}
 use Rattle.bits.specs.Bits.{AllBits, cut, bytes_for, number, unpack}
 use Rattle.rows.specs.Held.{Known}
 use Rattle.rows.specs.Order.{Less, Row}
@@ -39,6 +43,14 @@ pub record Rest (y z x : List ℕ) (g w left all p : ℕ) : Type 0 where
   pub in_x : g + w ≤ length x
   pub place : p + all ≡ g + left
   pub end : losses (take (g + w) x) y ≡ all
+
+-- the row x has nb bits from a place on, d losses before them and a among them, and is at least z up to them
+pub record Under (y z : List ℕ) (from nb d a : ℕ) (x : List ℕ) : Type 0 where
+  pub bits : AllBits x
+  pub long : from + nb ≤ length x
+  pub before : losses (take from x) y ≡ d
+  pub inside : losses (take (from + nb) x) y ≡ d + a
+  pub least : AtLeast from z x
 
 -- the first bit of the least string there
 pub record Bit (y : List ℕ) (p left w next lost bit : ℕ) : Type 0 where
@@ -124,14 +136,14 @@ next-at-least b w z x h = rw (next_block b w) h
 
 -- ---- the answers of a comparison
 module _ {g e : ℕ} {z x : List ℕ} where
-  pub compared_before : Compared g e z x 0
-  compared_before = record { after = λ i. absurd (omega (arith, i)); same = λ i. absurd (omega (arith, i)) }
+  pub compared_same : (AtLeast g z x → AtLeast e z x) → Compared g e z x Equal
+  compared_same f = record { after = λ i. cc; same = λ i. f }
 
-  pub compared_same : (AtLeast g z x → AtLeast e z x) → Compared g e z x 1
-  compared_same f = record { after = λ i. absurd (omega (arith, i)); same = λ i. f }
-
-  pub compared_after : (AtLeast g z x → Less z x) → Compared g e z x 2
-  compared_after f = record { after = λ i. f; same = λ i. absurd (omega (arith, i)) }
+  -- of two numbers that are not the same
+  pub compared_unlike : {answer : Ordering} (own held : ℕ) → answer ≡ nat_cmp own held → (answer ≡ Equal → ⊥)
+      → (held < own → AtLeast g z x → Less z x) → Compared g e z x answer
+  compared_unlike {answer} own held r n f =
+      record { after = λ i. f (rw i at (ranked own held answer r)); same = λ i. absurd (n i) }
 
 -- ---- what comes after the last row held is known, where more were found than fit
 module _ (s : Sought) (list : List ℕ) (kept : Kept) where

@@ -2,6 +2,8 @@
 -- were found than fit, every row that comes after the last row held is known. A piece of a row that loses just a bits
 -- against the received row is at least the string that has a 0 wherever it can.
 use Rattle.std.specs.Prelude.{ℕ, ◌+◌, ◌-◌, ◌*◌, ◌<◌, ◌≡◌, cond, ◌⊎◌, List, eqb, get_or, take}
+use Rattle.std.specs.declared.cmp.Ordering.{Ordering}
+use Rattle.std.specs.declared.cmp.Ordering.TheVariants.{Equal, Greater}
 use Rattle.rows.specs.Order.{Less}
 use Rattle.message.specs.Layout.{block_bits}
 use Rattle.message.specs.declared.Layout.{Layout}
@@ -26,11 +28,11 @@ bit_of next lost = cond (eqb lost 0) next (1 - next)
 abbrev pub AtLeast : (g : ℕ) (z x : List ℕ) → Type 0
 AtLeast g z x = Less z x ⊎ (take g x ≡ take g z)
 
--- what an answer says that compares bits g to e of the floor with those of z, of a row x that is at least z up to g: 2,
--- that x comes after z; 1, that it is at least z up to e
-pub record Compared (g e : ℕ) (z x : List ℕ) (answer : ℕ) : Type 0 where
-  pub after : answer ≡ 2 → AtLeast g z x → Less z x
-  pub same : answer ≡ 1 → AtLeast g z x → AtLeast e z x
+-- what an answer says that compares bits g to e of the floor with those of z, of a row x that is at least z up to g:
+-- Greater, that x comes after z; Equal, that it is at least z up to e
+pub record Compared (g e : ℕ) (z x : List ℕ) (answer : Ordering) : Type 0 where
+  pub after : answer ≡ Greater → AtLeast g z x → Less z x
+  pub same : answer ≡ Equal → AtLeast g z x → AtLeast e z x
 
 -- block b of x stands in the row in hand
 abbrev pub BlockInHand : Layout → (row : List ℕ) (b : ℕ) (x : List ℕ) → Type 0
@@ -42,5 +44,5 @@ pub record BlockLoses (l : Layout) (y : List ℕ) (b d a : ℕ) (x : List ℕ) :
   pub inside : losses (take (b * block_bits l + block_bits l) x) y ≡ d + a
 
 -- block b of a row x compared with that of z
-abbrev pub BlockCompared : Layout → (b : ℕ) (z x : List ℕ) (answer : ℕ) → Type 0
+abbrev pub BlockCompared : Layout → (b : ℕ) (z x : List ℕ) (answer : Ordering) → Type 0
 BlockCompared l b z x answer = Compared (b * block_bits l) (b * block_bits l + block_bits l) z x answer

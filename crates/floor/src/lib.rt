@@ -16,15 +16,14 @@ ghost use Rattle.floor.specs.Floor.{next_bit, least_lost, bit_of, BlockInHand, B
 use bits::BitCursor;
 use message::Layout;
 use rows::Kept;
+use std::cmp::Ordering;
 
 // The number that the k bits from a place of a packed row on spell.
 fn number_in(packed: &[u8], at: usize, k: usize) -> usize
     requires { (k ≤ 8) × ((length packed.now ≤ bytes_for longest) × (at + k ≤ length packed.now * 8)) }
     ensures { result ≡ number k (drop at (unpacked packed.now)) }
 {
-    let c = BitCursor { at };
-    let field = c.take(packed, k);
-    field.value as usize
+    usize::from(BitCursor { at }.take(packed, k).value)
 }
 
 // The next bit of the received row at a place, 1 where it has ended.
@@ -32,10 +31,7 @@ fn next_bit(y: &[u8], p: usize) -> usize
     requires { AllBits y.now }
     ensures { (result ≡ next_bit y.now p) × (result ≤ 1) }
 {
-    if y.len() <= p {
-        return 1;
-    }
-    bits::wide(y[p])
+    if p < y.len() { usize::from(y[p]) } else { 1 }
 }
 
 // Of the least string of so many bits that loses just `left`, whether the first bit is lost (1) or takes the next bit
@@ -45,12 +41,12 @@ fn least_lost(next: usize, left: usize, bits: usize) -> usize
     ensures { (result ≡ least_lost next left bits) × ((result ≤ 1) × (result ≤ left)) }
 {
     if left == 0 {
-        return 0;
+        0
+    } else if left == bits {
+        1
+    } else {
+        next
     }
-    if left == bits {
-        return 1;
-    }
-    next
 }
 
 // The bit that is lost against the next bit, or takes it.
@@ -58,39 +54,29 @@ fn bit_of(next: usize, lost: usize) -> usize
     requires { next ≤ 1 }
     ensures { result ≡ bit_of next lost }
 {
-    if lost == 0 {
-        return next;
-    }
-    1 - next
+    if lost == 0 { next } else { 1 - next }
 }
 
-// Block b in hand compared with that of the row `last`: whether it comes before (0), is it (1) or comes after (2).
-fn light_block(l: Layout, row: &[u8], b: usize, last: &[u8]) -> u8
+// Block b in hand compared with that of the row `last`.
+fn light_block(l: Layout, row: &[u8], b: usize, last: &[u8]) -> Ordering
     requires { (legal l ≡ true) × ((b < l.l1) × ((l.l1 * l.l2 ≤ length row.now)
         × (length last.now ≡ bytes_for (row_bits l)))) }
     ensures { (x : List ℕ) → Row (row_bits l) x → BlockInHand l row.now b x
         → BlockCompared l b (unpacked last.now) x result }
 {
     let from = b * l.l2;
-    let mut j: usize = 0;
-    while j < l.l2 {
-        let c = from + j;
-        let own = bits::wide(row[c]);
-        let held = number_in(last, c * l.nc, l.nc);
-        if own < held {
-            return 0;
+    for (j, own) in row[from..from + l.l2].iter().enumerate() {
+        let held = number_in(last, (from + j) * l.nc, l.nc);
+        match usize::from(*own).cmp(&held) {
+            Ordering::Equal => {}
+            order => return order,
         }
-        if held < own {
-            return 2;
-        }
-        j += 1;
     }
-    1
+    Ordering::Equal
 }
 
-// The least block b that loses a bits, after d, compared with that of the row `last`: whether it comes before (0), is
-// it (1) or comes after (2).
-fn heavy_block(l: Layout, y: &[u8], b: usize, d: usize, a: usize, last: &[u8]) -> u8
+// The least block b that loses a bits, after d, compared with that of the row `last`.
+fn heavy_block(l: Layout, y: &[u8], b: usize, d: usize, a: usize, last: &[u8]) -> Ordering
     requires { (legal l ≡ true) × (AllBits y.now × ((b < l.l1) × (length last.now ≡ bytes_for (row_bits l)))) }
     ensures { (x : List ℕ) → Row (row_bits l) x → BlockLoses l y.now b d a x
         → BlockCompared l b (unpacked last.now) x result }
@@ -98,41 +84,46 @@ fn heavy_block(l: Layout, y: &[u8], b: usize, d: usize, a: usize, last: &[u8]) -
     let nb = l.l2 * l.nc;
     let from = b * nb;
     if from < d {
-        return 0;
+        return Ordering::Less;
     }
     let mut p = from - d;
     let mut left = a;
-    let mut u: usize = 0;
-    while u < nb {
+    for u in 0..nb {
         let next = next_bit(y, p);
         let lost = least_lost(next, left, nb - u);
         let least = bit_of(next, lost);
         let held = number_in(last, from + u, 1);
-        if least < held {
-            return 0;
-        }
-        if held < least {
-            return 2;
+        match least.cmp(&held) {
+            Ordering::Equal => {}
+            order => return order,
         }
         p += 1 - lost;
         left -= lost;
-        u += 1;
     }
-    1
+    Ordering::Equal
 }
 
 // Block b of a row that loses d bits before it and a in it, compared with that of the row `last`: a block with none or
 // one loss is in hand, of another the least is taken.
-fn compare_block(l: Layout, y: &[u8], row: &[u8], b: usize, d: usize, a: usize, last: &[u8]) -> u8
+fn compare_block(
+    l: Layout,
+    y: &[u8],
+    row: &[u8],
+    b: usize,
+    d: usize,
+    a: usize,
+    last: &[u8],
+) -> Ordering
     requires { (legal l ≡ true) × (AllBits y.now × ((b < l.l1) × ((l.l1 * l.l2 ≤ length row.now)
         × (length last.now ≡ bytes_for (row_bits l))))) }
     ensures { (x : List ℕ) → Row (row_bits l) x → BlockLoses l y.now b d a x
         → (a ≤ 1 → BlockInHand l row.now b x) → BlockCompared l b (unpacked last.now) x result }
 {
     if a <= 1 {
-        return light_block(l, row, b, last);
+        light_block(l, row, b, last)
+    } else {
+        heavy_block(l, y, b, d, a, last)
     }
-    heavy_block(l, y, b, d, a, last)
 }
 
 // Whether every row under the first i counts of a loss pattern comes after the row `last`.
@@ -142,16 +133,14 @@ fn after_row(l: Layout, y: &[u8], counts: &[u8], row: &[u8], i: usize, last: &[u
     ensures { result ≡ true → (x : List ℕ) → Row (row_bits l) x → OwnCounts l y.now counts.now i x
         → LightInHand l counts.now i row.now x → Less (unpacked last.now) x }
 {
-    let mut d: usize = 0;
-    let mut b: usize = 0;
-    while b < i {
-        let a = bits::wide(counts[b]);
-        let order = compare_block(l, y, row, b, d, a, last);
-        if order != 1 {
-            return order == 2;
+    let mut d = 0;
+    for (b, count) in counts[..i].iter().enumerate() {
+        let a = usize::from(*count);
+        match compare_block(l, y, row, b, d, a, last) {
+            Ordering::Less => return false,
+            Ordering::Equal => d += a,
+            Ordering::Greater => return true,
         }
-        d += a;
-        b += 1;
     }
     false
 }
