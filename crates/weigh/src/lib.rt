@@ -38,13 +38,7 @@ fn is_there(nc: usize, m: usize, place: usize, lost: usize) -> bool
     requires { m ≤ longest }
     ensures { (result ≡ true → There nc m place lost) × (There nc m place lost → result ≡ true) }
 {
-    if nc < lost {
-        return false;
-    }
-    if m < place {
-        return false;
-    }
-    nc - lost <= m - place
+    lost <= nc && place <= m && nc - lost <= m - place
 }
 
 // The next w bits from place p on, from the tables.
@@ -53,10 +47,10 @@ pub fn look(y: &[u8], totals: &[u32], counts: &[u16], p: usize, w: usize) -> See
         × (p + w ≤ length y.now))) }
     ensures { SeenIn (take w (drop p y.now)) w result }
 {
-    let ones = (counts[p + w] - counts[p]) as usize;
+    let ones = usize::from(counts[p + w] - counts[p]);
     let high = (totals[p + w] - totals[p]) as usize;
     Seen {
-        ones: ones,
+        ones,
         total: high - p * ones,
     }
 }
@@ -86,23 +80,20 @@ pub fn more_ones(
         first: 0,
         last: lost,
     };
-    if lost == 0 {
-        return any;
-    }
-    if y.len() <= place + w {
+    if lost == 0 || y.len() <= place + w {
         return any;
     }
     let next = look(y, totals, counts, place, w + 1);
     if next.ones == 0 {
-        return Extra {
+        Extra {
             first: lost,
             last: lost,
-        };
+        }
+    } else if next.ones == w + 1 {
+        Extra { first: 0, last: 0 }
+    } else {
+        any
     }
-    if next.ones == w + 1 {
-        return Extra { first: 0, last: 0 };
-    }
-    any
 }
 
 // A span with one chunk more, which has so many positions before it and g ones more than were received: least, the lost
@@ -153,27 +144,23 @@ fn brings(
         → brought nc chunks.block vs chunks.n % modulus ≡ need → result ≡ true }
 {
     let place = chunks.place[s];
-    let lost = chunks.lost[s] as usize;
+    let lost = usize::from(chunks.lost[s]);
     if !is_there(nc, y.len(), place, lost) {
         return false;
     }
     let seen = look(y, totals, counts, place, nc - lost);
-    let before = chunks.block[s] as usize * nc;
+    let before = usize::from(chunks.block[s]) * nc;
     let more = more_ones(y, totals, counts, place, nc - lost, lost);
-    let last = more.last;
-    let mut g = more.first;
-    while g <= last {
+    for g in more.first..=more.last {
         let wider = widen(nc, before, lost, seen, g, span);
-        if s + 1 == chunks.n {
-            if reaches(modulus, need, wider) {
-                return true;
-            }
+        let found = if s + 1 == chunks.n {
+            reaches(modulus, need, wider)
         } else {
-            if brings(nc, modulus, y, totals, counts, chunks, s + 1, need, wider) {
-                return true;
-            }
+            brings(nc, modulus, y, totals, counts, chunks, s + 1, need, wider)
+        };
+        if found {
+            return true;
         }
-        g += 1;
     }
     false
 }
