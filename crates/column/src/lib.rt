@@ -25,11 +25,7 @@ fn clear(n: usize, at: usize, out: &mut [u8])
     requires { at + n ≤ length out.old }
     ensures { Zeroed n at out.old out.new }
 {
-    let mut i: usize = 0;
-    while i < n {
-        out[at + i] = 0;
-        i += 1;
-    }
+    out[at..at + n].fill(0);
 }
 
 // Makes the chunks of the heavy blocks zero in the row in hand.
@@ -38,11 +34,8 @@ fn clear_heavy(l: Layout, heavy: Heavy, row: &mut [u8])
         × ((s : ℕ) → s < heavy.n → get_or heavy.block s 0 < l.l1) }
     ensures { Cleared l heavy heavy.n row.old row.new }
 {
-    let n = heavy.n;
-    let mut s: usize = 0;
-    while s < n {
-        clear(l.l2, bits::wide(heavy.block[s]) * l.l2, row);
-        s += 1;
+    for block in &heavy.block[..heavy.n] {
+        clear(l.l2, usize::from(*block) * l.l2, row);
     }
 }
 
@@ -65,11 +58,9 @@ pub fn light_sums(
     let modulus = l.l1 * l.nc + 1;
     let table = vt::weights();
     clear_heavy(l, heavy, row);
-    let mut j: usize = 0;
-    while j < l2 {
+    for (j, sum) in known[..l2].iter_mut().enumerate() {
         let total = lines::line_total(&table, l.nc, j, l2, l.l1, row);
-        known[j] = (total % modulus) as u16;
-        j += 1;
+        *sum = (total % modulus) as u16;
     }
 }
 
@@ -97,16 +88,16 @@ pub fn place_of(l: Layout, size: usize, block: u8, j: usize, end: u8, left: u8, 
         return none;
     }
     let lost = left - next;
-    if nc < bits::wide(lost) {
+    if nc < usize::from(lost) {
         return none;
     }
-    let from = (bits::wide(block) * l.l2 + j) * nc + bits::wide(left);
-    let before = bits::wide(end);
+    let from = (usize::from(block) * l.l2 + j) * nc + usize::from(left);
+    let before = usize::from(end);
     if from < before {
         return none;
     }
     let at = from - before;
-    let ok = at + nc <= size + bits::wide(lost);
+    let ok = at + nc <= size + usize::from(lost);
     Place { ok, at, lost }
 }
 
@@ -132,32 +123,28 @@ pub fn find_chunks(
         → result.ok ≡ true)
         × (result.ok ≡ true → Placed l (length y.now) heavy j (each left) (each next) result.chunks) }
 {
-    let n = heavy.n;
-    let block = heavy.block;
-    let mut place: [usize; weigh::MOST] = [0; weigh::MOST];
-    let mut lost: [u8; weigh::MOST] = [0; weigh::MOST];
-    let mut s: usize = 0;
-    while s < n {
-        let p = place_of(l, y.len(), block[s], j, heavy.end[s], left[s], next[s]);
-        place[s] = p.at;
-        lost[s] = p.lost;
+    let mut chunks = weigh::Chunks {
+        n: heavy.n,
+        block: heavy.block,
+        place: [0; weigh::MOST],
+        lost: [0; weigh::MOST],
+    };
+    for s in 0..heavy.n {
+        let p = place_of(
+            l,
+            y.len(),
+            heavy.block[s],
+            j,
+            heavy.end[s],
+            left[s],
+            next[s],
+        );
         if !p.ok {
-            let chunks = weigh::Chunks {
-                n,
-                block,
-                place,
-                lost,
-            };
             return Found { ok: false, chunks };
         }
-        s += 1;
+        chunks.place[s] = p.at;
+        chunks.lost[s] = p.lost;
     }
-    let chunks = weigh::Chunks {
-        n,
-        block,
-        place,
-        lost,
-    };
     Found { ok: true, chunks }
 }
 
@@ -198,13 +185,7 @@ pub fn other(nc: usize, y: &[u8], totals: &[u32], counts: &[u16], at: usize, los
     ensures { ((u : ℕ) → (lost ≡ 0 → u ≡ number nc (drop at y.now)) → cond (eqb u v) 0 1 ≤ result)
         × (result ≤ 1) }
 {
-    if 0 < lost {
-        return 1;
-    }
-    if read_number(nc, y, totals, counts, at) == v {
-        return 0;
-    }
-    1
+    u8::from(0 < lost || read_number(nc, y, totals, counts, at) != v)
 }
 
 // One more than the number of heavy blocks whose chunk in column j can be another than in z.
@@ -224,14 +205,18 @@ fn others(
     ensures { ((vs : List ℕ) → AsRead l y.now heavy chunks vs j heavy.n
         → apart_in l heavy z.now vs j heavy.n < result) × (result ≤ 7) }
 {
-    let n = heavy.n;
-    let nc = l.nc;
-    let mut r: u8 = 1;
-    let mut s: usize = 0;
-    while s < n {
-        let c = bits::wide(heavy.block[s]) * l.l2 + j;
-        r += other(nc, y, totals, counts, chunks.place[s], chunks.lost[s], z[c]);
-        s += 1;
+    let mut r = 1;
+    for s in 0..heavy.n {
+        let c = usize::from(heavy.block[s]) * l.l2 + j;
+        r += other(
+            l.nc,
+            y,
+            totals,
+            counts,
+            chunks.place[s],
+            chunks.lost[s],
+            z[c],
+        );
     }
     r
 }
@@ -264,7 +249,11 @@ pub fn crossing(
     }
     let chunks = found.chunks;
     let modulus = l.l1 * l.nc + 1;
-    let need = missing(numbers[l.l1 + j] as usize, known[j] as usize, modulus);
+    let need = missing(
+        usize::from(numbers[l.l1 + j]),
+        usize::from(known[j]),
+        modulus,
+    );
     if !weigh::can_bring(l.nc, modulus, y, totals, counts, chunks, need) {
         return 0;
     }
