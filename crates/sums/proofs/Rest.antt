@@ -1,9 +1,9 @@
 -- What a heavy block brings to its total from a column on: in the end nothing, before a column what its chunk there brings
 -- more, and at first what its sum is. Rests on the laws of lines. Assumes nothing.
-use Prim.Native.Nat.{ℕ, ◌+◌, ◌*◌, ◌-◌, ◌%◌, ◌<◌}
+use Prim.Native.Nat.{ℕ, ◌+◌, ◌*◌, ◌%◌, ◌<◌}
 use mathlib.Core.Path.{◌≡◌, ap, ◌∙◌}
 use mathlib.Core.List.{List}
-use native.Mathlib.Nat.{add_comm, add-zero, zero-mul, mul-one}
+use native.Mathlib.Nat.{add_comm, mul-one}
 use native.Mathlib.Omega.{arith}
 use lib.ListN.{get_or}
 use Rattle.bits.specs.Bits.{digits}

@@ -30,10 +30,7 @@ pub fn is_short(l: Layout) -> bool
     requires { legal l ≡ true }
     ensures { (result ≡ true → Short l) × (Short l → result ≡ true) }
 {
-    if 62 < l.l2 * l.nc {
-        return false;
-    }
-    l.l1 * l.nc <= 62
+    l.l2 * l.nc <= 62 && l.l1 * l.nc <= 62
 }
 
 // A set moved on by each of the contents that are listed from low to high: by the total of its positions, of which the first is given.
@@ -51,12 +48,10 @@ pub fn with_each(
         → Has m result (n + total first (digits nc v)) }
 {
     let table = vt::weights();
-    let mut r: u64 = 0;
-    let mut k = low;
-    while k < high {
+    let mut r = 0;
+    for k in low..high {
         let by = lines::chunk_total(&table, nc, list[k], first);
         r = residues::together(r, residues::moved_on(set, m, by));
-        k += 1;
     }
     r
 }
@@ -99,15 +94,13 @@ fn without_each(
         → Has m set (n + total first (digits nc v)) → Has m result n }
 {
     let table = vt::weights();
-    let mut r: u64 = 0;
-    let mut k = low;
-    while k < high {
+    let mut r = 0;
+    for k in low..high {
         let v = list[k];
         if completes(&table, nc, beside, v) {
             let by = lines::chunk_total(&table, nc, v, first);
             r = residues::together(r, residues::moved_back(set, m, by));
         }
-        k += 1;
     }
     r
 }
@@ -117,17 +110,14 @@ fn list_chunks(nc: usize, y: &[u8], chunks: weigh::Chunks, list: &mut [u8]) -> [
     requires { (nc ≤ 8) × ((chunks.n ≤ 6) × (1536 ≤ length list.old)) }
     ensures { Listing nc y.now chunks list.new result chunks.n }
 {
-    let n = chunks.n;
-    let mut from: [usize; PARTS] = [0; PARTS];
-    let mut end: usize = 0;
-    let mut s: usize = 0;
-    while s < n {
+    let mut from = [0; PARTS];
+    let mut end = 0;
+    for s in 0..chunks.n {
         let place = chunks.place[s];
         if place <= y.len() {
             end = contents::list_behind(nc, y, place, chunks.lost[s], list, end);
         }
-        s += 1;
-        from[s] = end;
+        from[s + 1] = end;
     }
     from
 }
@@ -151,13 +141,11 @@ fn other_sums(
     let nc = l.nc;
     let modulus = l.l1 * nc + 1;
     let mut r = residues::only(known);
-    let mut b: usize = 0;
-    while b < n {
+    for b in 0..n {
         if b != s {
-            let first = bits::wide(block[b]) * nc + 1;
+            let first = usize::from(block[b]) * nc + 1;
             r = with_each(nc, modulus, first, list, from[b], from[b + 1], r);
         }
-        b += 1;
     }
     r
 }
@@ -187,8 +175,8 @@ fn set_after(
     let beside = Beside {
         others: other_sums(l, heavy.n, heavy.block, list, from, known, s),
         modulus: l.l1 * nc + 1,
-        first: bits::wide(heavy.block[s]) * nc + 1,
-        want: want,
+        first: usize::from(heavy.block[s]) * nc + 1,
+        want,
     };
     without_each(
         nc,
@@ -209,15 +197,12 @@ pub fn at_first(l: Layout, numbers: &[u16], heavy: Heavy) -> [u64; states::MOST_
         → sum (line l.nc (get_or heavy.block s 0 * l.l2) 1 l.l2 vs) ≡ get_or numbers.now (get_or heavy.block s 0) 0)
         → Holds l heavy result vs 0 }
 {
-    let n = heavy.n;
-    let mut sets: [u64; states::MOST_HEAVY] = [0; states::MOST_HEAVY];
-    let mut s: usize = 0;
-    while s < n {
-        let sum = numbers[bits::wide(heavy.block[s])] as usize;
+    let mut sets = [0; states::MOST_HEAVY];
+    for (s, block) in heavy.block[..heavy.n].iter().enumerate() {
+        let sum = usize::from(numbers[usize::from(*block)]);
         if sum < 64 {
             sets[s] = residues::only(sum);
         }
-        s += 1;
     }
     sets
 }
@@ -242,7 +227,7 @@ pub fn after(
     if !is_short(l) {
         return sets;
     }
-    let part = known[j] as usize;
+    let part = usize::from(known[j]);
     if 63 < part {
         return sets;
     }
@@ -250,15 +235,12 @@ pub fn after(
     if !found.ok {
         return sets;
     }
-    let n = heavy.n;
-    let mut list: [u8; CONTENTS] = [0; CONTENTS];
+    let mut list = [0; CONTENTS];
     let from = list_chunks(l.nc, y, found.chunks, &mut list);
-    let want = numbers[l.l1 + j] as usize;
-    let mut r: [u64; states::MOST_HEAVY] = [0; states::MOST_HEAVY];
-    let mut s: usize = 0;
-    while s < n {
+    let want = usize::from(numbers[l.l1 + j]);
+    let mut r = [0; states::MOST_HEAVY];
+    for s in 0..heavy.n {
         r[s] = set_after(l, heavy, j, &list, from, part, want, s, sets[s]);
-        s += 1;
     }
     r
 }
@@ -280,17 +262,14 @@ pub fn all_meet(
     if !is_short(l) {
         return true;
     }
-    let n = heavy.n;
-    let mut s: usize = 0;
-    while s < n {
-        let at = c * states::ENTRIES + s * states::LEFTS + bits::wide(left[s]);
-        if rests.len() <= at {
+    for s in 0..heavy.n {
+        let at = c * states::ENTRIES + s * states::LEFTS + usize::from(left[s]);
+        let Some(rest) = rests.get(at) else {
             return true;
-        }
-        if !residues::meet(sets[s], rests[at]) {
+        };
+        if !residues::meet(sets[s], *rest) {
             return false;
         }
-        s += 1;
     }
     true
 }
