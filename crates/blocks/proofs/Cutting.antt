@@ -1,10 +1,9 @@
 -- The open cells of a block, cut out one by one: what they bring and the rest of the block are the block's total, since
 -- a line's total changes just by what a changed chunk brings. Assumes nothing.
-use Prim.Native.Nat.{ℕ, zero, suc, ◌+◌, ◌-◌, ◌*◌, ◌^◌, ◌<◌, ◌≤◌}
+use Prim.Native.Nat.{ℕ, zero, suc, ◌+◌, ◌*◌, ◌^◌, ◌<◌, ◌≤◌}
 use mathlib.Core.Path.{◌≡◌, refl, sym, ap, ap₂, ◌∙◌}
 use mathlib.Core.Bool.{Bool, true, false, cond, false≢true}
 use mathlib.Core.List.{List}
-use mathlib.Core.Logic.{◌⊎◌, inl, inr, ⊎_elim}
 use native.Mathlib.Decide.{ℕ_discrete}
 use native.Mathlib.Nat.{mul-one}
 use native.Mathlib.Numerals.{add-one}
@@ -20,9 +19,8 @@ use Rattle.vt.specs.Sum.{total}
 use Rattle.message.specs.declared.Layout.{Layout}
 use Rattle.consistent.specs.Greedy.{losses}
 use Rattle.consistent.proofs.Greedy.{losses-most, piece}
-use Rattle.lines.specs.Lines.{line}
 use Rattle.lines.proofs.Parts.{total_zero, total_but}
-use Rattle.cells.specs.Cells.{Open, OpenAt, Placed, chunk_of}
+use Rattle.cells.specs.Cells.{Open, chunk_of}
 use Rattle.cells.specs.declared.Cells.{Cells}
 use Rattle.weigh.specs.Weigh.{Can, brought}
 use Rattle.blocks.specs.Blocks.{is_in, bare, Longer, Lose, own_of, block_total, CutOut}

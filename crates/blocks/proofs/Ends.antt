@@ -1,13 +1,11 @@
 -- A row whose block has lost all its bits: what its open cells bring to the block's sum is what the rest of the block
 -- leaves. Rests on Cutting. Assumes nothing.
-use Prim.Native.Nat.{ℕ, ◌+◌, ◌-◌, ◌*◌, ◌%◌, ◌<◌, ◌≤◌}
-use mathlib.Core.Path.{◌≡◌, refl, sym, ap, ◌∙◌}
-use mathlib.Core.List.{List, ◌++◌}
+use Prim.Native.Nat.{ℕ, ◌+◌, ◌*◌, ◌%◌, ◌<◌, ◌≤◌}
+use mathlib.Core.Path.{◌≡◌, sym, ap, ◌∙◌}
+use mathlib.Core.List.{List}
 use mathlib.Core.Logic.{⊎_elim}
 use native.Mathlib.Nat.{mod-add-mod, mul-one}
-use native.Mathlib.Omega.{arith}
-use lib.ListN.{length, get_or, take, drop, length-drop, length-append, get_or-append}
-use lib.Seq.{length-take-le, get_or-append-add, get_or-take, get_or-drop}
+use lib.ListN.{get_or}
 use Rattle.bits.proofs.Laws.{lt_or_ge}
 use Rattle.vt.specs.Sum.{sum}
 use Rattle.message.specs.declared.Layout.{Layout}
@@ -16,27 +14,9 @@ use Rattle.lines.proofs.Lines.{line_same}
 use Rattle.lines.proofs.Turns.{sum_of_total}
 use Rattle.cells.specs.declared.Cells.{Cells}
 use Rattle.weigh.specs.Weigh.{brought}
-use Rattle.blocks.specs.Blocks.{bare, own_of, block_total, CutOut, ReadOn, Ended}
+use Rattle.blocks.specs.Blocks.{bare, own_of, block_total, CutOut, Ended}
 use Rattle.blocks.specs.declared.Cut.{Cut}
 use Rattle.blocks.proofs.Cutting.{bare-same, open_in}
-
--- numbers that are copied to their own places stand there
-pub copied_at : (row out : List ℕ) (at n c : ℕ) → at + n ≤ length out → at + n ≤ length row → c < n
-    → get_or (take at out ++ take (at + n - at) (drop at row) ++ drop (at + length (take (at + n - at) (drop at row))) out)
-    (at + c) 0
-    ≡ get_or row (at + c) 0
-copied_at row out at n c in-out in_row h =
-    let front = take at out in
-    let part = take (at + n - at) (drop at row) in
-    let long : length front ≡ at = length-take-le at out (omega arith) in
-    let size : length part ≡ n =
-    length-take-le (at + n - at) (drop at row) (omega (arith, length-drop at row)) ∙ omega arith in
-    let both : at + c < length (front ++ part) = omega (arith, length-append front part, long, size) in
-    get_or-append (front ++ part) (drop (at + length part) out) 0 (at + c) both
-    ∙ ap (λ (k : ℕ). get_or (front ++ part) (k + c) 0) (sym long)
-    ∙ get_or-append-add front part c 0
-    ∙ get_or-take (at + n - at) (drop at row) c 0 (omega arith)
-    ∙ get_or-drop at row c 0
 
 module _ {l : Layout} {y numbers : List ℕ} {cells : Cells} {row : List ℕ} {i end j : ℕ} {vs : List ℕ}
     (e : Ended l y numbers cells row i end j vs) (out : List ℕ)

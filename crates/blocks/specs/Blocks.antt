@@ -1,7 +1,7 @@
 -- A block whose losses are all shared out: its chunks are those in hand but for its open cells, and those behind its
 -- last loss are read from the received row. What the open cells bring to its sum is weighed as in a chunk-string, of
 -- which the columns are the blocks.
-use Rattle.std.specs.Prelude.{ℕ, zero, suc, ◌+◌, ◌-◌, ◌*◌, ◌^◌, ◌<◌, ◌≤◌, ◌≡◌, Bool, true, false, cond, ◌&&◌, not, ◌⊎◌, List, eqb, ltb, length, get_or, set, drop}
+use Rattle.std.specs.Prelude.{ℕ, zero, suc, ◌+◌, ◌-◌, ◌*◌, ◌^◌, ◌<◌, ◌≤◌, ◌≡◌, Bool, true, false, cond, ◌⊎◌, List, eqb, length, get_or, set, drop}
 use Rattle.bits.specs.Bits.{digits, number}
 use Rattle.vt.specs.Sum.{total, sum}
 use Rattle.message.specs.declared.Layout.{Layout}

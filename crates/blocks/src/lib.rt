@@ -2,7 +2,7 @@
 // are weighed as those of a chunk-string are. Contracts cite specs/Blocks.antt.
 #![tactic(auto)]
 
-ghost use Rattle.std.specs.Prelude.{◌≡◌, true, false, List, ℕ, ◌+◌, ◌*◌, ◌<◌, ◌≤◌, length, get_or};
+ghost use Rattle.std.specs.Prelude.{◌≡◌, true, List, ℕ, ◌+◌, ◌*◌, ◌<◌, ◌≤◌, length, get_or, IfSome};
 ghost use Rattle.bits.specs.Bits.{AllBits, longest, most_chunks};
 ghost use Rattle.message.specs.Layout.{legal};
 ghost use Rattle.windows.specs.Windows.{Tables};
@@ -12,10 +12,9 @@ ghost use Rattle.blocks.specs.Blocks.{stands_in, is_in, bare, Longer, CutOut, La
 use cells::Cells;
 use message::Layout;
 
-// Short chunks of one block, cut out of the row: whether they can be weighed, and a column behind all of theirs.
+// Short chunks of one block, cut out of the row, and a column behind all of theirs.
 #[derive(Clone, Copy)]
 pub struct Cut {
-    pub ok: bool,
     pub next: usize,
     pub chunks: weigh::Chunks,
 }
@@ -24,101 +23,72 @@ pub struct Cut {
 fn is_in(lost: u8, block: u8, i: usize) -> bool
     ensures { result ≡ stands_in lost block i }
 {
-    if lost == 0 {
-        return false;
-    }
-    block as usize == i
-}
-
-// Chunks that are not weighed: too many, or not in ascending columns.
-fn not_weighed(chunks: weigh::Chunks) -> Cut
-    ensures { result.ok ≡ false }
-{
-    Cut {
-        ok: false,
-        next: 0,
-        chunks: chunks,
-    }
+    lost != 0 && usize::from(block) == i
 }
 
 // One chunk more, of column j. Chunks are weighed where they come in ascending columns and are not too many.
-fn with_chunk(cut: Cut, j: u8, place: usize, lost: u8) -> Cut
-    ensures { result.ok ≡ true → Longer cut j place lost result }
+fn with_chunk(cut: Cut, j: u8, place: usize, lost: u8) -> Option<Cut>
+    ensures { IfSome result (λ new. Longer cut j place lost new) }
 {
-    let old = cut.chunks;
-    let n = old.n;
-    let column = bits::wide(j);
-    let next = cut.next;
-    if weigh::MOST <= n {
-        return not_weighed(old);
+    let mut chunks = cut.chunks;
+    let n = chunks.n;
+    let column = usize::from(j);
+    if weigh::MOST <= n || column < cut.next {
+        return None;
     }
-    if column < next {
-        return not_weighed(old);
-    }
-    let mut block = old.block;
-    block[n] = j;
-    let mut places = old.place;
-    places[n] = place;
-    let mut losses = old.lost;
-    losses[n] = lost;
-    let chunks = weigh::Chunks {
-        n: n + 1,
-        block: block,
-        place: places,
-        lost: losses,
-    };
-    Cut {
-        ok: true,
+    chunks.n = n + 1;
+    chunks.block[n] = j;
+    chunks.place[n] = place;
+    chunks.lost[n] = lost;
+    Some(Cut {
         next: column + 1,
-        chunks: chunks,
-    }
+        chunks,
+    })
 }
 
 // Cell z, which is open and stands in block i, cut out of a row, in which a zero is left for it.
-fn cut_cell(l: Layout, y: &[u8], cells: Cells, i: usize, z: usize, cut: Cut, row: &mut [u8]) -> Cut
+fn cut_cell(
+    l: Layout,
+    y: &[u8],
+    cells: Cells,
+    i: usize,
+    z: usize,
+    cut: Cut,
+    row: &mut [u8],
+) -> Option<Cut>
     requires { ((legal l ≡ true) × (i < l.l1))
         × (Placed l (length y.now) cells × ((z < 12) × ((is_in cells i z ≡ true) × (length row.old ≡ most_chunks)))) }
     ensures { (length row.new ≡ length row.old)
-        × (result.ok ≡ true → CutOut l y.now cells i z cut
-        → CutOut l y.now cells i (z + 1) result
+        × IfSome result (λ longer. CutOut l y.now cells i z cut
+        → CutOut l y.now cells i (z + 1) longer
         × ((vs : List ℕ) → row.old ≡ bare l cells i z vs → row.new ≡ bare l cells i (z + 1) vs)) }
 {
     let j = cells.column[z];
-    let longer = with_chunk(cut, j, cells.place[z], cells.lost[z]);
-    row[i * l.l2 + bits::wide(j)] = 0;
-    longer
+    let longer = with_chunk(cut, j, cells.place[z], cells.lost[z])?;
+    row[i * l.l2 + usize::from(j)] = 0;
+    Some(longer)
 }
 
 // The open cells of block i cut out of a row, in which a zero is left for each.
-fn cut_out(l: Layout, y: &[u8], cells: Cells, i: usize, row: &mut [u8]) -> Cut
+fn cut_out(l: Layout, y: &[u8], cells: Cells, i: usize, row: &mut [u8]) -> Option<Cut>
     requires { (legal l ≡ true) × ((i < l.l1) × (Placed l (length y.now) cells × (length row.old ≡ most_chunks))) }
-    ensures { result.ok ≡ true
-        → CutOut l y.now cells i 12 result × (row.new ≡ bare l cells i 12 row.old) }
+    ensures { IfSome result (λ cut. CutOut l y.now cells i 12 cut × (row.new ≡ bare l cells i 12 row.old)) }
 {
-    let none = weigh::Chunks {
-        n: 0,
-        block: [0; weigh::MOST],
-        place: [0; weigh::MOST],
-        lost: [0; weigh::MOST],
-    };
     let mut cut = Cut {
-        ok: true,
         next: 0,
-        chunks: none,
+        chunks: weigh::Chunks {
+            n: 0,
+            block: [0; weigh::MOST],
+            place: [0; weigh::MOST],
+            lost: [0; weigh::MOST],
+        },
     };
-    let lost = cells.lost;
-    let block = cells.block;
-    let mut z: usize = 0;
-    while z < 12 {
-        if is_in(lost[z], block[z], i) {
-            cut = cut_cell(l, y, cells, i, z, cut, row);
-            if !cut.ok {
-                return cut;
-            }
+    for z in 0..12 {
+        if is_in(cells.lost[z], cells.block[z], i) {
+            cut = cut_cell(l, y, cells, i, z, cut, row)?;
         }
-        z += 1;
     }
-    cut
+    Some(cut)
 }
 
 // The chunks of block i from column j on as they are read where no loss of the block is left, in a row; whether they are
@@ -128,12 +98,10 @@ fn read_on(l: Layout, y: &[u8], i: usize, end: u8, j: usize, row: &mut [u8]) -> 
         × (AllBits y.now × ((length y.now ≤ longest) × ((i < l.l1) × (length row.old ≡ most_chunks)))) }
     ensures { ReadOn l y.now i end j row.old row.new result }
 {
-    let columns = l.l2;
     let nc = l.nc;
-    let first = i * columns;
-    let before = bits::wide(end);
-    let mut c = j;
-    while c < columns {
+    let first = i * l.l2;
+    let before = usize::from(end);
+    for c in j..l.l2 {
         let at = (first + c) * nc;
         if at < before {
             return false;
@@ -143,7 +111,6 @@ fn read_on(l: Layout, y: &[u8], i: usize, end: u8, j: usize, row: &mut [u8]) -> 
             return false;
         }
         row[first + c] = message::chunks::number_at(y, place, nc);
-        c += 1;
     }
     true
 }
@@ -169,19 +136,18 @@ pub fn can_end(
     ensures { (vs : List ℕ)
         → Ended l y.now numbers.now cells row.now i end j vs → result ≡ true }
 {
-    let mut out: [u8; bits::MOST_CHUNKS] = [0; bits::MOST_CHUNKS];
+    let mut out = [0; bits::MOST_CHUNKS];
     let first = i * l.l2;
     let behind = first + l.l2;
-    bits::copy_to(&row[first..behind], &mut out, first);
+    out[first..behind].copy_from_slice(&row[first..behind]);
     if !read_on(l, y, i, end, j, &mut out) {
         return false;
     }
-    let cut = cut_out(l, y, cells, i, &mut out);
-    if !cut.ok {
+    let Some(cut) = cut_out(l, y, cells, i, &mut out) else {
         return true;
-    }
+    };
     let modulus = l.l2 * l.nc + 1;
     let part = lines::line_sum(l.nc, first, 1, l.l2, &out);
-    let need = column::missing(numbers[i] as usize, part, modulus);
+    let need = column::missing(usize::from(numbers[i]), part, modulus);
     weigh::can_bring(l.nc, modulus, y, totals, counts, cut.chunks, need)
 }
