@@ -48,7 +48,7 @@ pub fn reading(
     if !p.ok {
         return UNREAD;
     }
-    weight(y, totals, counts, p.at, l.nc, bits::wide(block) * l.nc)
+    weight(y, totals, counts, p.at, l.nc, usize::from(block) * l.nc)
 }
 
 // Puts what the chunk of heavy block s in column j brings into a table, for each number of losses left up to its size.
@@ -73,12 +73,9 @@ fn fill_block(
 {
     let block = heavy.block[s];
     let end = heavy.end[s];
-    let most = bits::wide(size);
     let at = s * states::LEFTS;
-    let mut e: usize = 0;
-    while e <= most {
+    for e in 0..=usize::from(size) {
         table[at + e] = reading(l, y, totals, counts, block, end, j, e) as u16;
-        e += 1;
     }
 }
 
@@ -99,11 +96,8 @@ pub fn fill(
     ensures { (length table.new ≡ length table.old)
         × Readings l y.now heavy size j table.new }
 {
-    let n = heavy.n;
-    let mut s: usize = 0;
-    while s < n {
+    for s in 0..heavy.n {
         fill_block(l, y, totals, counts, heavy, size[s], j, s, table);
-        s += 1;
     }
 }
 
@@ -112,11 +106,9 @@ pub fn all(n: usize, left: [u8; states::MOST_HEAVY], table: &[u16]) -> usize
     requires { (n ≤ 6) × (((s : ℕ) → s < n → get_or left s 0 < lefts) × (entry_at n 0 ≤ length table.now)) }
     ensures { (result ≡ added_up table.now (each left) n) × (result ≤ n * unread) }
 {
-    let mut sum: usize = 0;
-    let mut s: usize = 0;
-    while s < n {
-        sum += table[s * states::LEFTS + bits::wide(left[s])] as usize;
-        s += 1;
+    let mut sum = 0;
+    for (s, e) in left[..n].iter().enumerate() {
+        sum += usize::from(table[s * states::LEFTS + usize::from(*e)]);
     }
     sum
 }
