@@ -1,5 +1,5 @@
 -- Tables of what walks count, step by step. Assumes nothing.
-use Prim.Native.Nat.{ℕ, ◌+◌, ◌*◌, ◌<◌, ◌≤◌}
+use Prim.Native.Nat.{ℕ, ◌+◌, ◌<◌, ◌≤◌, max}
 use mathlib.Core.Path.{◌≡◌, refl, ◌∙◌}
 use mathlib.Core.Bool.{Bool}
 use mathlib.Core.List.{List}
@@ -12,7 +12,7 @@ use lib.Seq.{get_or-set_same, get_or-set_other}
 use Rattle.message.specs.declared.Layout.{Layout}
 use Rattle.column.specs.declared.Heavy.{Heavy}
 use Rattle.states.specs.States.{lefts}
-use Rattle.far.specs.Far.{column_of, left_of, Reads, read_apart, Walk, step_at, Covered, Stepped}
+use Rattle.far.specs.Far.{column_of, left_of, Reads, read_apart, step_at, Covered, Stepped}
 
 module _ (l : Layout) (y : List ℕ) (heavy : Heavy) (z : List ℕ) (s size : ℕ) (ahead : Bool) (at : ℕ)
     (small : size < lefts) where
@@ -88,29 +88,26 @@ module _ (l : Layout) (y : List ℕ) (heavy : Heavy) (z : List ℕ) (s size : �
         whole = λ v h. absurd (omega arith);
       }
 
-  -- one entry more: a says whether the chunk as read is another, and new and more are the greater ones
+  -- one entry more: a says whether the chunk as read is another
   pub stepping_next : (table : List ℕ) (most w a new more : ℕ) → size < lefts → step_at at (t + 2) ≤ length table
       → w ≤ size
       → Stepping table most w → get_or entry (step_at at t + w) 0 ≤ t → a ≤ 1
       → (Reads l y heavy s (column_of ahead l.l2 t) (left_of ahead size w)
       → read_apart l y heavy z s (column_of ahead l.l2 t) (left_of ahead size w) ≤ a)
-      → ((most ≤ new) × (get_or entry (step_at at t + w) 0 + a ≤ new))
-      × ((m : ℕ) → most ≤ m → get_or entry (step_at at t + w) 0 + a ≤ m → new ≤ m)
-      → ((most ≤ more) × (get_or entry (step_at at t + w) 0 + 1 ≤ more))
-      × ((m : ℕ) → most ≤ m → get_or entry (step_at at t + w) 0 + 1 ≤ m → more ≤ m)
+      → new ≡ max most (get_or entry (step_at at t + w) 0 + a) → more ≡ max most (get_or entry (step_at at t + w) 0 + 1)
       → Stepping (set table (step_at at (t + 1) + w) new) more (w + 1)
   stepping_next table most w a new more small room h c here one reads up on =
       record {
         high = omega arith;
         long = length-set table place new ∙ c.long;
         before = λ i k. get_or-set_other table place i new 0 (λ e. omega arith) ∙ c.before i k;
-        few = on.1 (t + 1) c.few (omega arith);
-        above = below_more _ _ (λ v k. omega (arith, c.above v k, on.0.0)) on.0.1;
-        low = below_more _ _ (λ v k. rw (other v k) (c.low v k)) (rw same (up.1 (t + 1) c.few (omega arith)));
+        few = omega (arith, c.few);
+        above = below_more _ _ (λ v k. omega (arith, c.above v k)) (omega arith);
+        low = below_more _ _ (λ v k. rw (other v k) (c.low v k)) (rw same (omega (arith, c.few)));
         lost = below_more _ _ (λ v k u r. rw (other v k) (c.lost v k u r))
-            (λ u r. rw same (omega (arith, c.above u r, up.0.0)));
+            (λ u r. rw same (omega (arith, c.above u r)));
         whole = below_more _ _ (λ v k r. rw (other v k) (c.whole v k r))
-            (λ r. rw same (omega (arith, reads r, up.0.1)));
+            (λ r. rw same (omega (arith, reads r)));
       }
     where
       place : ℕ

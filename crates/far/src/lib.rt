@@ -31,11 +31,8 @@ pub fn read_apart(
     if !p.ok {
         return 0;
     }
-    let c = bits::wide(heavy.block[s]) * l.l2 + j;
-    if message::chunks::number_at(y, p.at, l.nc) == z[c] {
-        return 0;
-    }
-    1
+    let c = usize::from(heavy.block[s]) * l.l2 + j;
+    u8::from(message::chunks::number_at(y, p.at, l.nc) != z[c])
 }
 
 // The same at a step, where so many losses are counted.
@@ -55,19 +52,10 @@ fn step_apart(
         → read_apart l y.now heavy z.now s (column_of ahead l.l2 t) (left_of ahead size w) ≤ result) }
 {
     if ahead {
-        return read_apart(l, y, heavy, z, s, size, t, size - w);
+        read_apart(l, y, heavy, z, s, size, t, size - w)
+    } else {
+        read_apart(l, y, heavy, z, s, size, l.l2 - 1 - t, w)
     }
-    read_apart(l, y, heavy, z, s, size, l.l2 - 1 - t, w)
-}
-
-// The greater of two counts.
-fn higher(a: u8, b: u8) -> u8
-    ensures { ((a ≤ result) × (b ≤ result)) × ((m : ℕ) → a ≤ m → b ≤ m → result ≤ m) }
-{
-    if a < b {
-        return b;
-    }
-    a
 }
 
 // The entries of step t + 1: as many as those of step t where the chunk is read, and one more than those with fewer
@@ -92,27 +80,11 @@ fn next_step(
     let from = at + t * states::LEFTS;
     let to = from + states::LEFTS;
     let mut most: u8 = 0;
-    let mut w: usize = 0;
-    while w <= size {
+    for w in 0..=size {
         let here = table[from + w];
         let apart = step_apart(l, y, heavy, z, s, size, ahead, t, w);
-        table[to + w] = higher(most, here + apart);
-        most = higher(most, here + 1);
-        w += 1;
-    }
-}
-
-// Clears the entries of the first step.
-fn first_step(size: usize, at: usize, table: &mut [u8])
-    requires { (size < lefts) × (step_at at 1 ≤ length table.old) }
-    ensures { (length table.new ≡ length table.old)
-        × (((i : ℕ) → i < at → get_or table.new i 0 ≡ get_or table.old i 0)
-        × ((w : ℕ) → w ≤ size → get_or table.new (at + w) 0 ≡ 0)) }
-{
-    let mut w: usize = 0;
-    while w <= size {
-        table[at + w] = 0;
-        w += 1;
+        table[to + w] = most.max(here + apart);
+        most = most.max(here + 1);
     }
 }
 
@@ -132,12 +104,9 @@ fn sweep(
     ensures { Swept l y.now heavy z.now s size ahead at
         table.old table.new }
 {
-    first_step(size, at, table);
-    let columns = l.l2;
-    let mut t: usize = 0;
-    while t < columns {
+    table[at..=at + size].fill(0);
+    for t in 0..l.l2 {
         next_step(l, y, heavy, z, s, size, ahead, t, at, table);
-        t += 1;
     }
 }
 
@@ -159,21 +128,9 @@ pub fn fill(
         table.new)
         × (length table.new ≡ length table.old) }
 {
-    let n = heavy.n;
     let stride = (l.l2 + 1) * states::LEFTS;
-    let mut s: usize = 0;
-    while s < n {
-        sweep(
-            l,
-            y,
-            heavy,
-            z,
-            s,
-            bits::wide(size[s]),
-            ahead,
-            s * stride,
-            table,
-        );
-        s += 1;
+    for s in 0..heavy.n {
+        let most = usize::from(size[s]);
+        sweep(l, y, heavy, z, s, most, ahead, s * stride, table);
     }
 }
