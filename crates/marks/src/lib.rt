@@ -19,11 +19,8 @@ fn put_digits(digits: &mut [u8], q: usize, left: [u8; states::MOST_HEAVY])
     requires { q * 6 + 6 ≤ length digits.old }
     ensures { PutAt q left digits.old digits.new }
 {
-    let mut s: usize = 0;
-    while s < states::MOST_HEAVY {
-        digits[q * states::MOST_HEAVY + s] = left[s];
-        s += 1;
-    }
+    let at = q * states::MOST_HEAVY;
+    digits[at..at + states::MOST_HEAVY].copy_from_slice(&left);
 }
 
 // The table of the losses left in each state.
@@ -32,14 +29,11 @@ pub fn fill_digits(shape: Shape, digits: &mut [u8])
         × (shape.states * 6 ≤ length digits.old)) }
     ensures { Digits shape digits.new }
 {
-    let size = shape.size;
-    let mut left: [u8; states::MOST_HEAVY] = [0; states::MOST_HEAVY];
-    let mut q: usize = 0;
-    while q < shape.states {
+    let mut left = [0; states::MOST_HEAVY];
+    for q in 0..shape.states {
         put_digits(digits, q, left);
-        let next = states::next_left(shape.n, size, left);
+        let next = states::next_left(shape.n, shape.size, left);
         left = next;
-        q += 1;
     }
 }
 
@@ -48,12 +42,9 @@ pub fn digits_of(digits: &[u8], q: usize) -> [u8; states::MOST_HEAVY]
     requires { q * 6 + 6 ≤ length digits.now }
     ensures { (s : ℕ) → s < 6 → get_or result s 0 ≡ get_or digits.now (q * 6 + s) 0 }
 {
-    let mut left: [u8; states::MOST_HEAVY] = [0; states::MOST_HEAVY];
-    let mut s: usize = 0;
-    while s < states::MOST_HEAVY {
-        left[s] = digits[q * states::MOST_HEAVY + s];
-        s += 1;
-    }
+    let at = q * states::MOST_HEAVY;
+    let mut left = [0; states::MOST_HEAVY];
+    left.copy_from_slice(&digits[at..at + states::MOST_HEAVY]);
     left
 }
 
@@ -61,10 +52,7 @@ pub fn digits_of(digits: &[u8], q: usize) -> [u8; states::MOST_HEAVY]
 pub fn higher(a: u8, b: u8) -> u8
     ensures { (a ≤ result) × (b ≤ result) }
 {
-    if a < b {
-        return b;
-    }
-    a
+    a.max(b)
 }
 
 // Gives one state of a column a mark, and the others none.
@@ -73,11 +61,7 @@ pub fn only(states: usize, at: usize, q: usize, mark: u8, marks: &mut [u8])
     ensures { Remade states at marks.old marks.new
         × (get_or marks.new (at + q) 0 ≡ mark) }
 {
-    let mut p: usize = 0;
-    while p < states {
-        marks[at + p] = 0;
-        p += 1;
-    }
+    marks[at..at + states].fill(0);
     marks[at + q] = mark;
 }
 
