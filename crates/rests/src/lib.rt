@@ -36,7 +36,7 @@ fn with_chunk(
     if y.len() < p.at {
         return 0;
     }
-    let mut list: [u8; 256] = [0; 256];
+    let mut list = [0; 256];
     let n = contents::contents(nc, y, p.at, p.lost, &mut list);
     sums::with_each(nc, l.l2 * nc + 1, c * nc + 1, &list, 0, n, behind)
 }
@@ -56,12 +56,10 @@ fn with_chunks(
     ensures { (next : ℕ) → next ≤ left
         → Brings l y.now block end c left next (get_or rests.now (at + next) 0) result }
 {
-    let mut r: u64 = 0;
-    let mut next: u8 = 0;
-    while next <= left {
-        let behind = rests[at + bits::wide(next)];
+    let mut r = 0;
+    for next in 0..=left {
+        let behind = rests[at + usize::from(next)];
         r = residues::together(r, with_chunk(l, y, block, end, c, left, next, behind));
-        next += 1;
     }
     r
 }
@@ -81,11 +79,9 @@ fn fill_block(
     ensures { Filled l y.now block end c s (most + 1) rests.old rests.new }
 {
     let own = c * states::ENTRIES + s * states::LEFTS;
-    let mut left: u8 = 0;
-    while left <= most {
+    for left in 0..=most {
         let set = with_chunks(l, y, block, end, c, left, rests, own + states::ENTRIES);
-        rests[own + bits::wide(left)] = set;
-        left += 1;
+        rests[own + usize::from(left)] = set;
     }
 }
 
@@ -103,11 +99,8 @@ fn fill_column(
         × (((s : ℕ) → s < heavy.n → each size s < lefts) × (rest_at (c + 2) 0 0 ≤ length rests.old)) }
     ensures { FilledColumn l y.now heavy size c heavy.n rests.old rests.new }
 {
-    let n = heavy.n;
-    let mut s: usize = 0;
-    while s < n {
+    for s in 0..heavy.n {
         fill_block(l, y, heavy.block[s], heavy.end[s], c, s, size[s], rests);
-        s += 1;
     }
 }
 
@@ -133,15 +126,10 @@ pub fn fill(
         return;
     }
     let end = l.l2 * states::ENTRIES;
-    let n = heavy.n;
-    let mut s: usize = 0;
-    while s < n {
+    for s in 0..heavy.n {
         rests[end + s * states::LEFTS] = residues::only(0);
-        s += 1;
     }
-    let mut c = l.l2;
-    while 0 < c {
-        c -= 1;
+    for c in (0..l.l2).rev() {
         fill_column(l, y, numbers, heavy, size, c, rests);
     }
 }
@@ -167,14 +155,12 @@ fn mark_block(
 {
     let own = s * states::LEFTS;
     let behind = (c + 1) * states::ENTRIES + own;
-    let mut next: u8 = 0;
-    while next <= left {
-        let n = bits::wide(next);
+    for next in 0..=left {
+        let n = usize::from(next);
         let brings = with_chunk(l, y, block, end, c, left, next, rests[behind + n]);
         if residues::meet(set, brings) {
             can[own + n] = 1;
         }
-        next += 1;
     }
 }
 
@@ -203,10 +189,8 @@ pub fn exits(
     if rests.len() < RESTS {
         return [1; states::ENTRIES];
     }
-    let n = heavy.n;
-    let mut can: [u8; states::ENTRIES] = [0; states::ENTRIES];
-    let mut s: usize = 0;
-    while s < n {
+    let mut can = [0; states::ENTRIES];
+    for s in 0..heavy.n {
         mark_block(
             l,
             y,
@@ -219,7 +203,6 @@ pub fn exits(
             rests,
             &mut can,
         );
-        s += 1;
     }
     can
 }
@@ -229,16 +212,14 @@ pub fn all_can(n: usize, next: [u8; states::MOST_HEAVY], can: &[u8; states::ENTR
     requires { n ≤ 6 }
     ensures { ((s : ℕ) → s < n → 0 < get_or can.now (entry_at s (each next s)) 0) → result ≡ true }
 {
-    let mut s: usize = 0;
-    while s < n {
-        let at = s * states::LEFTS + bits::wide(next[s]);
+    for (s, left) in next[..n].iter().enumerate() {
+        let at = s * states::LEFTS + usize::from(*left);
         if states::ENTRIES <= at {
             return true;
         }
         if can[at] == 0 {
             return false;
         }
-        s += 1;
     }
     true
 }
