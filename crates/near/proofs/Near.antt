@@ -15,7 +15,7 @@ use Rattle.lines.specs.Lines.{unlike}
 use Rattle.states.specs.States.{each, firsts, entry_at, added_up}
 use Rattle.states.specs.declared.Shape.{Shape}
 use Rattle.states.proofs.Sums.{firsts_same}
-use Rattle.column.specs.Column.{chunk_at, Crosses, apart_in}
+use Rattle.column.specs.Column.{chunk_at, apart_in}
 use Rattle.column.specs.declared.Heavy.{Heavy}
 use Rattle.far.specs.Far.{Walk, step_at, block_at}
 use Rattle.far.proofs.Unlost.{one-most, reads-there, reads_same}

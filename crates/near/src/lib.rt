@@ -18,16 +18,9 @@ pub fn few_losses(shape: Shape) -> bool
     requires { shape.n ≤ 6 }
     ensures { result ≡ true → (s : ℕ) → s < shape.n → get_or shape.size s 0 < lefts }
 {
-    let n = shape.n;
-    let size = shape.size;
-    let mut s: usize = 0;
-    while s < n {
-        if states::LEFTS <= bits::wide(size[s]) {
-            return false;
-        }
-        s += 1;
-    }
-    true
+    shape.size[..shape.n]
+        .iter()
+        .all(|size| usize::from(*size) < states::LEFTS)
 }
 
 // The tables of what rows count in each heavy block, where rows that differ in room chunks are asked for.
@@ -76,9 +69,9 @@ fn most_in(
         return 510;
     }
     let at = s * ((columns + 1) * states::LEFTS);
-    let used = at + j * states::LEFTS + bits::wide(size - left);
-    let rest = at + (columns - j) * states::LEFTS + bits::wide(left);
-    bits::wide(before[used]) + bits::wide(after[rest])
+    let used = at + j * states::LEFTS + usize::from(size - left);
+    let rest = at + (columns - j) * states::LEFTS + usize::from(left);
+    usize::from(before[used]) + usize::from(after[rest])
 }
 
 // Puts what the tables say of heavy block s in column j into a table of values, for each number of losses that it can have left.
@@ -98,12 +91,9 @@ fn fill_block(
         × (((i : ℕ) → i < entry_at s 0 → get_or values.new i 0 ≡ get_or values.old i 0)
         × ((e : ℕ) → e ≤ size → SaysIn columns before.now after.now s size j values.new e)) }
 {
-    let most = bits::wide(size);
     let at = s * states::LEFTS;
-    let mut left: usize = 0;
-    while left <= most {
-        values[at + left] = most_in(columns, before, after, s, size, left as u8, j) as u16;
-        left += 1;
+    for left in 0..=size {
+        values[at + usize::from(left)] = most_in(columns, before, after, s, size, left, j) as u16;
     }
 }
 
@@ -123,13 +113,9 @@ pub fn fill_apart(
         → get_or apart.new (state_of shape left) 0
         ≡ most columns before.now after.now (each shape.size) left j shape.n) }
 {
-    let n = shape.n;
-    let size = shape.size;
-    let mut values: [u16; states::ENTRIES] = [0; states::ENTRIES];
-    let mut s: usize = 0;
-    while s < n {
-        fill_block(columns, before, after, s, size[s], j, &mut values);
-        s += 1;
+    let mut values = [0; states::ENTRIES];
+    for s in 0..shape.n {
+        fill_block(columns, before, after, s, shape.size[s], j, &mut values);
     }
     states::add_up(shape, &values, apart);
 }
@@ -145,14 +131,11 @@ pub fn most_after(
     requires { Sized columns shape after.now × ((j ≤ columns) × ((s : ℕ) → s < shape.n → get_or left s 0 < lefts)) }
     ensures { result ≡ most_after columns after.now (each left) j shape.n }
 {
-    let n = shape.n;
     let stride = (columns + 1) * states::LEFTS;
     let from = (columns - j) * states::LEFTS;
-    let mut most: usize = 0;
-    let mut s: usize = 0;
-    while s < n {
-        most += bits::wide(after[s * stride + from + bits::wide(left[s])]);
-        s += 1;
+    let mut most = 0;
+    for (s, e) in left[..shape.n].iter().enumerate() {
+        most += usize::from(after[s * stride + from + usize::from(*e)]);
     }
     most
 }
