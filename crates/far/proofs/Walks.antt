@@ -1,6 +1,6 @@
 -- Tables of what walks count, step by step. Assumes nothing.
 use Prim.Native.Nat.{ℕ, ◌+◌, ◌<◌, ◌≤◌, max}
-use mathlib.Core.Path.{◌≡◌, refl, ◌∙◌}
+use mathlib.Core.Path.{◌≡◌, ◌∙◌}
 use mathlib.Core.Bool.{Bool}
 use mathlib.Core.List.{List}
 use native.Mathlib.Decide.{ℕ_discrete}
@@ -19,13 +19,6 @@ module _ (l : Layout) (y : List ℕ) (heavy : Heavy) (z : List ℕ) (s size : �
   -- an entry of an earlier step stands before those of a later one
   pub earlier : (i t w : ℕ) → i < t → w ≤ size → step_at at i + w < step_at at t
   earlier i t w h k = omega (arith, small, mul-le-mul_right {m = i + 1} {n = t} lefts (omega arith))
-
-  -- no walk has counted anything at first
-  pub covered-first : (table : List ℕ) → Covered l y heavy z s size ahead at 0 table
-  covered-first table w n walk i h =
-      let e : i ≡ 0 = omega arith in
-      let none : n i ≡ 0 = rw e walk.starts in
-      omega (arith, none)
 
   -- what is changed after a step leaves the steps up to it
   pub covered-kept : (t : ℕ) → t ≤ l.l2 → (entry exit : List ℕ)
@@ -74,19 +67,6 @@ module _ (l : Layout) (y : List ℕ) (heavy : Heavy) (z : List ℕ) (s size : �
     pub whole : (v : ℕ) → v < w → Reads l y heavy s (column_of ahead l.l2 t) (left_of ahead size v)
         → get_or entry (step_at at t + v) 0 + read_apart l y heavy z s (column_of ahead l.l2 t) (left_of ahead size v)
         ≤ get_or table (step_at at (t + 1) + v) 0
-
-  pub stepping_first : Stepping entry 0 0
-  stepping_first =
-      record {
-        high = omega arith;
-        long = refl;
-        before = λ i h. refl;
-        few = omega arith;
-        above = λ v h. absurd (omega arith);
-        low = λ v h. absurd (omega arith);
-        lost = λ v h. absurd (omega arith);
-        whole = λ v h. absurd (omega arith);
-      }
 
   -- one entry more: a says whether the chunk as read is another
   pub stepping_next : (table : List ℕ) (most w a new more : ℕ) → size < lefts → step_at at (t + 2) ≤ length table

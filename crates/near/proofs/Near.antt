@@ -1,11 +1,10 @@
 -- A row walks the columns of each heavy block through its loss states; so what the tables say of a state it comes
 -- through is at least the number of chunks in which it differs. Rests on greedy matching, by the crate column.
 -- Assumes nothing.
-use Prim.Native.Nat.{ℕ, zero, suc, ◌+◌, ◌-◌, ◌*◌, ◌<◌, ◌≤◌}
+use Prim.Native.Nat.{ℕ, zero, suc, ◌+◌, ◌-◌, ◌<◌, ◌≤◌}
 use mathlib.Core.Path.{◌≡◌, refl, sym, ap, ◌∙◌}
 use mathlib.Core.Bool.{true, false}
 use mathlib.Core.List.{List}
-use native.Mathlib.Nat.{mul-le-mul_right}
 use native.Mathlib.Numerals.{add-one}
 use native.Mathlib.Omega.{arith}
 use lib.Dec.{eqb}
@@ -163,10 +162,6 @@ module _ (l : Layout) (y numbers : List ℕ) (heavy : Heavy) (row : List ℕ) (s
           by_blocks l heavy z vs l.l2,
           by_blocks l heavy z vs j,
         ))
-
--- the table of a block ends before that of the last
-pub next_block : (columns s n : ℕ) → s < n → block_at columns (s + 1) ≤ block_at columns n
-next_block columns s n h = mul-le-mul_right {m = s + 1} {n = n} ((columns + 1) * 13) (omega arith)
 
 -- ---- states
 -- what a table of values says of the blocks adds up to what the tables say of a state
