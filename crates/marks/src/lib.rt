@@ -71,10 +71,7 @@ pub fn mark_at(shape: Shape, marks: &[u8], j: usize, q: usize) -> u8
     ensures { (result ≡ 255) ⊎ ((j * shape.states + q < length marks.now)
         × (result ≡ get_or marks.now (j * shape.states + q) 0)) }
 {
-    if 4294967295 < shape.states {
-        return 255;
-    }
-    if marks.len() <= q {
+    if 4294967295 < shape.states || marks.len() <= q {
         return 255;
     }
     let at = j * shape.states;

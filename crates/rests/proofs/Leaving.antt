@@ -1,7 +1,7 @@
 -- How the marks of a heavy block grow by a number of losses, and those of a column by a block; and what they say of a
 -- row that crosses the column. Assumes nothing.
 use Prim.Native.Nat.{ℕ, ◌+◌, ◌<◌, ◌≤◌}
-use mathlib.Core.Path.{◌≡◌, refl, ap, subst, ◌∙◌}
+use mathlib.Core.Path.{◌≡◌, ap, subst, ◌∙◌}
 use mathlib.Core.List.{List}
 use native.Mathlib.Decide.{ℕ_discrete}
 use native.Mathlib.Omega.{arith}
@@ -32,9 +32,6 @@ mark_stays can at i inside h = go (ℕ_discrete i at)
     go (no e) = rw (get_or-set_other can at i 1 0 e) h
 
 module _ (l : Layout) (y : List ℕ) (block end c s left among : ℕ) (rests entry : List ℕ) where
-  pub marked-starts : Marked l y block end c s left among rests entry 0 entry
-  marked-starts = record { long = refl; stay = λ i h. h; put = λ next h. absurd (omega (arith, h)) }
-
   -- a number more: it is marked
   pub marked_next : (n : ℕ) (exit : List ℕ) → Marked l y block end c s left among rests entry n exit
       → (at : ℕ) → at ≡ entry_at s n → at < length exit

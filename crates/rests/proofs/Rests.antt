@@ -1,8 +1,8 @@
 -- What the bounds of a short layout are, and how the table holds a column more. Assumes nothing.
 use Prim.Native.Nat.{ℕ, ◌+◌, ◌*◌, ◌<◌, ◌≤◌}
-use mathlib.Core.Path.{◌≡◌, refl, sym, ap, subst, ◌∙◌}
+use mathlib.Core.Path.{◌≡◌, sym, ap, subst, ◌∙◌}
 use mathlib.Core.Bool.{true}
-use mathlib.Core.Logic.{inl, inr, ⊎_elim}
+use mathlib.Core.Logic.{inr, ⊎_elim}
 use mathlib.Core.List.{List}
 use native.Mathlib.Decide.{ℕ_discrete}
 use native.Mathlib.Nat.{mul-le-mul_left, mul-le-mul_right}
@@ -46,9 +46,6 @@ short-low {l} {c = c} s =
     }
 
 module _ (l : Layout) (y : List ℕ) (block end c s : ℕ) where
-  pub filled-starts : (entry : List ℕ) → Filled l y block end c s 0 entry entry
-  filled-starts entry = record { long = refl; others = λ i h. refl; put = λ left h. absurd (omega (arith, h)) }
-
   -- one entry more, from the entries of the next column, which stay
   pub filled_next : (n : ℕ) (entry exit : List ℕ) → Filled l y block end c s n entry exit
       → n < lefts → s < 6 → rest_at (c + 2) 0 0 ≤ length exit → (at v : ℕ) → at ≡ rest_at c s n
@@ -79,33 +76,6 @@ module _ (l : Layout) (y : List ℕ) (block end c s : ℕ) where
           subst (λ (w : ℕ). Brings l y block end c n next w (get_or (set exit at v) (rest_at c s n) 0)) was
           (subst (λ (w : ℕ). Brings l y block end c n next (get_or exit (c * 78 + s * 13 + 78 + next) 0) w) (sym same)
           (brings next h))
-
--- a block more of a column is filled: its entries are others than those of the blocks before it and of the next column
-pub column-next : (l : Layout) (y : List ℕ) (heavy : Heavy) (size : List ℕ) (c n : ℕ) (entry before exit : List ℕ)
-    → ((s : ℕ) → s < n + 1 → each size s < lefts) → n < 6 → FilledColumn l y heavy size c n entry before
-    → Filled l y (get_or heavy.block n 0) (get_or heavy.end n 0) c n (each size n + 1) before exit
-    → FilledColumn l y heavy size c (n + 1) entry exit
-column-next l y heavy size c n entry before exit small few f b =
-    record {
-      long = b.long ∙ f.long;
-      behind = λ i h. b.others i (inr (omega (arith, h, few))) ∙ f.behind i h;
-      put = λ s left next h.
-          below_more (λ (t : ℕ). (left next : ℕ) → left ≤ each size t → next ≤ left
-          → Brings l y (get_or heavy.block t 0) (get_or heavy.end t 0) c left next
-          (get_or entry (rest_at (c + 1) t next) 0) (get_or exit (rest_at c t left) 0)) n
-          (λ t k left next low down.
-          rw (b.others (rest_at c t left)
-          (inl (omega (
-            arith,
-            low,
-            small t (omega (arith, k)),
-            mul-le-mul_right {m = t + 1} {n = n} 13 (omega (arith, k)),
-          ))))
-          (f.put t left next k low down))
-          (λ left next low down.
-          rw (← (f.behind (rest_at (c + 1) n next) (omega arith))) (b.put left (omega (arith, low)) next down))
-          s h left next;
-    }
 
 -- what the chunk of a heavy block is in a row that crosses its column
 pub can_be : {l : Layout} {y numbers : List ℕ} {heavy : Heavy} {row : List ℕ} {c : ℕ} {left next : ℕ → ℕ} {vs : List ℕ}

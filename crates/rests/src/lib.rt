@@ -30,10 +30,7 @@ fn with_chunk(
 {
     let nc = l.nc;
     let p = column::place_of(l, y.len(), block, c, end, left, next);
-    if !p.ok {
-        return 0;
-    }
-    if y.len() < p.at {
+    if !p.ok || y.len() < p.at {
         return 0;
     }
     let mut list = [0; 256];
@@ -183,10 +180,7 @@ pub fn exits(
         → Has (block_modulus l) (get_or rests.now (rest_at (c + 1) s (next s)) 0) (rest l heavy vs (c + 1) s))
         → (s : ℕ) → s < heavy.n → 0 < get_or result (entry_at s (next s)) 0 }
 {
-    if !sums::is_short(l) {
-        return [1; states::ENTRIES];
-    }
-    if rests.len() < RESTS {
+    if !sums::is_short(l) || rests.len() < RESTS {
         return [1; states::ENTRIES];
     }
     let mut can = [0; states::ENTRIES];

@@ -140,11 +140,11 @@ pub fn can_lose_one(
         return false;
     }
     let need = column::missing(sum, rest % m, m);
-    let mut blocks: [u8; weigh::MOST] = [0; weigh::MOST];
+    let mut blocks = [0; weigh::MOST];
     blocks[0] = block;
-    let mut places: [usize; weigh::MOST] = [0; weigh::MOST];
+    let mut places = [0; weigh::MOST];
     places[0] = p.at;
-    let mut lost: [u8; weigh::MOST] = [0; weigh::MOST];
+    let mut lost = [0; weigh::MOST];
     lost[0] = 1;
     let chunks = weigh::Chunks {
         n: 1,

@@ -7,10 +7,6 @@ pub returns-then-not-is_short : goal.returns-then-not-is_short
 returns-then-not-is_short c row vs next x holds behind s h =
     all-marked _ _ _ _ row _ c.args.left next vs c.requires.0.few c.requires.1.1 x s h
 
-pub returns-then-rests-lt-RESTS : goal.returns-then-rests-lt-RESTS
-returns-then-rests-lt-RESTS c row vs next x holds behind s h =
-    all-marked _ _ _ _ row _ c.args.left next vs c.requires.0.few c.requires.1.1 x s h
-
 pub mark_block-requires : goal.mark_block-requires
 mark_block-requires c =
     let p = c.requires in
