@@ -28,7 +28,7 @@ fn add_word(set: &mut [u64], i: usize, w: u64)
     ensures { Grows set.old set.new
         × ((b : ℕ) → b < 64 → One w b → In set.new (64 * i + b)) }
 {
-    set[i] = set[i] | w;
+    set[i] |= w;
 }
 
 // Whether a residue is in a set.
@@ -45,12 +45,9 @@ fn put_in(m: usize, a: usize, from: &[u64], to: &mut [u64])
     ensures { Grows to.old to.new
         × ((i : ℕ) → i < m → In from.now (a + i) → In to.new i) }
 {
-    let e = m / 64;
-    let mut i: usize = 0;
-    while i <= e {
-        let w = word_at(from, a + 64 * i);
-        add_word(to, i, w);
-        i += 1;
+    let words = m / 64 + 1;
+    for i in 0..words {
+        add_word(to, i, word_at(from, a + 64 * i));
     }
 }
 
@@ -60,20 +57,8 @@ pub fn move_in(m: usize, by: usize, from: &[u64], to: &mut [u64])
     ensures { Grows to.old to.new
         × (by < m → Moved m by from.now to.new) }
 {
-    if m <= by {
-        return;
-    }
-    put_in(m, m - by, from, to);
-}
-
-// Empties the first n words of a set.
-fn clear(set: &mut [u64], n: usize)
-    requires { n ≤ length set.old }
-{
-    let mut i: usize = 0;
-    while i < n {
-        set[i] = 0;
-        i += 1;
+    if by < m {
+        put_in(m, m - by, from, to);
     }
 }
 
@@ -96,12 +81,10 @@ pub fn take_over(m: usize, set: &mut [u64], other: &mut [u64])
     ensures { (r : ℕ) → r < m → In other.old r → Twice m set.new r }
 {
     let e = m / 64;
-    clear(set, 2 * e + 2);
-    let mut i: usize = 0;
-    while i < e {
-        put_twice(m, i, other[i], set);
-        other[i] = 0;
-        i += 1;
+    set[..2 * e + 2].fill(0);
+    for (i, w) in other[..e].iter_mut().enumerate() {
+        put_twice(m, i, *w, set);
+        *w = 0;
     }
     put_twice(m, e, other[e] % (1 << (m % 64)), set);
     other[e] = 0;
@@ -112,7 +95,7 @@ pub fn only(m: usize, r: usize, set: &mut [u64])
     requires { (r < m) × Long m set.old }
     ensures { Twice m set.new r }
 {
-    clear(set, 2 * (m / 64) + 2);
+    set[..2 * (m / 64) + 2].fill(0);
     let second = m + r;
     add_word(set, r / 64, 1 << (r % 64));
     add_word(set, second / 64, 1 << (second % 64));
