@@ -24,33 +24,13 @@ fn raised(levels: &[u8], q: usize, down: usize, left: u8) -> u8
         → v ≤ get_or levels.now (q - down) 0
         → v + 1 ≤ result }
 {
-    if left == 0 {
+    if left == 0 || down == 0 || q < down {
         return 0;
     }
-    if down == 0 {
-        return 0;
+    match levels[q - down] {
+        0 => 0,
+        level => level.min(2) + 1,
     }
-    if q < down {
-        return 0;
-    }
-    let level = levels[q - down];
-    if level == 0 {
-        return 0;
-    }
-    if 2 < level {
-        return 3;
-    }
-    level + 1
-}
-
-// One for a mark, zero for none.
-fn one_if(mark: u8) -> u8
-    ensures { 0 < mark → 0 < result }
-{
-    if mark == 0 {
-        return 0;
-    }
-    1
 }
 
 // The level of state q: one more than the losses that it has above a state that is marked in the next column, up to two
@@ -68,17 +48,13 @@ fn level_of(
         → 0 < get_or strides.now s 0 → get_or strides.now s 0 ≤ q → 0 < v → v < 3
         → v ≤ get_or levels.now (q - get_or strides.now s 0) 0 → v + 1 ≤ result) }
 {
-    let mut level = one_if(next);
-    let mut s: usize = 0;
-    while s < n {
-        level = marks::higher(
-            level,
-            raised(levels, q, strides[s], digits[q * states::MOST_HEAVY + s]),
-        );
+    let mut level = u8::from(0 < next);
+    for s in 0..n {
+        let left = digits[q * states::MOST_HEAVY + s];
+        level = level.max(raised(levels, q, strides[s], left));
         if 2 < level {
-            return level;
+            break;
         }
-        s += 1;
     }
     level
 }
@@ -89,10 +65,7 @@ fn stays(l: Layout, numbers: &[u16], j: usize, part: usize, mark: u8) -> bool
     requires { (l.l1 * l.nc ≤ longest_line) × ((j < l.l2) × ((l.l1 ≤ most_in_line) × (l.l1 + l.l2 ≤ length numbers.now))) }
     ensures { part % modulus l ≡ get_or numbers.now (l.l1 + j) 0 → 0 < mark → result ≡ true }
 {
-    if mark == 0 {
-        return false;
-    }
-    part % (l.l1 * l.nc + 1) == numbers[l.l1 + j] as usize
+    0 < mark && part % (l.l1 * l.nc + 1) == usize::from(numbers[l.l1 + j])
 }
 
 // Whether state q, with so many losses left in a block, has a marked state down lower, with one loss less there; the marks stand at base.
@@ -101,13 +74,7 @@ fn leads(own: u8, down: usize, q: usize, marks: &[u8], base: usize) -> bool
     ensures { (result ≡ true → 0 < own)
         × (0 < own → down ≤ q → 0 < get_or marks.now (base + (q - down)) 0 → result ≡ true) }
 {
-    if own == 0 {
-        return false;
-    }
-    if q < down {
-        return false;
-    }
-    0 < marks[base + (q - down)]
+    0 < own && down <= q && 0 < marks[base + (q - down)]
 }
 
 // Whether a row can cross column j with one loss, in heavy block s. Part is what all chunks of the column bring where they are read whole.
@@ -134,7 +101,7 @@ fn loses_one(
         → OneLess heavy.n (each left) next s → result ≡ true }
 {
     let own = left[s];
-    let reading = readings[s * states::LEFTS + bits::wide(own)] as usize;
+    let reading = usize::from(readings[s * states::LEFTS + usize::from(own)]);
     whole::can_lose_one(
         l,
         y,
@@ -145,7 +112,7 @@ fn loses_one(
         j,
         own,
         part - reading,
-        numbers[l.l1 + j] as usize,
+        usize::from(numbers[l.l1 + j]),
     )
 }
 
@@ -176,18 +143,14 @@ fn loses(
         → OneLess heavy.n (each left) next s → get_or shape.stride s 0 ≤ q
         → 0 < get_or marks.now (base + (q - get_or shape.stride s 0)) 0 → result ≡ true }
 {
-    let n = heavy.n;
-    let strides = shape.stride;
-    let mut s: usize = 0;
-    while s < n {
-        if leads(left[s], strides[s], q, marks, base) {
-            if loses_one(
+    for s in 0..heavy.n {
+        if leads(left[s], shape.stride[s], q, marks, base)
+            && loses_one(
                 l, y, totals, counts, numbers, heavy, readings, j, left, part, s,
-            ) {
-                return true;
-            }
+            )
+        {
+            return true;
         }
-        s += 1;
     }
     false
 }
@@ -215,13 +178,12 @@ fn tested_mark(
     ensures { FirstMark l y.now numbers.now heavy known.now shape j marks.now base (entry_of digits.now q) q 1 result }
 {
     let left = marks::digits_of(digits, q);
-    let part = known[j] as usize + whole::all(heavy.n, left, readings);
-    if stays(l, numbers, j, part, marks[base + q]) {
-        return 255;
-    }
-    if loses(
-        l, y, totals, counts, numbers, heavy, shape, readings, j, left, part, q, marks, base,
-    ) {
+    let part = usize::from(known[j]) + whole::all(heavy.n, left, readings);
+    if stays(l, numbers, j, part, marks[base + q])
+        || loses(
+            l, y, totals, counts, numbers, heavy, shape, readings, j, left, part, q, marks, base,
+        )
+    {
         return 255;
     }
     0
@@ -250,25 +212,20 @@ fn first_mark(
         × ((q < shape.states) × (base + shape.states ≤ length marks.now)) }
     ensures { FirstMark l y.now numbers.now heavy known.now shape j marks.now base (entry_of digits.now q) q level result }
 {
-    if 2 < level {
-        return 255;
+    match level {
+        0 => 0,
+        1..=2 => tested_mark(
+            l, y, totals, counts, numbers, heavy, known, shape, digits, readings, j, q, marks, base,
+        ),
+        _ => 255,
     }
-    if level == 0 {
-        return 0;
-    }
-    tested_mark(
-        l, y, totals, counts, numbers, heavy, known, shape, digits, readings, j, q, marks, base,
-    )
 }
 
 // The level of a state through which rows come that differ from z in at most so many chunks; none where these are fewer than room.
 fn far_level(apart: u16, room: usize, level: u8) -> u8
     ensures { room ≤ apart → result ≡ level }
 {
-    if (apart as usize) < room {
-        return 0;
-    }
-    level
+    if usize::from(apart) < room { 0 } else { level }
 }
 
 // The first marks of a column, at a place, by those of the next column, at base: whether a row can cross it to a marked
@@ -303,20 +260,24 @@ fn complete_column(
         → Goes l y.now numbers.now heavy known.now shape j marks.old base left
         (get_or marks.new (at + state_of shape left) 0))) }
 {
-    let columns = l.l2;
-    let n = shape.n;
-    let states = shape.states;
-    let strides = shape.stride;
-    let size = shape.size;
-    let mut readings: [u16; states::ENTRIES] = [0; states::ENTRIES];
-    whole::fill(l, y, totals, counts, numbers, heavy, size, j, &mut readings);
-    let mut apart: [u16; states::MOST_STATES] = [0; states::MOST_STATES];
-    near::fill_apart(columns, shape, before, after, j, &mut apart);
-    let mut levels: [u8; states::MOST_STATES] = [0; states::MOST_STATES];
+    let mut readings = [0; states::ENTRIES];
+    whole::fill(
+        l,
+        y,
+        totals,
+        counts,
+        numbers,
+        heavy,
+        shape.size,
+        j,
+        &mut readings,
+    );
+    let mut apart = [0; states::MOST_STATES];
+    near::fill_apart(l.l2, shape, before, after, j, &mut apart);
+    let mut levels = [0; states::MOST_STATES];
     let mut highest: u8 = 0;
-    let mut q: usize = 0;
-    while q < states {
-        let level = level_of(n, &strides, digits, q, &levels, marks[base + q]);
+    for q in 0..shape.states {
+        let level = level_of(shape.n, &shape.stride, digits, q, &levels, marks[base + q]);
         let tested = far_level(apart[q], room, level);
         let mark = first_mark(
             l, y, totals, counts, numbers, heavy, known, shape, digits, &readings, j, q, tested,
@@ -324,8 +285,7 @@ fn complete_column(
         );
         levels[q] = level;
         marks[at + q] = mark;
-        highest = marks::higher(highest, mark);
-        q += 1;
+        highest = highest.max(mark);
     }
     highest
 }
@@ -360,11 +320,9 @@ pub fn complete(
         → (result ≡ true) × Through l shape marks.new own (λ j. 0)) }
 {
     let states = shape.states;
-    let mut j = l.l2;
-    marks::only(states, j * states, 0, 255, marks);
-    while 0 < j {
-        j -= 1;
-        if complete_column(
+    marks::only(states, l.l2 * states, 0, 255, marks);
+    for j in (0..l.l2).rev() {
+        let highest = complete_column(
             l,
             y,
             totals,
@@ -381,8 +339,8 @@ pub fn complete(
             j * states,
             (j + 1) * states,
             marks,
-        ) == 0
-        {
+        );
+        if highest == 0 {
             return false;
         }
     }
