@@ -19,7 +19,10 @@ use message::Layout;
 use states::Shape;
 
 // One count more than states: of the marked states below each, and of all.
-const MOST_COUNTS: usize = 730;
+const MOST_COUNTS: usize = states::MOST_STATES + 1;
+
+// The digits of all states, so many losses for each heavy block.
+const DIGITS: usize = states::MOST_STATES * states::MOST_HEAVY;
 
 // What is prepared: the shape of the loss states; whether their marks are kept; and whether no row comes through them but those near
 // another row.
@@ -35,14 +38,10 @@ fn no_more(n: usize, next: [u8; states::MOST_HEAVY], left: [u8; states::MOST_HEA
     requires { n ≤ 6 }
     ensures { ((s : ℕ) → s < n → get_or next s 0 ≤ get_or left s 0) → result ≡ true }
 {
-    let mut s: usize = 0;
-    while s < n {
-        if left[s] < next[s] {
-            return false;
-        }
-        s += 1;
-    }
-    true
+    next[..n]
+        .iter()
+        .zip(&left[..n])
+        .all(|(next, left)| next <= left)
 }
 
 // Crossing column j from one state to another, where no block has more left afterwards; as crossing says.
@@ -76,17 +75,10 @@ fn between(
 fn carried(mark: u8, cross: u8) -> u8
     ensures { (m a : ℕ) → Covers mark m → a < cross → Covers result (m + a) }
 {
-    if mark == 0 {
+    if mark == 0 || cross == 0 {
         return 0;
     }
-    if cross == 0 {
-        return 0;
-    }
-    let more = cross - 1;
-    if 255 - more < mark {
-        return 255;
-    }
-    mark + more
+    mark.saturating_add(cross - 1)
 }
 
 // The mark of state q by the mark of one other state.
@@ -178,28 +170,24 @@ fn spread_over(
     ensures { Spread l y.now numbers.now heavy known.now z.now digits.now j (each other) there
         marks.now at low high fresh.old fresh.new }
 {
-    let mut q = low;
-    while q < high {
-        fresh[q] = marks::higher(
-            fresh[q],
-            reached(
-                l,
-                y,
-                totals,
-                counts,
-                numbers,
-                heavy,
-                known,
-                z,
-                digits,
-                j,
-                other,
-                there,
-                q,
-                marks[at + q],
-            ),
+    for q in low..high {
+        let mark = reached(
+            l,
+            y,
+            totals,
+            counts,
+            numbers,
+            heavy,
+            known,
+            z,
+            digits,
+            j,
+            other,
+            there,
+            q,
+            marks[at + q],
         );
-        q += 1;
+        fresh[q] = fresh[q].max(mark);
     }
 }
 
@@ -244,10 +232,25 @@ fn spread(
         );
         return;
     }
-    let states = shape.states;
     spread_over(
-        l, y, totals, counts, numbers, heavy, known, z, states, digits, j, other, there, marks, at,
-        p, states, fresh,
+        l,
+        y,
+        totals,
+        counts,
+        numbers,
+        heavy,
+        known,
+        z,
+        shape.states,
+        digits,
+        j,
+        other,
+        there,
+        marks,
+        at,
+        p,
+        shape.states,
+        fresh,
     );
 }
 
@@ -255,10 +258,7 @@ fn spread(
 fn above_floor(mark: u8, floor: u8) -> u8
     ensures { floor < mark → result ≡ mark }
 {
-    if mark <= floor {
-        return 0;
-    }
-    mark
+    if floor < mark { mark } else { 0 }
 }
 
 // Sets the marks of a column, those that are above their floors. It answers the greatest.
@@ -270,12 +270,10 @@ fn put_column(states: usize, at: usize, floors: &[u8], fresh: &[u8], marks: &mut
         → get_or marks.new (at + p) 0 ≡ get_or fresh.now p 0)) }
 {
     let mut highest: u8 = 0;
-    let mut p: usize = 0;
-    while p < states {
+    for p in 0..states {
         let mark = above_floor(fresh[p], floors[p]);
         marks[at + p] = mark;
-        highest = marks::higher(highest, mark);
-        p += 1;
+        highest = highest.max(mark);
     }
     highest
 }
@@ -311,12 +309,10 @@ fn remake(
         marks.old base (get_or floors (state_of shape own) 0) own
         (get_or marks.new (at + state_of shape own) 0))) }
 {
-    let states = shape.states;
     let mut fresh = floors;
-    let mut some: [u16; MOST_COUNTS] = [0; MOST_COUNTS];
-    steps::count_marked(marks, at, states, &mut some);
-    let mut p: usize = 0;
-    while p < states {
+    let mut some = [0; MOST_COUNTS];
+    steps::count_marked(marks, at, shape.states, &mut some);
+    for p in 0..shape.states {
         spread(
             l,
             y,
@@ -337,23 +333,16 @@ fn remake(
             &some,
             &mut fresh,
         );
-        p += 1;
     }
-    put_column(states, at, &floors, &fresh, marks)
+    put_column(shape.states, at, &floors, &fresh, marks)
 }
 
 // What a row must count before a column, at least, where it can differ from z in so many chunks from there on and is not near.
 fn floor_by(room: usize, most: usize) -> u8
     ensures { (result < many) × ((n : ℕ) → room ≤ n + most → result ≤ n) }
 {
-    if room <= most {
-        return 0;
-    }
-    let floor = room - most;
-    if bits::wide(marks::MANY) <= floor {
-        return marks::MANY - 1;
-    }
-    floor as u8
+    let floor = room.saturating_sub(most);
+    floor.min(usize::from(marks::MANY - 1)) as u8
 }
 
 // The floor of state q of column j, which has this mark. A state without a mark needs none.
@@ -395,12 +384,9 @@ fn floors_of(
         × (at + shape.states ≤ length marks.now)))) }
     ensures { Floors columns shape after.now room j result }
 {
-    let states = shape.states;
-    let mut floors: [u8; states::MOST_STATES] = [0; states::MOST_STATES];
-    let mut q: usize = 0;
-    while q < states {
+    let mut floors = [0; states::MOST_STATES];
+    for q in 0..shape.states {
         floors[q] = floor_of(columns, shape, digits, after, room, j, q, marks[at + q]);
-        q += 1;
     }
     floors
 }
@@ -433,12 +419,10 @@ fn ahead(
         → room ≤ apart_from l heavy z.now vs 0 → Through l shape marks.old own (λ j. 0) → result ≡ true) }
 {
     let states = shape.states;
-    let columns = l.l2;
     marks::only(states, 0, states - 1, 1, marks);
-    let mut j: usize = 0;
-    while j < columns {
+    for j in 0..l.l2 {
         let at = (j + 1) * states;
-        let floors = floors_of(columns, shape, digits, after, room, j + 1, marks, at);
+        let floors = floors_of(l.l2, shape, digits, after, room, j + 1, marks, at);
         let highest = remake(
             l,
             y,
@@ -460,9 +444,8 @@ fn ahead(
         if highest == 0 {
             return false;
         }
-        j += 1;
     }
-    0 < marks[columns * states]
+    0 < marks[l.l2 * states]
 }
 
 // Marks that count the chunks that can be others than in z, from the last column back: in the columns from each on.
@@ -485,11 +468,9 @@ fn back(
         (apart_from l heavy z.now) marks.old marks.new }
 {
     let states = shape.states;
-    let none: [u8; states::MOST_STATES] = [0; states::MOST_STATES];
-    let mut j = l.l2;
-    marks::only(states, j * states, 0, 1, marks);
-    while 0 < j {
-        j -= 1;
+    let none = [0; states::MOST_STATES];
+    marks::only(states, l.l2 * states, 0, 1, marks);
+    for j in (0..l.l2).rev() {
         remake(
             l,
             y,
@@ -581,7 +562,7 @@ fn make_marks(
         → room ≤ apart_from l heavy z.now vs 0 → (result.none ≡ true → ⊥)
         × (result.kept ≡ true → Through l shape marks.new own (apart_from l heavy z.now vs))) }
 {
-    let mut digits: [u8; 4374] = [0; 4374];
+    let mut digits = [0; DIGITS];
     marks::fill_digits(shape, &mut digits);
     if !first::complete(
         l, y, totals, counts, numbers, heavy, known, shape, &digits, before, after, room, marks,
@@ -621,24 +602,26 @@ fn fill_marks(
         → room ≤ apart_from l heavy z.now vs 0 → (result.none ≡ true → ⊥)
         × (result.kept ≡ true → Through l shape marks.new own (apart_from l heavy z.now vs))) }
 {
-    if !near::few_losses(shape) {
+    if !near::few_losses(shape) || COUNTS < shape.n * ((l.l2 + 1) * states::LEFTS) {
         return Prepared {
             shape,
             kept: false,
             none: false,
         };
     }
-    if COUNTS < shape.n * ((l.l2 + 1) * states::LEFTS) {
-        return Prepared {
-            shape,
-            kept: false,
-            none: false,
-        };
-    }
-    let size = shape.size;
-    let mut before: [u8; COUNTS] = [0; COUNTS];
-    let mut after: [u8; COUNTS] = [0; COUNTS];
-    near::count_blocks(l, y, numbers, heavy, z, size, room, &mut before, &mut after);
+    let mut before = [0; COUNTS];
+    let mut after = [0; COUNTS];
+    near::count_blocks(
+        l,
+        y,
+        numbers,
+        heavy,
+        z,
+        shape.size,
+        room,
+        &mut before,
+        &mut after,
+    );
     make_marks(
         l, y, totals, counts, numbers, heavy, known, z, shape, &before, &after, room, marks,
     )
@@ -670,21 +653,7 @@ pub fn prepare(
         × (result.kept ≡ true → Through l result.shape marks.new own (apart_from l heavy z.now vs)))) }
 {
     let shape = states::shape_of(heavy.n, size);
-    if !wanted {
-        return Prepared {
-            shape,
-            kept: false,
-            none: false,
-        };
-    }
-    if states::MOST_STATES < shape.states {
-        return Prepared {
-            shape,
-            kept: false,
-            none: false,
-        };
-    }
-    if marks.len() < (l.l2 + 1) * shape.states {
+    if !wanted || states::MOST_STATES < shape.states || marks.len() < (l.l2 + 1) * shape.states {
         return Prepared {
             shape,
             kept: false,

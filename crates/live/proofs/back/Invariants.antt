@@ -1,0 +1,13 @@
+-- What `live::back` keeps in its loop: from column j on the marks along every row cover its count.
+use Rattle.std.proofs.Common.{ℕ, ◌≤◌, List}
+use Rattle.states.specs.States.{each}
+use Rattle.column.specs.Column.{Light}
+use Rattle.marks.specs.Marks.{Path, Through, apart_from}
+use Rattle.live.proofs.Passes.{Passing}
+use Rattle.live.proofs.back.Given as goal
+
+abbrev pub invariant-loop-j : goal.invariant-loop-j
+invariant-loop-j l =
+    (row vs : List ℕ) (own : ℕ → ℕ → ℕ) → Light l.l l.heavy row l.known
+    → Path l.l l.y l.numbers l.heavy row (each l.shape.size) vs own → Through l.l l.shape l.fn.marks own (λ j. 0)
+    → Passing l.l l.shape l.marks own (apart_from l.l l.heavy l.z vs) (λ i. l.j ≤ i)
