@@ -36,10 +36,7 @@ pub fn residue(
 {
     let m = l.l1 * l.nc + 1;
     let read = whole::reading(l, y, totals, counts, block, end, j, e);
-    if read == whole::UNREAD {
-        return m;
-    }
-    read % m
+    if read == whole::UNREAD { m } else { read % m }
 }
 
 // Puts the residues of a set that stands twice, with what the chunk of a block in column j brings, into another: each
@@ -62,16 +59,13 @@ fn add_block(
         → Moved (modulus l) (brings l y.now block end j e) from.now to.new }
 {
     let m = l.l1 * l.nc + 1;
-    let most = bits::wide(size);
     let mut last = m;
-    let mut e: usize = 0;
-    while e <= most {
+    for e in 0..usize::from(size) + 1 {
         let by = residue(l, y, totals, counts, block, end, j, e);
         if by != last {
             sets::move_in(m, by, from, to);
             last = by;
         }
-        e += 1;
     }
 }
 
@@ -120,12 +114,9 @@ pub fn fill_sums(
         → In set.new ((get_or known.now j 0
         + firsts (brings_but l y.now heavy j left but) heavy.n) % modulus l) }
 {
-    let n = heavy.n;
     let m = l.l1 * l.nc + 1;
-    let first = known[j] as usize % m;
-    sets::only(m, first, set);
-    let mut s: usize = 0;
-    while s < n {
+    sets::only(m, usize::from(known[j]) % m, set);
+    for s in 0..heavy.n {
         if s != but {
             take_block(
                 l,
@@ -140,7 +131,6 @@ pub fn fill_sums(
                 other,
             );
         }
-        s += 1;
     }
 }
 
@@ -166,7 +156,7 @@ fn can_be_whole(
     fill_sums(
         l, y, totals, counts, heavy, size, known, j, heavy.n, set, other,
     );
-    sets::holds(set, numbers[l.l1 + j] as usize)
+    sets::holds(set, usize::from(numbers[l.l1 + j]))
 }
 
 // Whether a residue of a set, with some number from low to high, makes up the sum modulo m: the residue that goes with a
@@ -177,13 +167,11 @@ fn makes_up(m: usize, sum: usize, low: usize, high: usize, set: &[u64]) -> bool
         → (part + n) % m ≡ sum → result ≡ true }
 {
     let mut part = column::missing(sum, low % m, m);
-    let mut n = low;
-    while n <= high {
+    for _ in low..high + 1 {
         if sets::holds(set, part) {
             return true;
         }
         part = if part == 0 { m - 1 } else { part - 1 };
-        n += 1;
     }
     false
 }
@@ -207,22 +195,18 @@ fn repairs(
     ensures { (v part : ℕ) → Repairs l y.now block end j left sum set.now v part → result ≡ true }
 {
     let nc = l.nc;
-    let i = bits::wide(block);
     let p = column::place_of(l, y.len(), block, j, end, left, left - 1);
     if !p.ok {
         return false;
     }
-    let at = p.at;
-    let seen = weigh::look(y, totals, counts, at, nc - 1);
-    let more = weigh::more_ones(y, totals, counts, at, nc - 1, 1);
-    let last = more.last;
-    let mut g = more.first;
-    while g <= last {
-        let span = weigh::widen(nc, i * nc, 1, seen, g, weigh::Span { low: 0, high: 0 });
+    let seen = weigh::look(y, totals, counts, p.at, nc - 1);
+    let more = weigh::more_ones(y, totals, counts, p.at, nc - 1, 1);
+    let before = usize::from(block) * nc;
+    for g in more.first..more.last + 1 {
+        let span = weigh::widen(nc, before, 1, seen, g, weigh::Span { low: 0, high: 0 });
         if makes_up(l.l1 * nc + 1, sum, span.low / 2, span.high / 2, set) {
             return true;
         }
-        g += 1;
     }
     false
 }
@@ -245,13 +229,10 @@ fn repairs_some(
     ensures { (left v part : ℕ) → 1 ≤ left → left ≤ size
         → Repairs l y.now block end j left sum set.now v part → result ≡ true }
 {
-    let most = bits::wide(size);
-    let mut left: usize = 1;
-    while left <= most {
-        if repairs(l, y, totals, counts, block, end, j, left as u8, sum, set) {
+    for left in 0..size {
+        if repairs(l, y, totals, counts, block, end, j, left + 1, sum, set) {
             return true;
         }
-        left += 1;
     }
     false
 }
@@ -278,7 +259,7 @@ fn can_lose_in(
         (λ left next. OneLess heavy.n left next at) result }
 {
     fill_sums(l, y, totals, counts, heavy, size, known, j, at, set, other);
-    let sum = numbers[l.l1 + j] as usize;
+    let sum = usize::from(numbers[l.l1 + j]);
     repairs_some(
         l,
         y,
@@ -312,15 +293,12 @@ fn can_lose_one(
     ensures { Tells l y.now numbers.now heavy size known.now j
         (λ left next. (s : ℕ) × ((s < heavy.n) × OneLess heavy.n left next s)) result }
 {
-    let n = heavy.n;
-    let mut s: usize = 0;
-    while s < n {
+    for s in 0..heavy.n {
         if can_lose_in(
             l, y, totals, counts, numbers, heavy, size, known, j, s, set, other,
         ) {
             return true;
         }
-        s += 1;
     }
     false
 }
@@ -369,11 +347,9 @@ pub fn all_losses(n: usize, size: [u8; states::MOST_HEAVY]) -> usize
     requires { n ≤ 6 }
     ensures { (result ≡ firsts (each size) n) × (result ≤ 1530) }
 {
-    let mut all: usize = 0;
-    let mut s: usize = 0;
-    while s < n {
-        all += bits::wide(size[s]);
-        s += 1;
+    let mut all = 0;
+    for losses in &size[..n] {
+        all += usize::from(*losses);
     }
     all
 }
@@ -398,17 +374,14 @@ fn columns_cost(
     ensures { (result ≤ 2 * most_in_line) × ((row vs : List ℕ) (own : ℕ → ℕ → ℕ) → Light l heavy row known.now
         → Path l y.now numbers.now heavy row (each size) vs own → result ≤ firsts (each size) heavy.n) }
 {
-    let l2 = l.l2;
-    let mut sum: usize = 0;
-    let mut j: usize = 0;
-    while j < l2 {
+    let mut sum = 0;
+    for j in 0..l.l2 {
         sum += cost(
             l, y, totals, counts, numbers, heavy, size, known, j, deep, set, other,
         );
         if limit < sum {
-            return sum;
+            break;
         }
-        j += 1;
     }
     sum
 }
@@ -431,8 +404,8 @@ pub fn enough(
         → Path l y.now numbers.now heavy row (each size) vs own → result ≡ true }
 {
     let all = all_losses(heavy.n, size);
-    let mut set: [u64; sets::TWICE] = [0; sets::TWICE];
-    let mut other: [u64; sets::WORDS] = [0; sets::WORDS];
+    let mut set = [0; sets::TWICE];
+    let mut other = [0; sets::WORDS];
     let ones = columns_cost(
         l, y, totals, counts, numbers, heavy, size, known, all, false, &mut set, &mut other,
     );
