@@ -73,16 +73,6 @@ module _ (n : ℕ) (places : List ℕ) (p : ℕ) (room : n < length places) wher
 
 -- ---- the places of the open cells
 module _ (l : Layout) (cells : Cells) where
-  pub collected_none : (places : List ℕ) → Collected l cells 0 0 places
-  collected_none places =
-      record {
-        few = omega arith;
-        no_more = omega arith;
-        spots = record { inside = λ w h. absurd (omega arith); apart = λ v w h g e. absurd (omega arith) };
-        all = λ z h o. absurd (omega arith);
-        only = λ w h. absurd (omega arith);
-      }
-
   -- the next cell when its place is there already, if it is open
   pub collected_same : (z n : ℕ) (places : List ℕ) → z < length cells.lost
       → (Open cells z → Among n places (chunk_of l cells z))

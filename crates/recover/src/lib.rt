@@ -28,14 +28,7 @@ fn among(places: [u8; 12], n: usize, c: u8) -> bool
     requires { n ≤ 12 }
     ensures { (result ≡ true → Among n places c) × (result ≡ false → Among n places c → ⊥) }
 {
-    let mut w: usize = 0;
-    while w < n {
-        if places[w] == c {
-            return true;
-        }
-        w += 1;
-    }
-    false
+    places[..n].contains(&c)
 }
 
 // The chunk of cell z, counted in row order.
@@ -44,8 +37,8 @@ pub fn chunk_of(l: Layout, cells: Cells, z: usize) -> usize
         × ((get_or cells.block z 0 < l.l1) × (get_or cells.column z 0 < l.l2))) }
     ensures { (result ≡ chunk_of l cells z) × (result < l.l1 * l.l2) }
 {
-    let i = bits::wide(cells.block[z]);
-    let j = bits::wide(cells.column[z]);
+    let i = usize::from(cells.block[z]);
+    let j = usize::from(cells.column[z]);
     i * l.l2 + j
 }
 
@@ -60,17 +53,12 @@ fn add_cell(l: Layout, cells: Cells, z: usize, e: Erased) -> Erased
         return e;
     }
     let c = chunk_of(l, cells, z) as u8;
-    let n = e.n;
-    let places = e.places;
-    if among(places, n, c) {
+    if among(e.places, e.n, c) {
         return e;
     }
-    let mut next = places;
-    next[n] = c;
-    Erased {
-        n: n + 1,
-        places: next,
-    }
+    let mut places = e.places;
+    places[e.n] = c;
+    Erased { n: e.n + 1, places }
 }
 
 // The places of all open cells. With checks each is a byte.
@@ -82,10 +70,8 @@ pub fn collect(l: Layout, cells: Cells) -> Erased
         n: 0,
         places: [0; 12],
     };
-    let mut z: usize = 0;
-    while z < 12 {
+    for z in 0..12 {
         e = add_cell(l, cells, z, e);
-        z += 1;
     }
     e
 }
@@ -95,13 +81,8 @@ fn put(row: &mut [u8], e: Erased, contents: [u8; 12])
     requires { (e.n ≤ 12) × Spots e.n (length row.old) e.places }
     ensures { PutAt e.n e.places contents row.old row.new }
 {
-    let n = e.n;
-    let places = e.places;
-    let mut w: usize = 0;
-    while w < n {
-        let at = bits::wide(places[w]);
-        row[at] = contents[w];
-        w += 1;
+    for (place, content) in e.places[..e.n].iter().zip(&contents) {
+        row[usize::from(*place)] = *content;
     }
 }
 
@@ -112,10 +93,8 @@ fn reduce(nc: usize, row: &[u8], out: &mut [u8])
         → get_or out.new c 0 ≡ get_or row.now c 0 % 2 ^ nc }
 {
     let ones = field::order(nc) as u8;
-    let mut c: usize = 0;
-    while c < row.len() {
-        out[c] = row[c] & ones;
-        c += 1;
+    for (c, v) in row.iter().enumerate() {
+        out[c] = *v & ones;
     }
 }
 
@@ -135,13 +114,11 @@ fn missing(
 {
     let size = field::order(l.nc) + 1;
     let first = l.l1 + l.l2;
-    let mut own: [u8; 16] = [0; 16];
+    let mut own = [0; 16];
     field::checks(t, l.nc, n, logs, chunks, &mut own);
-    let mut out: [u8; 16] = [0; 16];
-    let mut i: usize = 0;
-    while i < n {
-        out[i] = ((numbers[first + i] as usize % size) as u8) ^ own[i];
-        i += 1;
+    let mut out = [0; 16];
+    for (i, number) in numbers[first..first + n].iter().enumerate() {
+        out[i] = ((usize::from(*number) % size) as u8) ^ own[i];
     }
     out
 }
@@ -159,14 +136,13 @@ pub fn recover(l: Layout, numbers: &[u16], e: Erased, row: &mut [u8])
 {
     let nc = l.nc;
     let t = field::table();
-    let mut logs: [u8; 256] = [0; 256];
+    let mut logs = [0; 256];
     field::fill_logs(&t, nc, &mut logs);
     put(row, e, [0; 12]);
     let count = l.l1 * l.l2;
-    let mut base: [u8; PLACES] = [0; PLACES];
-    reduce(nc, &row[0..count], &mut base);
-    let s = missing(l, e.n, &t, &logs, numbers, &base[0..count]);
-    let places = e.places;
-    let contents = erasures::solve(&t, nc, &logs, places, e.n, 0, s);
+    let mut base = [0; PLACES];
+    reduce(nc, &row[..count], &mut base);
+    let s = missing(l, e.n, &t, &logs, numbers, &base[..count]);
+    let contents = erasures::solve(&t, nc, &logs, e.places, e.n, 0, s);
     put(row, e, contents);
 }
