@@ -4,7 +4,7 @@
 // cells.
 #![tactic(auto)]
 
-ghost use Rattle.std.specs.Prelude.{◌≡◌, true, List, ℕ, ◌+◌, ◌*◌, ◌<◌, ◌≤◌, eqb, length, get_or, set};
+ghost use Rattle.std.specs.Prelude.{◌≡◌, true, List, MatchOption, ℕ, ◌+◌, ◌*◌, ◌<◌, ◌≤◌, eqb, length, get_or, set};
 ghost use Rattle.message.specs.Layout.{legal};
 ghost use Rattle.lines.specs.Lines.{values};
 ghost use Rattle.found.specs.Found.{Given, Sent, Holding, Grown};
@@ -19,13 +19,6 @@ use contents::Ask;
 use message::Layout;
 use rows::Kept;
 
-// A number of a message as a number of any size.
-fn wide(v: u16) -> usize
-    ensures { result ≡ v }
-{
-    v as usize
-}
-
 // The rank of a cell that is not open.
 const CLOSED: usize = 512;
 
@@ -34,7 +27,7 @@ fn alone(keys: [u8; 12], lost: [u8; 12], z: usize) -> bool
     requires { z < 12 }
     ensures { result ≡ eqb (share keys (set lost z 0) (get_or keys z 0)) 0 }
 {
-    cells::share(keys, lost, keys[z]) == bits::wide(lost[z])
+    cells::share(keys, lost, keys[z]) == usize::from(lost[z])
 }
 
 // How dear it is to try the contents of cell z, below CLOSED if it is open: the sum of a line in which it is the only open one
@@ -43,38 +36,29 @@ fn rank(block: [u8; 12], column: [u8; 12], lost: [u8; 12], z: usize) -> usize
     requires { z < 12 }
     ensures { (result ≤ 512) × ((0 < get_or lost z 0 → result < 512) × (result < 512 → 0 < get_or lost z 0)) }
 {
-    let a = bits::wide(lost[z]);
+    let a = usize::from(lost[z]);
     if a == 0 {
-        return CLOSED;
+        CLOSED
+    } else if alone(column, lost, z) || alone(block, lost, z) {
+        a
+    } else {
+        a + 256
     }
-    if alone(column, lost, z) {
-        return a;
-    }
-    if alone(block, lost, z) {
-        return a;
-    }
-    a + 256
 }
 
-// The open cell whose contents are tried first, 12 if none is open. Any open cell will do; a good choice leaves few contents to
-// try.
-fn choose(cells: Cells) -> usize
-    ensures { (result ≤ 12) × ((result < 12 → 0 < get_or cells.lost result 0)
-        × (result ≡ 12 → (k : ℕ) → k < 12 → get_or cells.lost k 0 ≡ 0)) }
+// The open cell whose contents are tried first, if one is open. Any open cell will do; a good choice leaves few contents to try.
+fn choose(cells: Cells) -> Option<usize>
+    ensures { MatchOption result ((k : ℕ) → k < 12 → get_or cells.lost k 0 ≡ 0)
+        (λ z. (z < 12) × (0 < get_or cells.lost z 0)) }
 {
-    let block = cells.block;
-    let column = cells.column;
-    let lost = cells.lost;
-    let mut best: usize = 12;
-    let mut least: usize = CLOSED;
-    let mut z: usize = 0;
-    while z < 12 {
-        let dear = rank(block, column, lost, z);
+    let mut best = None;
+    let mut least = CLOSED;
+    for z in 0..12 {
+        let dear = rank(cells.block, cells.column, cells.lost, z);
         if dear < least {
-            best = z;
+            best = Some(z);
             least = dear;
         }
-        z += 1;
     }
     best
 }
@@ -85,15 +69,13 @@ fn ask_string(l: Layout, numbers: &[u16], cells: Cells, row: &[u8], z: usize) ->
         × ((z < 12) × ((get_or cells.block z 0 < l.l1) × (get_or cells.column z 0 < l.l2)))) }
     ensures { Small result × Asks l numbers.now cells row.now z result }
 {
-    let column = cells.column;
-    let lost = cells.lost;
-    if !alone(column, lost, z) {
+    if !alone(cells.column, cells.lost, z) {
         return contents::anything();
     }
-    let i = bits::wide(cells.block[z]);
-    let j = bits::wide(column[z]);
-    let k = l.l1 + j;
-    contents::asked(l.nc, j, l.l2, l.l1, i, row, wide(numbers[k]))
+    let i = usize::from(cells.block[z]);
+    let j = usize::from(cells.column[z]);
+    let sum = usize::from(numbers[l.l1 + j]);
+    contents::asked(l.nc, j, l.l2, l.l1, i, row, sum)
 }
 
 // The same of its block.
@@ -102,14 +84,13 @@ fn ask_block(l: Layout, numbers: &[u16], cells: Cells, row: &[u8], z: usize) -> 
         × ((z < 12) × ((get_or cells.block z 0 < l.l1) × (get_or cells.column z 0 < l.l2)))) }
     ensures { Small result × Asks l numbers.now cells row.now z result }
 {
-    let block = cells.block;
-    let lost = cells.lost;
-    if !alone(block, lost, z) {
+    if !alone(cells.block, cells.lost, z) {
         return contents::anything();
     }
-    let i = bits::wide(block[z]);
-    let j = bits::wide(cells.column[z]);
-    contents::asked(l.nc, i * l.l2, 1, l.l2, j, row, wide(numbers[i]))
+    let i = usize::from(cells.block[z]);
+    let j = usize::from(cells.column[z]);
+    let sum = usize::from(numbers[i]);
+    contents::asked(l.nc, i * l.l2, 1, l.l2, j, row, sum)
 }
 
 // Lists the contents of cell z, which is open, that lose just its count and that its sums allow; the answer is how many they are.
@@ -138,15 +119,13 @@ fn all_lose(l: Layout, y: &[u8], cells: Cells, row: &[u8]) -> bool
     requires { ((legal l ≡ true) × (l.l1 * l.l2 ≤ length row.now)) × Placed l (length y.now) cells }
     ensures { AllLose l y.now cells row.now → result ≡ true }
 {
-    let mut z: usize = 0;
-    while z < 12 {
-        if 0 < cells.lost[z] {
+    for z in 0..12 {
+        if cells.lost[z] > 0 {
             let at = recover::chunk_of(l, cells, z);
             if !cells::loses_just(l.nc, row[at], y, cells.place[z], cells.lost[z]) {
                 return false;
             }
         }
-        z += 1;
     }
     true
 }
@@ -182,15 +161,7 @@ fn add_recovered(
 fn open_cells(lost: [u8; 12]) -> usize
     ensures { (result ≡ weight lost) × (result ≤ 12) }
 {
-    let mut n: usize = 0;
-    let mut z: usize = 0;
-    while z < 12 {
-        if 0 < lost[z] {
-            n += 1;
-        }
-        z += 1;
-    }
-    n
+    lost.iter().filter(|a| **a > 0).count()
 }
 
 // The rows in which cell z, which is open, has the content v.
@@ -241,13 +212,11 @@ fn try_each(
         list.old kept.count kept.more list.new result.count result.more
         × SameBut l (OpenAt cells) row.old row.new }
 {
-    let mut tried: [u8; 256] = [0; 256];
+    let mut tried = [0; 256];
     let n = list_contents(l, y, numbers, cells, row, z, &mut tried);
     let mut held = kept;
-    let mut u: usize = 0;
-    while u < n {
-        held = try_content(l, y, numbers, cells, row, z, tried[u], cap, list, held);
-        u += 1;
+    for v in &tried[..n] {
+        held = try_content(l, y, numbers, cells, row, z, *v, cap, list, held);
     }
     held
 }
@@ -272,15 +241,14 @@ fn try_contents(
         list.old kept.count kept.more list.new result.count result.more
         × SameBut l (OpenAt cells) row.old row.new }
 {
-    let lost = cells.lost;
-    let open = open_cells(lost);
+    let open = open_cells(cells.lost);
     if open == 0 {
         return found::add_row(l, y, numbers, row, cap, list, kept);
     }
     if open <= l.r {
         return add_recovered(l, y, numbers, cells, row, cap, list, kept);
     }
-    let z = choose(cells);
+    let z = choose(cells).unwrap();
     try_each(l, y, numbers, cells, row, z, cap, list, kept)
 }
 

@@ -7,7 +7,7 @@ use native.Mathlib.Numerals.{add-one}
 use native.Mathlib.Omega.{arith}
 use borrow.Author.Tests.{ne_eqb}
 use lib.Dec.{eqb}
-use lib.ListN.{length, get_or, drop, drop_of_length-le}
+use lib.ListN.{length, get_or, drop}
 use lib.Seq.{drop-cons}
 use Rattle.erasures.specs.Erasures.{weight}
 
@@ -16,10 +16,6 @@ pub weight-next : (lost : List ℕ) (z : ℕ) → z < length lost
     → weight (drop z lost) ≡ cond (eqb (get_or lost z 0) 0) 0 1 + weight (drop (z + 1) lost)
 unfolding weight
 weight-next lost z h = rw (drop-cons lost z 0 h, add-one z) refl
-
-pub weight-end : (lost : List ℕ) (z : ℕ) → length lost ≤ z → weight (drop z lost) ≡ 0
-unfolding weight
-weight-end lost z h = rw (drop_of_length-le lost h) refl
 
 -- ---- none and some
 pub weight-none : (lost : List ℕ) → weight lost ≡ 0 → (z : ℕ) → get_or lost z 0 ≡ 0
