@@ -1,5 +1,5 @@
--- Cells found one after another: a turn starts where none is found yet, each that is found takes its losses away, and
--- what is listed afterwards is listed of the rows under the state before. Assumes nothing.
+-- Cells found one after another: each that is found takes its losses away, and what is listed afterwards is listed of the
+-- rows under the state before. Assumes nothing.
 use Prim.Native.Nat.{ℕ, ◌<◌, ◌≤◌}
 use mathlib.Core.Path.{◌≡◌, refl, sym, ap, ◌∙◌, subst}
 use mathlib.Core.Bool.{Bool, true, false, true≢false, false≢true}
@@ -10,27 +10,13 @@ use Rattle.message.specs.declared.Layout.{Layout}
 use Rattle.consistent.specs.Greedy.{in_all}
 use Rattle.found.specs.Found.{Holding, Grown}
 use Rattle.found.proofs.Found.{grown_nothing, grown_weaken}
-use Rattle.cells.specs.Cells.{NoSingle, OpenAt, Placed, SameBut, Under}
+use Rattle.cells.specs.Cells.{OpenAt, Placed, SameBut, Under}
 use Rattle.cells.specs.declared.Cells.{Cells}
-use Rattle.cells.proofs.Same.{same_refl, same_trans, same_wider, still_open}
+use Rattle.cells.proofs.Same.{same_trans, same_wider, still_open}
 use Rattle.cells.proofs.Shares.{all_found}
 use Rattle.cells.proofs.State.{placed-found}
-use Rattle.turns.specs.Turns.{keys_of, Found, Advanced}
+use Rattle.turns.specs.Turns.{Found, Advanced}
 use Rattle.turns.specs.declared.Turn.{Turn}
-
--- nothing is found yet
-pub advanced_none : {l : Layout} (numbers : List ℕ) {y : List ℕ} {cells : Cells} {row : List ℕ}
-    → Placed l (length y) cells
-    → Advanced l numbers y cells row (record { ok = true; any = false; cells = cells }) row
-advanced_none numbers p =
-    record {
-      keeps = λ x s u. (refl, u);
-      unchanged = λ e. refl;
-      fewer = λ e. absurd (false≢true e);
-      placed = p;
-      still = λ i c o. o;
-      same = same_refl;
-    }
 
 module _ {l : Layout} {numbers y : List ℕ} {cells : Cells} {row : List ℕ} {t : Turn} {held : List ℕ}
     (a : Advanced l numbers y cells row t held) where
@@ -41,11 +27,6 @@ module _ {l : Layout} {numbers y : List ℕ} {cells : Cells} {row : List ℕ} {t
       go : (b : Bool) → t.any ≡ b → in_all t.cells.lost ≤ in_all cells.lost
       go true e = omega (arith, a.fewer e)
       go false e = omega (arith, ap (λ (c : Cells). in_all c.lost) (a.unchanged e))
-
-  -- where no cell was found, no line has exactly one open loss that had not before
-  pub still-none : (k : Bool) → t.any ≡ false → NoSingle (keys_of k cells) cells.lost
-      → NoSingle (keys_of k t.cells) t.cells.lost
-  still-none k e = subst (λ (c : Cells). NoSingle (keys_of k c) c.lost) (sym (a.unchanged e))
 
   -- what changes only chunks of cells that are open now has changed only chunks of cells that were open at first
   pub same_after : {exit : List ℕ} → SameBut l (OpenAt t.cells) held exit → SameBut l (OpenAt cells) row exit

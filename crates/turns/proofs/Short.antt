@@ -45,13 +45,8 @@ module _ (l : Layout) (e : legal l ≡ true) (i j : ℕ) (h : i < l.l1) (g : j <
   mark-chunk true = add_comm j (i * l.l2)
   mark-chunk false = rw (mul-one j) refl
 
-  -- ---- its sum
+  -- ---- its sum, one of the numbers given
   module _ {numbers y : List ℕ} (given : Given l numbers y) where
-    -- is one of the numbers given
-    number-inside : (strings : Bool) → (line_of strings l i j).number < length numbers
-    number-inside true = omega (arith, given.count)
-    number-inside false = omega (arith, given.count)
-
     sum_low : (strings : Bool) → let n = line_of strings l i j in get_or numbers n.number 0 ≤ n.count * l.nc
     sum_low true = omega (arith, given.strings j g, mul_comm l.nc l.l1)
     sum_low false = given.blocks i h
@@ -104,9 +99,6 @@ module _ {l : Layout} {numbers y : List ℕ} (given : Given l numbers y) (cells 
   single_set v = cell_set l cells z v single-open column-low
 
   -- it can be mended by its sum
-  pub single_number : Its-line.number < length numbers
-  single_number = number-inside l given.is_legal Block Column block_low column-low given strings
-
   pub single_ready : Ready l.nc y (get_or cells.place z 0) Its-line (get_or numbers Its-line.number 0) (l.l1 * l.l2)
   single_ready =
       let e = given.is_legal in

@@ -2,14 +2,13 @@
 // one. Contracts cite specs/Turns.antt.
 #![tactic(auto)]
 
-ghost use Rattle.std.specs.Prelude.{◌≡◌, true, List, ℕ, ◌*◌, ◌<◌, ◌≤◌, length, drop};
+ghost use Rattle.std.specs.Prelude.{◌≡◌, true, List, MatchOption, ℕ, ◌*◌, ◌<◌, ◌≤◌, length, drop};
 ghost use Rattle.message.specs.Layout.{legal as isLegal};
 ghost use Rattle.found.specs.Found.{Given, Holding, Grown};
 ghost use Rattle.cells.specs.Cells.{NoSingle, SingleAt, OpenAt, Placed, SameBut, Under};
 ghost use Rattle.turns.specs.Turns.{keys_of, line_of, Ready, chunk_at, Short, Found, Turned};
 
 use cells::Cells;
-use lines::Mended;
 use message::Layout;
 use rows::Kept;
 
@@ -38,51 +37,44 @@ fn line_of(strings: bool, l: Layout, i: usize, j: usize) -> Line
     ensures { result ≡ line_of strings l i j }
 {
     if strings {
-        return Line {
+        Line {
             start: j,
             stride: l.l2,
             count: l.l1,
             hole: i,
             number: l.l1 + j,
-        };
-    }
-    Line {
-        start: i * l.l2,
-        stride: 1,
-        count: l.l2,
-        hole: j,
-        number: i,
+        }
+    } else {
+        Line {
+            start: i * l.l2,
+            stride: 1,
+            count: l.l2,
+            hole: j,
+            number: i,
+        }
     }
 }
 
-// The first cell that has the only open loss of its chunk-string, or of its block; 12 where there is none.
-fn single(strings: bool, cells: Cells) -> usize
-    ensures { (result ≤ 12) × ((result < 12 → SingleAt (keys_of strings cells) cells.lost result)
-        × (result ≡ 12 → NoSingle (keys_of strings cells) cells.lost)) }
+// The first cell that has the only open loss of its chunk-string, or of its block.
+fn single(strings: bool, cells: Cells) -> Option<usize>
+    ensures { MatchOption result (NoSingle (keys_of strings cells) cells.lost)
+        (λ z. (z < 12) × SingleAt (keys_of strings cells) cells.lost z) }
 {
-    let lost = cells.lost;
-    if strings {
-        let column = cells.column;
-        return cells::single(column, lost);
-    }
-    let block = cells.block;
-    cells::single(block, lost)
+    let keys = if strings { cells.column } else { cells.block };
+    let z = cells::single(keys, cells.lost);
+    if z < 12 { Some(z) } else { None }
 }
 
 // The chunk of a cell that lost one bit, mended in its line by the line's sum. It fails where too few bits are left, where no bit
 // of the chunk gives the line its sum, or where the chunk found does not lose just one bit against y from the place on.
-fn mend_cell(nc: usize, y: &[u8], place: usize, n: Line, sum: usize, row: &[u8]) -> Mended
+fn mend_cell(nc: usize, y: &[u8], place: usize, n: Line, sum: usize, row: &[u8]) -> Option<u8>
     requires { Ready nc y.now place n sum (length row.now) }
     ensures { (us : List ℕ) → Short nc n sum (drop place y.now) row.now us
-        → (result.ok ≡ true) × (result.value ≡ chunk_at n us) }
+        → result ≡ Some (chunk_at n us) }
 {
-    let none = Mended {
-        ok: false,
-        value: 0,
-    };
     let short = nc - 1;
     if y.len() - place < short {
-        return none;
+        return None;
     }
     let end = place + short;
     let m = lines::mend_line(
@@ -95,10 +87,11 @@ fn mend_cell(nc: usize, y: &[u8], place: usize, n: Line, sum: usize, row: &[u8])
         &y[place..end],
         row,
     );
-    if !cells::loses_just(nc, m.value, y, place, 1) {
-        return none;
+    if m.ok && cells::loses_just(nc, m.value, y, place, 1) {
+        Some(m.value)
+    } else {
+        None
     }
-    m
 }
 
 // Cell z, which has the only open loss of its chunk-string, or of its block, is found: its chunk is put into the row in hand.
@@ -115,19 +108,23 @@ fn mend_one(
         × ((z < 12) × SingleAt (keys_of strings cells) cells.lost z)) }
     ensures { Found l numbers.now y.now cells z row.old result row.new }
 {
-    let i = bits::wide(cells.block[z]);
-    let j = bits::wide(cells.column[z]);
+    let i = usize::from(cells.block[z]);
+    let j = usize::from(cells.column[z]);
     let n = line_of(strings, l, i, j);
-    let k = n.number;
-    let sum = numbers[k] as usize;
+    let sum = usize::from(numbers[n.number]);
     let count = l.l1 * l.l2;
-    let m = mend_cell(l.nc, y, cells.place[z], n, sum, &row[0..count]);
     let mut next = cells;
     next.lost[z] = 0;
-    let at = i * l.l2 + j;
-    row[at] = m.value;
+    let Some(v) = mend_cell(l.nc, y, cells.place[z], n, sum, &row[..count]) else {
+        return Turn {
+            ok: false,
+            any: true,
+            cells: next,
+        };
+    };
+    row[i * l.l2 + j] = v;
     Turn {
-        ok: m.ok,
+        ok: true,
         any: true,
         cells: next,
     }
@@ -150,17 +147,13 @@ fn take_turn(
     let mut t = Turn {
         ok: true,
         any: false,
-        cells: cells,
+        cells,
     };
-    let mut z = single(strings, cells);
-    while z < 12 {
-        let short = t.cells;
-        t = mend_one(strings, l, y, numbers, short, row, z);
+    while let Some(z) = single(strings, t.cells) {
+        t = mend_one(strings, l, y, numbers, t.cells, row, z);
         if !t.ok {
             return t;
         }
-        let rest = t.cells;
-        z = single(strings, rest);
     }
     t
 }
@@ -189,11 +182,10 @@ pub fn mend_strings(
     if !t.ok {
         return kept;
     }
-    let rest = t.cells;
     if !t.any {
-        return fill::fill(l, y, numbers, rest, row, cap, list, kept);
+        return fill::fill(l, y, numbers, t.cells, row, cap, list, kept);
     }
-    mend_blocks(l, y, numbers, rest, row, cap, list, kept)
+    mend_blocks(l, y, numbers, t.cells, row, cap, list, kept)
 }
 
 // Blocks are mended, where no chunk-string has exactly one open loss. If one was, the chunk-strings have their turn; if none
@@ -220,9 +212,8 @@ pub fn mend_blocks(
     if !t.ok {
         return kept;
     }
-    let rest = t.cells;
     if !t.any {
-        return fill::fill(l, y, numbers, rest, row, cap, list, kept);
+        return fill::fill(l, y, numbers, t.cells, row, cap, list, kept);
     }
-    mend_strings(l, y, numbers, rest, row, cap, list, kept)
+    mend_strings(l, y, numbers, t.cells, row, cap, list, kept)
 }
