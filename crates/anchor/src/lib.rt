@@ -16,6 +16,7 @@ ghost use Rattle.anchor.specs.Anchor.{over, Reads, desk_size, wide, NearFor, Lat
 ghost use Rattle.anchor.specs.Anchor.{OwnCounts, LightInHand, BlockMost};
 
 use message::Layout;
+use message::layouts::Legal;
 use rows::Kept;
 
 // How many numbers of losses there can be before a place, from none on.
@@ -135,7 +136,7 @@ fn first_chunks(l: Layout, list: &[u8], out: &mut [u8])
     let w = (n + 7) / 8;
     let mut row = [0; bits::LONGEST];
     bits::unpack(&list[0..w], n, &mut row);
-    message::chunks::fill_chunks(l.l1, l.l2, l.nc, l.r, &row[0..n], out);
+    message::chunks::fill_chunks(Legal { layout: l }, &row[0..n], out);
 }
 
 // The desk prepared for the first row of the list slice.

@@ -9,6 +9,7 @@ ghost use Rattle.consistent.specs.Query.{query};
 ghost use Rattle.found.specs.Given.{Given, Sent, HoldsSent, AddsSent, InHand};
 
 use message::Layout;
+use message::layouts::Legal;
 use rows::Kept;
 
 // The most bytes of a packed row.
@@ -50,7 +51,7 @@ pub fn add_bits(
     ensures { AddsSent (query l numbers.now y.now) cap (λ z. z ≡ x.now)
         list.old kept list.new result }
 {
-    if !consistent::is_consistent(l.l1, l.l2, l.nc, l.r, x, y, numbers) {
+    if !consistent::is_consistent(Legal { layout: l }, x, y, numbers) {
         return kept;
     }
     add_sent(l, y, numbers, x, cap, list, kept)

@@ -120,3 +120,32 @@ chunk_lies l e i j h g =
 -- a chunk-string is no longer than a line
 pub string_high : (l : Layout) → legal l ≡ true → l.l1 * l.nc ≤ longest_line
 string_high l e = omega (arith, (sizes l (legal_bounds l e)).string, mul_comm l.l1 l.nc)
+
+-- ---- the bounds one by one
+module _ (l : Layout) (e : legal l ≡ true) where
+  pub l1_most : l.l1 ≤ most_in_line
+  l1_most = (legal_bounds l e).l1_high
+
+  pub l2_most : l.l2 ≤ most_in_line
+  l2_most = (legal_bounds l e).l2_high
+
+  pub nc_most : l.nc ≤ 8
+  nc_most = (legal_bounds l e).nc_high
+
+  pub r_most : l.r ≤ 16
+  r_most = (legal_bounds l e).r_high
+
+  pub chunks_most : l.l1 * l.l2 ≤ most_chunks
+  chunks_most = (legal_bounds l e).chunks
+
+  pub row_most : row_bits l ≤ longest
+  row_most = (sizes l (legal_bounds l e)).row
+
+  pub block_most : block_bits l ≤ longest_line
+  block_most = (sizes l (legal_bounds l e)).block
+
+  pub string_most : string_bits l ≤ longest_line
+  string_most = (sizes l (legal_bounds l e)).string
+
+-- the same, for a tactic's list
+pub ruleset most = (l1_most, l2_most, nc_most, r_most, chunks_most, row_most, block_most, string_most)

@@ -11,6 +11,5 @@ pub mod Cutting
 pub mod RowSums
 mod Placing
 pub mod Assembly
-mod Writes
 pub mod Roundtrip
 pub mod Picking

@@ -6,7 +6,7 @@ use mathlib.Core.List.{List, [], ◌∷◌, ◌++◌, append_assoc, append-nil, 
 use native.Mathlib.Numerals.{add-one}
 use native.Mathlib.Omega.{arith}
 use lib.ListN.{length, get_or, take}
-use lib.Seq.{take-suc, take_all, length-take-le}
+use lib.Seq.{take-suc, length-take-le}
 use Rattle.bits.specs.Bits.{digits}
 use Rattle.bits.specs.Filling.{Ready, Goes}
 use Rattle.bits.specs.declared.Filler.{Filler}
@@ -51,8 +51,3 @@ module _ (f : Filler) (d : List ℕ) (k : ℕ) (vs : List ℕ) where
   placed-next i g b q l v e h c t =
       subst (λ (x : List ℕ). Goes f d x h c)
       (ap (λ (u : ℕ). flat_map (digits k) (take i vs) ++ digits k u) e ∙ sym (flat-next k vs i l)) (goes_then q t)
-
-  -- all of them are put
-  pub placed_end : (i : ℕ) (g : Filler) (b : List ℕ) → Placed f d k vs i g b → length vs ≤ i
-      → Goes f d (flat_map (digits k) vs) g b
-  placed_end i g b q l = subst (λ (x : List ℕ). Goes f d (flat_map (digits k) x) g b) (take_all i vs l) q

@@ -5,7 +5,7 @@ ghost use mathlib.Core.List.{◌++◌, flat_map};
 ghost use Rattle.bits.specs.Bits.{digits, bytes_for, pack, unpack as unpacked, fits};
 ghost use Rattle.bits.specs.Filling.{Ready, Goes};
 ghost use Rattle.vt.specs.Weights.{weights};
-ghost use Rattle.message.specs.Layout.{layout, row_bits};
+ghost use Rattle.message.specs.Layout.{row_bits};
 ghost use Rattle.message.specs.Chunks.{row_of};
 ghost use Rattle.message.specs.Message.{fields_length, message_bytes, sums, block_sums, string_sums, checks, head, field_bits, message};
 ghost use Rattle.message.specs.Write.{written_of, write_answer, write_target};
@@ -18,6 +18,7 @@ use refusal::Refusal;
 
 // So many sums of a row from a first one on, as fields of k bits behind those that a filler has taken. The block sums come first,
 // then the chunk-string sums.
+#[tactic(auto, using(crate::proofs::Legal::most))]
 fn put_sums(
     table: &[u16; 256],
     row: &Row<'_>,
@@ -55,6 +56,7 @@ fn put_checks(nc: usize, values: &[u8], start: Filler, out: &mut [u8]) -> Filler
 }
 
 // The checks of a row behind the bits that a filler has taken.
+#[tactic(auto, using(crate::proofs::Legal::most))]
 fn put_row_checks(row: &Row<'_>, start: Filler, out: &mut [u8]) -> Filler
     requires { Ready start
         × (start.at * 8 + start.count + row.now.layout.r * row.now.layout.nc ≤ length out.old * 8) }
@@ -68,6 +70,7 @@ fn put_row_checks(row: &Row<'_>, start: Filler, out: &mut [u8]) -> Filler
 }
 
 // The fields of a row's message, packed, at the start of a slice.
+#[tactic(auto, using(crate::proofs::Legal::most))]
 fn put_fields(row: &Row<'_>, out: &mut [u8])
     requires { bytes_for (fields_length row.now.layout) ≤ length out.old }
     ensures { out.new
@@ -91,6 +94,7 @@ fn put_fields(row: &Row<'_>, out: &mut [u8])
 }
 
 // The head of a message at the start of a slice.
+#[tactic(auto, unfolding(crate::specs::Message::head), using(crate::proofs::Legal::most))]
 fn put_head(l: Legal, out: &mut [u8])
     requires { 9 ≤ length out.old }
     ensures { out.new ≡ head l.layout ++ drop 9 out.old }
@@ -103,6 +107,7 @@ fn put_head(l: Legal, out: &mut [u8])
 }
 
 // The message of a packed row at the start of a slice.
+#[tactic(auto, using(crate::proofs::Legal::most))]
 fn put_message(l: Legal, row: &[u8], out: &mut [u8])
     requires { (fits (row_bits l.layout) row.now ≡ true)
         × (message_bytes l.layout ≤ length out.old) }
@@ -123,7 +128,7 @@ fn put_message(l: Legal, row: &[u8], out: &mut [u8])
 }
 
 // Writes the message of a packed row to the start of a slice. The layout's numbers may be any.
-#[tactic(auto, unfolding(crate::specs::Write::write_answer, crate::specs::Write::write_target, crate::specs::Write::write_refusal), using(crate::proofs::Legal::legal_bounds))]
+#[tactic(auto, unfolding(crate::specs::Write::write_answer, crate::specs::Write::write_target, crate::specs::Write::write_refusal), using(crate::proofs::Legal::most))]
 pub fn write(layout: Layout, row: &[u8], out: &mut [u8]) -> Result<usize, Refusal>
     ensures { (written_of result ≡ write_answer layout row.now (length out.old))
         × (out.new ≡ write_target layout row.now out.old) }

@@ -1,5 +1,5 @@
 use Rattle.std.proofs.Common.{refl, arith}
-use Rattle.message.proofs.Placing.{placed-start, placed-room, placed-next, placed_end}
+use Rattle.message.proofs.Placing.{placed-start, placed-room, placed-next}
 use Rattle.message.proofs.writing.put_checks.Goals as goal
 
 pub loop-v-init : goal.loop-v-init

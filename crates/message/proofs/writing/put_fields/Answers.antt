@@ -1,28 +1,7 @@
 use Rattle.std.proofs.Common.{arith}
 use Rattle.message.specs.Chunks.{row_of}
 use Rattle.message.proofs.Assembly.{block_room, block_stage, string_room, string_stage, check-room, end-room, all_ended}
-use Rattle.message.proofs.Legal.{legal_bounds, sizes}
 use Rattle.message.proofs.writing.put_fields.Goals as goal
-
-pub overflow_mul-l2 : goal.overflow_mul-l2
-overflow_mul-l2 c =
-    let r = c.args.row.now in
-    omega (arith, (sizes r.layout (legal_bounds r.layout r.is_legal)).block)
-
-pub width-block-requires : goal.width-block-requires
-width-block-requires c =
-    let r = c.args.row.now in
-    (sizes r.layout (legal_bounds r.layout r.is_legal)).block
-
-pub overflow_mul-nc : goal.overflow_mul-nc
-overflow_mul-nc c =
-    let r = c.args.row.now in
-    omega (arith, (sizes r.layout (legal_bounds r.layout r.is_legal)).string)
-
-pub width-string-requires : goal.width-string-requires
-width-string-requires c =
-    let r = c.args.row.now in
-    (sizes r.layout (legal_bounds r.layout r.is_legal)).string
 
 pub put_sums-blocks-requires : goal.put_sums-blocks-requires
 put_sums-blocks-requires c =

@@ -1,4 +1,4 @@
-use Rattle.std.proofs.Common.{ℕ, ◌≡◌, ◌*◌, ◌≤◌, List, length, take, drop, sym, arith, ap, ◌∙◌}
+use Rattle.std.proofs.Common.{ℕ, List, sym, arith}
 use Rattle.std.proofs.Math.ListN.{replicate}
 use Rattle.bits.proofs.Packing.{fits-length}
 use Rattle.message.specs.Layout.{row_bits}
@@ -9,12 +9,6 @@ use Rattle.message.proofs.writing.put_message.Goals as goal
 -- the array that the chunks are filled into
 abbrev blank : List ℕ
 blank = replicate 255 0
-
-pub overflow_mul-n : goal.overflow_mul-n
-overflow_mul-n c = let l = c.args.l in omega (arith, (legal_bounds l.layout l.is_legal).chunks)
-
-pub slice_bounds-chunks-end : goal.slice_bounds-chunks-end
-slice_bounds-chunks-end c = let l = c.args.l in (legal_bounds l.layout l.is_legal).chunks
 
 pub slice_bounds-fill-end : goal.slice_bounds-fill-end
 slice_bounds-fill-end c =

@@ -1,15 +1,8 @@
 use Rattle.std.proofs.Common.{◌≡◌, length, take, arith, ◌∙◌, ap, refl}
 use Rattle.message.specs.Chunks.{row_of}
-use Rattle.message.specs.Message.{checks}
 use Rattle.message.proofs.Cutting.{length-checks}
 use Rattle.message.proofs.Legal.{legal_bounds}
 use Rattle.message.proofs.writing.put_row_checks.Goals as goal
-
-pub fill_checks-requires : goal.fill_checks-requires
-fill_checks-requires c = (legal_bounds c.args.row.now.layout c.args.row.now.is_legal).r_high
-
-pub slice_bounds-values-end : goal.slice_bounds-values-end
-slice_bounds-values-end c = omega (arith, (legal_bounds c.args.row.now.layout c.args.row.now.is_legal).r_high)
 
 pub slice_bounds-put_checks-end : goal.slice_bounds-put_checks-end
 slice_bounds-put_checks-end c =

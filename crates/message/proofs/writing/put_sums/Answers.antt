@@ -1,15 +1,9 @@
-use Rattle.std.proofs.Common.{ℕ, ◌≡◌, ◌+◌, ◌-◌, List, length, take, drop, ◌∙◌, arith}
+use Rattle.std.proofs.Common.{◌≡◌, ◌+◌, ◌-◌, length, take, drop, ◌∙◌, arith}
 use Rattle.message.specs.Chunks.{row_of}
 use Rattle.message.specs.Message.{sums}
-use Rattle.message.proofs.Legal.{legal_bounds}
-use Rattle.message.proofs.Placing.{placed-start, placed-room, placed-next, placed_end}
+use Rattle.message.proofs.Placing.{placed-start, placed-room, placed-next}
 use Rattle.message.proofs.RowSums.{length_part, sum_of_part}
 use Rattle.message.proofs.writing.put_sums.Goals as goal
-
-pub overflow_add-i-end : goal.overflow_add-i-end
-overflow_add-i-end c =
-    let b = legal_bounds c.args.row.now.layout c.args.row.now.is_legal in
-    omega (arith, b.l1_high, b.l2_high)
 
 pub loop-i-init : goal.loop-i-init
 loop-i-init c =
