@@ -73,10 +73,6 @@ lack a s m h =
     add-mod-mod a (s + m - a % m) m ∙ sym (mod-add-mod a m (s + m - a % m)) ∙ ap (λ (v : ℕ). v % m) e
     ∙ add-mod_right s m ∙ mod-eq_of_lt h
 
--- the difference in it does not go below 0
-pub lack_fits : (a s m : ℕ) → 0 < m → a % m ≤ s + m
-lack_fits a s m h = let l = mod-lt a {m = m} h in omega arith
-
 -- it is below m
 pub lack_small : (a s m n : ℕ) → 0 < m → m ≤ n + 1 → (s + m - a % m) % m ≤ n
 lack_small a s m n h k = let l = mod-lt (s + m - a % m) {m = m} h in omega arith

@@ -7,14 +7,13 @@ use native.Mathlib.Omega.{arith}
 use borrow.Author.Tests.{lt-ltb, le-ltb, ltb-false, eq-eqb, ne_eqb}
 use lib.Dec.{ltb, eqb}
 use lib.ListN.{length, take, drop}
+use Rattle.std.specs.Prelude.{Ok, Err}
 use Rattle.refusal.specs.Refusal.{Answer, number_of, first_refusal}
 use Rattle.refusal.specs.declared.Refusal.{Refusal}
 use Rattle.refusal.proofs.Laws.{numbered}
 use Rattle.bits.specs.Bits.{longest, bytes_for, pack, unpack, fits}
 use Rattle.vt.specs.Answer.{answer_of}
 use Rattle.vt.specs.Mend.{mended, mend_refusal, mend_target}
-use Rattle.vt.specs.declared.Mended.TheVariants.{Done, Refused}
-use Rattle.vt.specs.declared.Mended.{Mended}
 
 -- the table of mending, with the test of the packing left as it is
 table : (w s : ℕ) (p : List ℕ) (room : ℕ)
@@ -94,10 +93,9 @@ target_refused w s p t q h =
     rw (target w s p t, ne_eqb (mend_refusal w s p (length t)) 0 (λ e. omega (arith, numbered q))) refl
 
 -- where mending answers that it is done, no check applies
-pub done_number : (r : Mended) (n : ℕ) → r ≡ Done → answer_of r ≡ record { refusal = n; value = 0 } → n ≡ 0
-done_number r n e h = sym (ap (λ (a : Answer). a.refusal) h) ∙ ap (λ (m : Mended). (answer_of m).refusal) e
+pub done_number : (t : Unit {0}) (n : ℕ) → answer_of (Ok t) ≡ record { refusal = n; value = 0 } → n ≡ 0
+done_number t n h = sym (ap (λ (a : Answer). a.refusal) h)
 
 -- where it answers a refusal, the check with that number applies
-pub refused_number : (r : Mended) (q : Refusal) (n : ℕ) → r ≡ Refused q → answer_of r ≡ record { refusal = n; value = 0 }
-    → number_of q ≡ n
-refused_number r q n e h = sym (ap (λ (m : Mended). (answer_of m).refusal) e) ∙ ap (λ (a : Answer). a.refusal) h
+pub refused_number : (q : Refusal) (n : ℕ) → answer_of (Err q) ≡ record { refusal = n; value = 0 } → number_of q ≡ n
+refused_number q n h = ap (λ (a : Answer). a.refusal) h

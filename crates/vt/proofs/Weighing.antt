@@ -45,10 +45,6 @@ pub weight-total : (b : ℕ) → weight b % 64 ≡ total 1 (digits 8 b)
 unfolding weight
 weight-total b = digits_mod (ones (digits 8 b)) (omega (arith, byte-total b))
 
-pub weight-low : (b : ℕ) → weight b < 1024
-unfolding weight
-weight-low b = omega (arith, byte-ones b, byte-total b)
-
 -- ---- two strings one behind the other
 pub ones-append : (x y : List ℕ) → ones (x ++ y) ≡ ones x + ones y
 unfolding ones
@@ -140,12 +136,11 @@ module _ (s : List ℕ) (byte size : ℕ) (h : byte * 8 + size ≤ length s * 8)
 
   -- the front of an array to which the part was unpacked
   pub part_lent : (q o : List ℕ) → q ≡ take size (unpack (take (length s - byte) (drop byte s))) ++ drop size o
-      → take (size - 0) q ≡ take size (drop (byte * 8) (unpack s))
+      → take size q ≡ take size (drop (byte * 8) (unpack s))
   part_lent q o e =
-      let z : size - 0 ≡ size = omega arith in
       let a : take (length s - byte) (drop byte s) ≡ drop byte s =
       take_all (length s - byte) (drop byte s) (omega (arith, length-drop byte s)) in
-      rw (z, e, a, unpack-behind byte s) (take_at (take size (drop (byte * 8) (unpack s))) (drop size o) size part_length)
+      rw (e, a, unpack-behind byte s) (take_at (take size (drop (byte * 8) (unpack s))) (drop size o) size part_length)
 
   -- the ones behind a place in the part are those in it and those behind it
   pub part_ones : (at : ℕ) → at ≤ size

@@ -52,7 +52,7 @@ pub fn weigh_byte(t: &[u16; 256], b: u8) -> Weight
     ensures { ((result.total ≡ total 1 (digits 8 b)) × (result.total ≤ 36)) × ((result.ones ≡ ones (digits 8 b))
         × (result.ones ≤ 8)) }
 {
-    let v = t[bits::wide(b)] as usize;
+    let v = usize::from(t[usize::from(b)]);
     Weight {
         total: v % 64,
         ones: v / 64,
@@ -64,19 +64,14 @@ fn weigh_bytes(t: &[u16; 256], s: &[u8]) -> Weight
     requires { (t.now ≡ weightsOf) × (length s.now * 8 ≤ longest) }
     ensures { (result.total ≡ total 1 (unpack s.now)) × (result.ones ≡ ones (unpack s.now)) }
 {
-    let mut total: usize = 0;
-    let mut ones: usize = 0;
-    let mut i: usize = 0;
-    while i < s.len() {
-        let w = weigh_byte(t, s[i]);
+    let mut total = 0;
+    let mut ones = 0;
+    for (i, b) in s.iter().enumerate() {
+        let w = weigh_byte(t, *b);
         total += i * 8 * w.ones + w.total;
         ones += w.ones;
-        i += 1;
     }
-    Weight {
-        total: total,
-        ones: ones,
-    }
+    Weight { total, ones }
 }
 
 // The total and the number of the ones.
@@ -84,19 +79,14 @@ pub fn weigh(bits: &[u8]) -> Weight
     requires { AllBits bits.now × (length bits.now ≤ longest) }
     ensures { (result.total ≡ total 1 bits.now) × (result.ones ≡ ones bits.now) }
 {
-    let mut total: usize = 0;
-    let mut ones: usize = 0;
-    let mut i: usize = 0;
-    while i < bits.len() {
-        let b = bits[i] as usize;
+    let mut total = 0;
+    let mut ones = 0;
+    for (i, bit) in bits.iter().enumerate() {
+        let b = usize::from(*bit);
         total += (i + 1) * b;
         ones += b;
-        i += 1;
     }
-    Weight {
-        total: total,
-        ones: ones,
-    }
+    Weight { total, ones }
 }
 
 // Where a deleted bit goes back, and which bit it is.
@@ -116,22 +106,19 @@ fn find_place(bits: &[u8], before: usize, behind: usize, t: usize, count: usize)
         × ((before + result.at + 1) * result.bit + (ones (drop result.at bits.now) + behind) ≡ t) }
 {
     let mut r = count;
-    let mut j: usize = 0;
-    while j < bits.len() {
+    for (j, bit) in bits.iter().enumerate() {
         if t == r {
             return Place { at: j, bit: 0 };
         }
         if t == before + j + 1 + r {
             return Place { at: j, bit: 1 };
         }
-        let b = bits[j] as usize;
-        r -= b;
-        j += 1;
+        r -= usize::from(*bit);
     }
-    if t == behind {
-        Place { at: j, bit: 0 }
-    } else {
-        Place { at: j, bit: 1 }
+    let bit = if t == behind { 0 } else { 1 };
+    Place {
+        at: bits.len(),
+        bit,
     }
 }
 
@@ -141,9 +128,9 @@ fn put_in(bits: &[u8], at: usize, bit: u8, out: &mut [u8])
     ensures { out.new ≡ take at bits.now ++ (bit ∷ drop at bits.now)
         ++ drop (length bits.now + 1) out.old }
 {
-    bits::copy_to(&bits[0..at], out, 0);
+    out[..at].copy_from_slice(&bits[..at]);
     out[at] = bit;
-    bits::copy_to(&bits[at..], out, at + 1);
+    out[at + 1..bits.len() + 1].copy_from_slice(&bits[at..]);
 }
 
 // What a bit that is put in must add to a total, so that a string of w bits gets the sum s.
@@ -168,33 +155,23 @@ pub fn mend_bits(s: usize, bits: &[u8], out: &mut [u8])
     put_in(bits, p.at, p.bit, out);
 }
 
-// What mending answers: that it is done, or why it is refused.
-#[derive(Clone, Copy)]
-pub enum Mended {
-    Done,
-    Refused(Refusal),
-}
-
-// The first check that applies to a length, a sum, packed bits and a target of so many bytes; Done where none does.
-fn check(w: usize, s: usize, bits: &[u8], room: usize) -> Mended
+// The first check that applies to a length, a sum, packed bits and a target of so many bytes.
+fn check(w: usize, s: usize, bits: &[u8], room: usize) -> Result<(), Refusal>
     ensures { answer_of result ≡ record { refusal = mend_refusal w s bits.now room; value = 0 } }
 {
-    if w < 1 {
-        return Mended::Refused(Refusal::Layout);
-    }
-    if bits::LONGEST < w {
-        return Mended::Refused(Refusal::Layout);
+    if w < 1 || bits::LONGEST < w {
+        return Err(Refusal::Layout);
     }
     if w < s {
-        return Mended::Refused(Refusal::Sum);
+        return Err(Refusal::Sum);
     }
     if !bits::fits(w - 1, bits) {
-        return Mended::Refused(Refusal::Packing);
+        return Err(Refusal::Packing);
     }
-    if room < (w + 7) / 8 {
-        return Mended::Refused(Refusal::ShortTarget);
+    if room < w.div_ceil(8) {
+        return Err(Refusal::ShortTarget);
     }
-    Mended::Done
+    Ok(())
 }
 
 // A part of packed bits, within one byte: the byte, how many of its bits, the ones from its first bit on, and those behind it.
@@ -214,26 +191,22 @@ fn find_part(weights: &[u16; 256], s: &[u8], n: usize, t: usize, count: usize) -
 {
     let whole = n / 8;
     let mut r = count;
-    let mut i: usize = 0;
-    while i < whole {
-        let w = weigh_byte(weights, s[i]);
+    for (i, b) in s[..whole].iter().enumerate() {
+        let w = weigh_byte(weights, *b);
         let behind = r - w.ones;
-        if behind <= t {
-            if t <= i * 8 + 9 + behind {
-                return Part {
-                    byte: i,
-                    size: 8,
-                    ones: r,
-                    behind: behind,
-                };
-            }
+        if behind <= t && t <= i * 8 + 9 + behind {
+            return Part {
+                byte: i,
+                size: 8,
+                ones: r,
+                behind,
+            };
         }
         r = behind;
-        i += 1;
     }
     Part {
-        byte: i,
-        size: n - i * 8,
+        byte: whole,
+        size: n % 8,
         ones: r,
         behind: 0,
     }
@@ -249,9 +222,9 @@ fn find_packed(weights: &[u16; 256], s: &[u8], n: usize, t: usize, count: usize)
     let part = find_part(weights, s, n, t, count);
     let byte = part.byte;
     let size = part.size;
-    let mut cell: [u8; 8] = [0; 8];
+    let mut cell = [0; 8];
     bits::unpack(&s[byte..], size, &mut cell);
-    let p = find_place(&cell[0..size], byte * 8, part.behind, t, part.ones);
+    let p = find_place(&cell[..size], byte * 8, part.behind, t, part.ones);
     Place {
         at: byte * 8 + p.at,
         bit: p.bit,
@@ -265,7 +238,7 @@ fn with_bit(b: usize, at: usize, bit: u8) -> u8
 {
     let high = bits::power(8 - at);
     let low = bits::power(7 - at);
-    let v = b / high * high + (bits::wide(bit) * low + b / 2 % low);
+    let v = b / high * high + (usize::from(bit) * low + b / 2 % low);
     v as u8
 }
 
@@ -276,13 +249,12 @@ fn move_on(s: &[u8], from: usize, count: usize, out: &mut [u8])
     ensures { out.new ≡ take from out.old
         ++ drop from (bytes count (0 ∷ unpack s.now)) ++ drop count out.old }
 {
-    let mut i = from;
-    while i < s.len() {
+    for i in from..s.len() {
         out[i] = s[i - 1] % 2 * 128 + s[i] / 2;
-        i += 1;
     }
-    if i < count {
-        out[i] = s[i - 1] % 2 * 128;
+    let last = from.max(s.len());
+    if last < count {
+        out[last] = s[last - 1] % 2 * 128;
     }
 }
 
@@ -294,7 +266,7 @@ fn put_packed(s: &[u8], at: usize, bit: u8, count: usize, out: &mut [u8])
         ++ (bit ∷ drop at (unpack s.now))) ++ drop count out.old }
 {
     let first = at / 8;
-    bits::copy_to(&s[0..first], out, 0);
+    out[..first].copy_from_slice(&s[..first]);
     out[first] = with_bit(bits::byte_at(s, first), at % 8, bit);
     move_on(s, first + 1, count, out);
 }
@@ -310,22 +282,16 @@ fn mend_packed(w: usize, s: usize, bits: &[u8], out: &mut [u8])
     let weight = weigh_bytes(&table, bits);
     let t = lacking(w, s, weight.total);
     let p = find_packed(&table, bits, w - 1, t, weight.ones);
-    put_packed(bits, p.at, p.bit, (w + 7) / 8, out);
+    put_packed(bits, p.at, p.bit, w.div_ceil(8), out);
 }
 
 // The string of length w with the sum s from which the packed bits come by one deletion, packed, at the start of a slice.
-pub fn mend(w: usize, s: usize, bits: &[u8], out: &mut [u8]) -> Mended
+pub fn mend(w: usize, s: usize, bits: &[u8], out: &mut [u8]) -> Result<(), Refusal>
     ensures { (answer_of result
         ≡ record { refusal = mend_refusal w s bits.now (length out.old); value = 0 })
         × (out.new ≡ mend_target w s bits.now out.old) }
 {
-    let room = out.len();
-    let answer = check(w, s, bits, room);
-    match answer {
-        Mended::Done => {
-            mend_packed(w, s, bits, out);
-            answer
-        }
-        Mended::Refused(_) => answer,
-    }
+    check(w, s, bits, out.len())?;
+    mend_packed(w, s, bits, out);
+    Ok(())
 }
