@@ -1,7 +1,7 @@
 -- Blocks within a row of a legal layout. Assumes nothing.
 use Prim.Native.Nat.{ℕ, ◌+◌, ◌*◌, ◌<◌, ◌≤◌}
 use mathlib.Core.Path.{◌≡◌}
-use native.Mathlib.Nat.{mul-le-mul, mul-le-mul_right}
+use native.Mathlib.Nat.{mul-le-mul_right}
 use native.Mathlib.Omega.{arith}
 use lib.ListN.{length}
 use Rattle.bits.specs.Bits.{longest}
@@ -10,7 +10,6 @@ use Rattle.message.specs.declared.Layout.{Layout}
 use Rattle.message.proofs.Legal.{Bounds, Sizes, legal_bounds, sizes}
 use Rattle.consistent.specs.Query.{Query}
 use Rattle.found.specs.Given.{Given}
-use Rattle.hint.specs.Tries.{Stands}
 
 module _ {q : Query} (g : Given q) where
   abbrev l : Layout
@@ -22,16 +21,12 @@ module _ {q : Query} (g : Given q) where
   pub high : Sizes l
   high = sizes l bounds
 
-  -- a block has bits
-  pub block_low : 0 < block_bits l
-  block_low = let p : 1 * 3 ≤ l.l2 * l.nc = mul-le-mul bounds.l2_low bounds.nc_low in omega arith
-
   -- the received row is short
   pub received-short : length q.received ≤ longest
   received-short = omega (arith, g.short, high.row)
 
   -- block i ends where the next begins, within the row
-  pub block_next : (i : ℕ) → (i + 1) * block_bits l ≡ i * block_bits l + block_bits l
+  block_next : (i : ℕ) → (i + 1) * block_bits l ≡ i * block_bits l + block_bits l
   block_next i = omega arith
 
   pub block_inside : (i : ℕ) → i < l.l1 → i * block_bits l + block_bits l ≤ row_bits l
@@ -45,7 +40,3 @@ module _ {q : Query} (g : Given q) where
   place-high i p h k =
       let a : i * block_bits l ≤ l.l1 * block_bits l = mul-le-mul_right (block_bits l) h in
       omega (arith, high.l1_block, high.row)
-
--- a guess starts with the first block, which is read from the first bit on
-pub stands_start : (l : Layout) → Stands l (record { i = 0; p = 0 })
-stands_start l = record { inside = omega arith; before = omega arith }

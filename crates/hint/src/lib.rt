@@ -5,7 +5,7 @@
 // one byte a bit.
 #![tactic(auto)]
 
-ghost use Rattle.std.specs.Prelude.{◌≡◌, ◌+◌, ◌*◌, ◌<◌, ◌≤◌, length};
+ghost use Rattle.std.specs.Prelude.{◌≡◌, ◌+◌, ◌*◌, ◌<◌, ◌≤◌, IfErr, length};
 ghost use Rattle.bits.specs.Bits.{AllBits, longest};
 ghost use Rattle.consistent.specs.Consistent.{most_losses};
 ghost use Rattle.consistent.specs.Query.{query};
@@ -35,25 +35,16 @@ pub struct Try {
     pub e: usize,
 }
 
-// Whether a consistent row was found, and the fuel that is left.
-#[derive(Clone, Copy)]
-struct Outcome {
-    found: bool,
-    fuel: usize,
-}
-
 // Bit j of y; past its end the last one again, and 0 where y is empty.
 fn read_on(y: &[u8], j: usize) -> u8
     requires { AllBits y.now }
     ensures { result < 2 }
 {
     if j < y.len() {
-        return y[j];
+        y[j]
+    } else {
+        y.last().copied().unwrap_or(0)
     }
-    if y.len() == 0 {
-        return 0;
-    }
-    y[y.len() - 1]
 }
 
 // The place of a string that place j comes from, once the bit at place q stands there g times more.
@@ -61,12 +52,12 @@ fn back(j: usize, q: usize, g: usize) -> usize
     requires { (q ≤ longest) × (g ≤ 13) }
 {
     if j <= q {
-        return j;
+        j
+    } else if j <= q + g {
+        q
+    } else {
+        j - g
     }
-    if j <= q + g {
-        return q;
-    }
-    j - g
 }
 
 // Block i as it is read from place p on with its runs prolonged, in the row x; whether it has the sum s.
@@ -76,13 +67,11 @@ fn try_block(y: &[u8], p: usize, t: Try, nb: usize, i: usize, s: usize, x: &mut 
     ensures { AllBits x.new }
 {
     let from = i * nb;
-    let mut total: usize = 0;
-    let mut u: usize = 0;
-    while u < nb {
+    let mut total = 0;
+    for u in 0..nb {
         let b = read_on(y, back(back(p + u, t.q, t.g), t.r, t.e));
         x[from + u] = b;
-        total += (u + 1) * bits::wide(b);
-        u += 1;
+        total += (u + 1) * usize::from(b);
     }
     total % (nb + 1) == s
 }
@@ -100,17 +89,15 @@ fn as_read(l: Layout, y: &[u8], numbers: &[u16], at: Stand, x: &mut [u8]) -> Sta
         r: 0,
         e: 0,
     };
-    let mut i = at.i;
     let mut p = at.p;
-    while i < l.l1 {
-        let s = numbers[i] as usize;
+    for i in at.i..l.l1 {
+        let s = usize::from(numbers[i]);
         if !try_block(y, p, plain, nb, i, s, x) {
-            return Stand { i: i, p: p };
+            return Stand { i, p };
         }
-        i += 1;
         p += nb;
     }
-    Stand { i: i, p: p }
+    Stand { i: l.l1, p }
 }
 
 // The last place of the run that holds place q of y; the end of y where q is behind it.
@@ -120,14 +107,11 @@ fn run_end(y: &[u8], q: usize) -> usize
     if y.len() <= q {
         return y.len();
     }
-    let mut at = q;
-    while at + 1 < y.len() {
-        if y[at] != y[at + 1] {
-            return at;
-        }
-        at += 1;
+    let bit = y[q];
+    match y[q + 1..].iter().position(|b| *b != bit) {
+        Some(more) => q + more,
+        None => y.len() - 1,
     }
-    at
 }
 
 // The first try with these lengths from place p on: the first run, or the first two.
@@ -136,16 +120,8 @@ fn first_try(y: &[u8], p: usize, e: usize, g: usize) -> Try
     ensures { Fit y.now result × ((result.e ≡ e) × (result.g ≡ g)) }
 {
     let q = run_end(y, p);
-    let mut r = q;
-    if 0 < g {
-        r = run_end(y, q + 1);
-    }
-    Try {
-        q: q,
-        g: g,
-        r: r,
-        e: e,
-    }
+    let r = if 0 < g { run_end(y, q + 1) } else { q };
+    Try { q, g, r, e }
 }
 
 // The try after t in a block that is read from place p to place end: the next earlier run, the next run, the next
@@ -158,51 +134,26 @@ fn next_try(y: &[u8], p: usize, end: usize, most: usize, t: Try) -> Try
     let a = t.e + t.g;
     let q = run_end(y, t.q + 1);
     if 0 < t.g && q < t.r {
-        return Try {
-            q: q,
-            g: t.g,
-            r: t.r,
-            e: t.e,
-        };
+        return Try { q, ..t };
     }
     let r = run_end(y, t.r + 1);
     if t.r < r && r + a < end {
         return Try {
             q: run_end(y, p),
-            g: t.g,
-            r: r,
-            e: t.e,
+            r,
+            ..t
         };
     }
     if a < most {
-        return first_try(y, p, t.e + 1, t.g);
+        first_try(y, p, t.e + 1, t.g)
+    } else {
+        first_try(y, p, 1, t.g + 1)
     }
-    first_try(y, p, 1, t.g + 1)
-}
-
-// What is left of a number of steps; none where it is used up.
-fn less(fuel: usize, steps: usize) -> usize
-    ensures { (result ≤ fuel) × (0 < fuel → 0 < steps → result < fuel) }
-{
-    if fuel < steps {
-        return 0;
-    }
-    fuel - steps
-}
-
-// The smaller of two numbers.
-fn least(a: usize, b: usize) -> usize
-    ensures { (result ≤ a) × (result ≤ b) }
-{
-    if a < b {
-        return a;
-    }
-    b
 }
 
 // Rows in which the losses that are left prolong runs, from a block on, in the row x: a block that has its sum as it is
 // read lost nothing, in another one run or two are longer. It ends with the first consistent row, or when the fuel,
-// which is counted in bits, is used up.
+// which is counted in bits, is used up; where no row is consistent it answers the fuel that is left.
 fn prolong(
     l: Layout,
     y: &[u8],
@@ -211,65 +162,50 @@ fn prolong(
     left: usize,
     fuel: usize,
     x: &mut [u8],
-) -> Outcome
+) -> Result<(), usize>
     requires { (Given (query l numbers.now y.now) × (left ≤ most_losses)) × (Stands l at × Hand l x.old) }
-    ensures { Hand l x.new × (result.fuel ≤ fuel) }
+    ensures { Hand l x.new × IfErr result (λ rest. rest ≤ fuel) }
 {
     let here = as_read(l, y, numbers, at, x);
     let i = here.i;
     let p = here.p;
-    let mut f = less(fuel, p - at.p);
+    let mut f = fuel.saturating_sub(p - at.p);
     if i == l.l1 {
-        let found = consistent::is_consistent(l.l1, l.l2, l.nc, l.r, x, y, numbers);
-        return Outcome {
-            found: found,
-            fuel: less(f, 2 * p),
-        };
+        if consistent::is_consistent(l.l1, l.l2, l.nc, l.r, x, y, numbers) {
+            return Ok(());
+        }
+        return Err(f.saturating_sub(2 * p));
     }
     let nb = l.l2 * l.nc;
-    let most = least(left, nb);
-    let s = numbers[i] as usize;
+    let most = left.min(nb);
+    let s = usize::from(numbers[i]);
     let mut t = first_try(y, p, 1, 0);
     while t.e + t.g <= most {
         if f == 0 {
-            return Outcome {
-                found: false,
-                fuel: 0,
-            };
+            return Err(0);
         }
-        f = less(f, nb);
+        f = f.saturating_sub(nb);
         if try_block(y, p, t, nb, i, s, x) {
             let a = t.e + t.g;
             let next = Stand {
                 i: i + 1,
                 p: p + nb - a,
             };
-            let o = prolong(l, y, numbers, next, left - a, f, x);
-            if o.found {
-                return o;
+            match prolong(l, y, numbers, next, left - a, f, x) {
+                Ok(()) => return Ok(()),
+                Err(rest) => f = rest,
             }
-            f = o.fuel;
         }
         t = next_try(y, p, p + nb, most, t);
     }
-    Outcome {
-        found: false,
-        fuel: f,
-    }
+    Err(f)
 }
 
 // Whether a row has few runs: at most one in eight bits.
 fn few_runs(y: &[u8]) -> bool
     requires { length y.now ≤ longest }
 {
-    let mut runs: usize = 1;
-    let mut i: usize = 1;
-    while i < y.len() {
-        if y[i] != y[i - 1] {
-            runs += 1;
-        }
-        i += 1;
-    }
+    let runs = 1 + y.windows(2).filter(|w| w[0] != w[1]).count();
     8 * runs <= y.len()
 }
 
@@ -290,8 +226,7 @@ fn add_prolonged(
 {
     let start = Stand { i: 0, p: 0 };
     let left = x.len() - y.len();
-    let o = prolong(l, y, numbers, start, left, left * FUEL, x);
-    if !o.found {
+    if prolong(l, y, numbers, start, left, left * FUEL, x).is_err() {
         return kept;
     }
     found::add_bits(l, y, numbers, x, cap, list, kept)
@@ -301,26 +236,18 @@ fn add_prolonged(
 fn repeats(y: &[u8], k: usize) -> bool
     requires { length y.now ≤ longest }
 {
-    let mut unlike: usize = 0;
-    let mut i = k;
-    while i < y.len() {
-        if y[i] != y[i - k] {
-            unlike += 1;
-        }
-        i += 1;
-    }
+    let unlike = y
+        .iter()
+        .skip(k)
+        .zip(y)
+        .filter(|(b, before)| b != before)
+        .count();
     8 * unlike <= y.len()
 }
 
 // The place of a string that place j comes from, once the k bits before place q stand there again.
 fn again(j: usize, q: usize, k: usize) -> usize {
-    if j < q {
-        return j;
-    }
-    if j < k {
-        return j;
-    }
-    j - k
+    if j < q || j < k { j } else { j - k }
 }
 
 // The row x as the received row with the k bits before place q once more.
@@ -328,10 +255,8 @@ fn repeat_at(y: &[u8], q: usize, k: usize, x: &mut [u8])
     requires { AllBits y.now × AllBits x.old }
     ensures { AllBits x.new }
 {
-    let mut j: usize = 0;
-    while j < x.len() {
-        x[j] = read_on(y, again(j, q, k));
-        j += 1;
+    for (j, b) in x.iter_mut().enumerate() {
+        *b = read_on(y, again(j, q, k));
     }
 }
 
@@ -370,11 +295,11 @@ pub fn guess(l: Layout, y: &[u8], numbers: &[u16], cap: usize, list: &mut [u8], 
     }
     let n = l.l1 * l.l2 * l.nc;
     if few_runs(y) {
-        let mut x: [u8; bits::LONGEST] = [0; bits::LONGEST];
+        let mut x = [0; bits::LONGEST];
         return add_prolonged(l, y, numbers, &mut x[0..n], cap, list, kept);
     }
     if repeats(y, n - y.len()) {
-        let mut x: [u8; bits::LONGEST] = [0; bits::LONGEST];
+        let mut x = [0; bits::LONGEST];
         return add_repeated(l, y, numbers, &mut x[0..n], cap, list, kept);
     }
     kept
