@@ -3,6 +3,7 @@
 use Prim.Native.Nat.{ℕ, ◌+◌, ◌-◌, ◌*◌, ◌<◌, ◌≤◌}
 use mathlib.Core.Path.{◌≡◌, refl, sym, ap, ◌∙◌}
 use mathlib.Core.Bool.{true, false, false≢true}
+use mathlib.Core.Logic.{◌⊎◌, inl, inr}
 use mathlib.Core.List.{List, ◌++◌, append_assoc}
 use native.Mathlib.Omega.{arith}
 use borrow.Author.Tests.{leb-true, le-leb, lt-leb, eqb-true, eq-eqb}
@@ -10,15 +11,14 @@ use lib.Dec.{leb, eqb}
 use lib.ListN.{length, get_or, take, drop, get_or-append}
 use lib.Seq.{take_at, get_or-append-add, length-take-le}
 use Rattle.bits.specs.Bits.{AllBits}
-use Rattle.bits.proofs.Laws.{both_left, bits-take}
+use Rattle.bits.proofs.Laws.{lt_or_ge, both_left, bits-take}
 use Rattle.vt.specs.Mend.{mended}
 use Rattle.vt.specs.Sum.{sum}
-use Rattle.vt.proofs.Mending.{Mends, mended-mends}
+use Rattle.vt.proofs.Mending.{mended-mends}
 use Rattle.message.specs.Layout.{block_bits}
 use Rattle.message.specs.Read.{fields}
 use Rattle.message.specs.declared.Layout.{Layout}
 use Rattle.message.proofs.Fields.{fields_at, length_fields}
-use Rattle.consistent.specs.Greedy.{losses}
 use Rattle.consistent.proofs.Greedy.{losses-most, piece, whole}
 use Rattle.consistent.proofs.Rule.{block_not_one, block_mended}
 use Rattle.pieces.specs.Pieces.{has_its_sum, Loses, Tried}
@@ -92,16 +92,26 @@ module _ (l : Layout) (s i a : ℕ) (rest entry : List ℕ) where
       }
 
   -- a block with two losses or more is not looked for here
-  pub tried_more : 2 ≤ a → a ≤ block_bits l → block_bits l - a ≤ length rest → Tried l s i a rest entry entry true
+  tried_more : 2 ≤ a → a ≤ block_bits l → block_bits l - a ≤ length rest → Tried l s i a rest entry entry true
   tried_more h f g =
       record { stays = refl; within = λ t. (f, g); can = λ b q. refl; light = λ b q t. absurd (omega arith) }
 
   -- a block does not lose more bits than it has, and as many bits as it keeps remain
-  pub too_many : block_bits l < a → Tried l s i a rest entry entry false
-  too_many h = tried-not (λ b q. omega (arith, losses-most b rest, q.size, q.own))
+  pub too_many : block_bits l < a → Tried l s i a rest entry entry (leb a (block_bits l))
+  too_many h =
+      rw (lt-leb a (block_bits l) h) (tried-not (λ b q. omega (arith, losses-most b rest, q.size, q.own)))
 
   pub too_short : length rest < block_bits l - a → Tried l s i a rest entry entry false
   too_short h = tried-not (λ b q. omega (arith, (piece (block_bits l) a b rest q.size q.own).within))
+
+  -- so two losses or more leave a block just where as many bits remain
+  pub tried_long : 2 ≤ a → a ≤ block_bits l → Tried l s i a rest entry entry (leb (block_bits l - a) (length rest))
+  tried_long h f = go (lt_or_ge (length rest) (block_bits l - a))
+    where
+      go : (length rest < block_bits l - a) ⊎ (block_bits l - a ≤ length rest)
+          → Tried l s i a rest entry entry (leb (block_bits l - a) (length rest))
+      go (inl k) = rw (lt-leb (block_bits l - a) (length rest) k) (too_short k)
+      go (inr k) = rw (le-leb (block_bits l - a) (length rest) k) (tried_more h f k)
 
 module _ (l : Layout) (s i : ℕ) (rest entry : List ℕ) where
   -- without a loss: the next bits, where these have the sum

@@ -14,13 +14,7 @@ use message::Layout;
 // that is 1, the rows that lose many bits early come first in dictionary order. With checks a row that is held leaves out
 // those near it, and in rising order one is held sooner.
 pub fn down_pays(checks: usize, rest: &[u8]) -> bool {
-    if 0 < checks {
-        return false;
-    }
-    if rest.len() == 0 {
-        return false;
-    }
-    rest[0] == 1
+    checks == 0 && rest.first() == Some(&1)
 }
 
 // The count that is tried in a turn: they go from the first to the most, up or down.
@@ -28,10 +22,7 @@ pub fn count_at(first: usize, most: usize, down: bool, turn: usize) -> usize
     requires { (first ≤ turn) × (turn ≤ most) }
     ensures { result ≡ count_at first most down turn }
 {
-    if down {
-        return most - (turn - first);
-    }
-    turn
+    if down { most - (turn - first) } else { turn }
 }
 
 // Whether at least nb bits remain and the next nb have the sum s.
@@ -39,10 +30,7 @@ fn has_sum(nb: usize, s: usize, rest: &[u8], totals: &[u32], counts: &[u16], p: 
     requires { AllBits rest.now × Tabled rest.now p totals.now counts.now }
     ensures { result ≡ has_its_sum nb s rest.now }
 {
-    if rest.len() < nb {
-        return false;
-    }
-    windows::window_sum(rest, totals, counts, p, nb) == s
+    nb <= rest.len() && windows::window_sum(rest, totals, counts, p, nb) == s
 }
 
 // The numbers of the l2 chunks of a block's bits, in block i of the row in hand.
@@ -52,10 +40,8 @@ fn put_block(nc: usize, l2: usize, bits: &[u8], row: &mut [u8], i: usize)
         ++ drop (i * l2 + l2) row.old }
 {
     let at = i * l2;
-    let mut j: usize = 0;
-    while j < l2 {
+    for j in 0..l2 {
         row[at + j] = message::chunks::number_at(bits, j * nc, nc);
-        j += 1;
     }
 }
 
@@ -106,7 +92,7 @@ fn mended_block(
     if has_sum(nb, s, rest, totals, counts, p) {
         return false;
     }
-    let mut bits: [u8; bits::LONGEST_LINE] = [0; bits::LONGEST_LINE];
+    let mut bits = [0; bits::LONGEST_LINE];
     vt::mend_bits(s, &rest[0..short], &mut bits);
     put_block(l.nc, l.l2, &bits[0..nb], row, i);
     true
@@ -129,19 +115,13 @@ pub fn try_block(
         × (i * l.l2 + l.l2 ≤ length row.old))))) }
     ensures { Tried l (get_or numbers.now i 0) i a rest.now row.old row.new result }
 {
-    let s = numbers[i] as usize;
-    if a == 0 {
-        return whole_block(l, s, i, rest, totals, counts, p, row);
+    let s = usize::from(numbers[i]);
+    match a {
+        0 => whole_block(l, s, i, rest, totals, counts, p, row),
+        1 => mended_block(l, s, i, rest, totals, counts, p, row),
+        _ => {
+            let nb = l.l2 * l.nc;
+            a <= nb && nb - a <= rest.len()
+        }
     }
-    if a == 1 {
-        return mended_block(l, s, i, rest, totals, counts, p, row);
-    }
-    let nb = l.l2 * l.nc;
-    if nb < a {
-        return false;
-    }
-    if rest.len() < nb - a {
-        return false;
-    }
-    true
 }

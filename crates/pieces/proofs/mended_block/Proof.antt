@@ -1,11 +1,11 @@
 -- `pieces::mended_block` meets its contract: a block with one loss is the mended string of the next nb - 1 bits.
 -- Assumes nothing.
 use borrow.Author.Rules.{rules}
-use Prim.Native.Nat.{◌+◌, ◌-◌, ◌*◌, ◌≤◌}
+use Prim.Native.Nat.{◌-◌, ◌*◌, ◌≤◌}
 use mathlib.Core.Path.{◌≡◌, sym, ◌∙◌}
 use native.Mathlib.Nat.{mul-le-mul}
 use native.Mathlib.Omega.{arith}
-use lib.ListN.{length, take}
+use lib.ListN.{take}
 use Rattle.bits.proofs.Laws.{bits-take}
 use Rattle.vt.specs.Mend.{mended as mendedBits}
 use Rattle.message.specs.Layout.{block_bits}
