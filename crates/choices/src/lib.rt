@@ -1,7 +1,7 @@
 // What the chunk of each heavy block can be in a column, from a loss state, listed as choices. Contracts cite specs/Choices.antt.
 #![tactic(auto)]
 
-ghost use Rattle.std.specs.Prelude.{◌≡◌, true, false, ◌+◌, ◌-◌, ◌*◌, ◌<◌, ◌≤◌, length, get_or};
+ghost use Rattle.std.specs.Prelude.{◌≡◌, true, ◌+◌, ◌-◌, ◌*◌, ◌<◌, ◌≤◌, length, get_or, IfSome, IsSome};
 ghost use Rattle.states.specs.States.{stride, each};
 ghost use Rattle.weigh.specs.Weigh.{chunk_top};
 ghost use Rattle.column.specs.Column.{chunk_at, Readable};
@@ -12,32 +12,17 @@ use message::Layout;
 use states::Shape;
 use weigh::Span;
 
-// What is seen of a chunk that loses bits: whether it can be matched, where the bits start that it takes, their ones, and how many more ones
-// it can have, at least and at most.
+// What is seen of a chunk that loses bits: where the bits start that it takes, their ones, and how many more ones it can have, at least and
+// at most.
 #[derive(Clone, Copy)]
 pub struct View {
-    pub ok: bool,
     pub at: usize,
     pub seen: weigh::Seen,
     pub first: usize,
     pub last: usize,
 }
 
-// A chunk that cannot be matched.
-fn unseen() -> View
-    ensures { result.ok ≡ false }
-{
-    let none = weigh::Seen { ones: 0, total: 0 };
-    View {
-        ok: false,
-        at: 0,
-        seen: none,
-        first: 0,
-        last: 0,
-    }
-}
-
-// The chunk of heavy block s in column j, if it loses a bits where so many are left.
+// The chunk of heavy block s in column j, if it loses a bits where so many are left and can be matched so.
 fn look_at(
     l: Layout,
     y: &[u8],
@@ -48,29 +33,26 @@ fn look_at(
     s: usize,
     left: u8,
     a: u8,
-) -> View
+) -> Option<View>
     requires { Seeable l y.now totals.now counts.now heavy j × ((s < heavy.n) × (a ≤ left)) }
-    ensures { (result.ok ≡ true → Viewed l y.now heavy j s left a result)
+    ensures { IfSome result (λ view. Viewed l y.now heavy j s left a view)
         × (Readable l.nc (length y.now) (chunk_at l heavy j s * l.nc + left) (get_or heavy.end s 0) left
-        (left - a) → result.ok ≡ true) }
+        (left - a) → IsSome result) }
 {
-    let nc = l.nc;
-    let lost = bits::wide(a);
     let p = column::place_of(l, y.len(), heavy.block[s], j, heavy.end[s], left, left - a);
     if !p.ok {
-        return unseen();
+        return None;
     }
-    let at = p.at;
-    let w = nc - lost;
-    let seen = weigh::look(y, totals, counts, at, w);
-    let more = weigh::more_ones(y, totals, counts, at, w, lost);
-    View {
-        ok: true,
-        at,
+    let lost = usize::from(a);
+    let w = l.nc - lost;
+    let seen = weigh::look(y, totals, counts, p.at, w);
+    let more = weigh::more_ones(y, totals, counts, p.at, w, lost);
+    Some(View {
+        at: p.at,
         seen,
         first: more.first,
         last: more.last,
-    }
+    })
 }
 
 // The numbers of all choices: four for each. Each of six blocks has at most 45 of them: its chunk loses none to eight bits, and none to all
@@ -84,12 +66,10 @@ fn put_choice(choices: &mut [u16], t: usize, adds: usize, span: Span, other: u8)
         × Put t adds span other choices.new }
 {
     let at = 4 * t;
-    let low = span.low;
-    let high = span.high;
     choices[at] = adds as u16;
-    choices[at + 1] = low as u16;
-    choices[at + 2] = high as u16;
-    choices[at + 3] = other as u16;
+    choices[at + 1] = span.low as u16;
+    choices[at + 2] = span.high as u16;
+    choices[at + 3] = u16::from(other);
 }
 
 // Lists the choices of heavy block b in column j, from choice t on, where so many losses are left and it loses a bits there: one for each
@@ -115,24 +95,19 @@ fn list_share(
         × ChoicesOf l y.now heavy z.now j b left one choices.new t result
         (λ next vs. left ≡ next b + a) }
 {
-    let v = look_at(l, y, totals, counts, heavy, j, b, left, a);
-    if !v.ok {
+    let Some(v) = look_at(l, y, totals, counts, heavy, j, b, left, a) else {
         return t;
-    }
-    let c = bits::wide(heavy.block[b]) * l.l2 + j;
-    let other = column::other(l.nc, y, totals, counts, v.at, a, z[c]);
-    let adds = bits::wide(left - a) * one;
-    let seen = v.seen;
-    let last = v.last;
+    };
+    let block = usize::from(heavy.block[b]);
+    let other = column::other(l.nc, y, totals, counts, v.at, a, z[block * l.l2 + j]);
+    let adds = usize::from(left - a) * one;
+    let before = block * l.nc;
     let none = Span { low: 0, high: 0 };
-    let mut g = v.first;
     let mut end = t;
-    while g <= last {
-        let before = bits::wide(heavy.block[b]) * l.nc;
-        let span = weigh::widen(l.nc, before, bits::wide(a), seen, g, none);
+    for g in v.first..=v.last {
+        let span = weigh::widen(l.nc, before, usize::from(a), v.seen, g, none);
         put_choice(choices, end, adds, span, other);
         end += 1;
-        g += 1;
     }
     end
 }
@@ -158,14 +133,11 @@ fn list_block(
         × ChoicesOf l y.now heavy z.now j b left one choices.new t result
         (λ next vs. next b ≤ left) }
 {
-    let most = bits::wide(left);
     let mut end = t;
-    let mut a: usize = 0;
-    while a <= most {
+    for a in 0..=left {
         end = list_share(
-            l, y, totals, counts, heavy, z, j, b, left, a as u8, one, choices, end,
+            l, y, totals, counts, heavy, z, j, b, left, a, one, choices, end,
         );
-        a += 1;
     }
     end
 }
@@ -189,11 +161,9 @@ pub fn list_choices(
         × Blocks l y.now heavy z.now j (each left) (stride (each shape.size)) choices.new result
         heavy.n) }
 {
-    let n = heavy.n;
-    let mut from: [usize; 7] = [0; 7];
-    let mut b: usize = 0;
-    while b < n {
-        let end = list_block(
+    let mut from = [0; 7];
+    for b in 0..heavy.n {
+        from[b + 1] = list_block(
             l,
             y,
             totals,
@@ -207,8 +177,6 @@ pub fn list_choices(
             choices,
             from[b],
         );
-        b += 1;
-        from[b] = end;
     }
     from
 }
