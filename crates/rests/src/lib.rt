@@ -105,6 +105,7 @@ fn fill_column(
 pub const RESTS: usize = 1638;
 
 // Fills the table for heavy blocks that have so many losses at first; with a layout that is not short it stays as it is.
+#[tactic(auto, using(crate::proofs::Rests::short_columns))]
 pub fn fill(
     l: Layout,
     y: &[u8],
@@ -163,6 +164,7 @@ fn mark_block(
 
 // With how many losses left each heavy block can leave column c; with a layout that is not short nothing is known, and each number is
 // marked.
+#[tactic(auto, using(crate::proofs::Rests::short_columns))]
 pub fn exits(
     l: Layout,
     y: &[u8],

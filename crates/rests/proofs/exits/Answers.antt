@@ -1,31 +1,10 @@
 use Rattle.std.proofs.Common.{◌∙◌, arith}
-use Rattle.rests.proofs.Rests.{short_columns}
 use Rattle.rests.proofs.Leaving.{leaves_next, leaves_done, all-marked}
 use Rattle.rests.proofs.exits.Goals as goal
 
 pub returns-then-not-is_short : goal.returns-then-not-is_short
 returns-then-not-is_short c row vs next x holds behind s h =
     all-marked _ _ _ _ row _ c.args.left next vs c.requires.0.few c.requires.1.1 x s h
-
-pub mark_block-requires : goal.mark_block-requires
-mark_block-requires c =
-    let p = c.requires in
-    let f = p.0 in
-    let t = c.loop-s in
-    let short = c.is_short.ensures.0 c.if-not-is_short.false in
-    let columns = short_columns c.args.l f.allowed short in (
-      (
-        record {
-          allowed = f.allowed;
-          is_short = short;
-          received = f.short;
-          inside = f.inside t.s c.loop-s-test.true;
-          column = p.1.0;
-        },
-        ((omega (arith, f.few), p.1.1 t.s c.loop-s-test.true), omega (arith, columns, p.1.0, c.if-rests-lt-RESTS.false)),
-      ),
-      t.invariant.long,
-    )
 
 pub loop-s-preserved : goal.loop-s-preserved
 loop-s-preserved c =

@@ -5,35 +5,6 @@ use Rattle.sums.specs.Sums.{block_modulus, rest_at, HoldsFrom}
 use Rattle.rests.proofs.Rests.{short_columns, end-holds, column-holds}
 use Rattle.rests.proofs.fill.Goals as goal
 
-pub overflow_mul-end : goal.overflow_mul-end
-overflow_mul-end c =
-    omega (arith, short_columns c.args.l c.requires.0.allowed (c.is_short.ensures.0 c.if-not-is_short.false))
-
-pub overflow_add-rests : goal.overflow_add-rests
-overflow_add-rests c =
-    omega (
-      arith,
-      short_columns c.args.l c.requires.0.allowed (c.is_short.ensures.0 c.if-not-is_short.false),
-      c.requires.0.few,
-    )
-
-pub offset_bounds-rests-end : goal.offset_bounds-rests-end
-offset_bounds-rests-end c =
-    omega (
-      arith,
-      short_columns c.args.l c.requires.0.allowed (c.is_short.ensures.0 c.if-not-is_short.false),
-      c.requires.0.few,
-    )
-
-pub bounds-rests-end : goal.bounds-rests-end
-bounds-rests-end c =
-    omega (
-      arith,
-      short_columns c.args.l c.requires.0.allowed (c.is_short.ensures.0 c.if-not-is_short.false),
-      c.requires.0.few,
-      c.requires.1.1,
-    )
-
 pub loop-s-preserved : goal.loop-s-preserved
 loop-s-preserved c =
     let l = c.args.l in
@@ -53,14 +24,6 @@ loop-s-preserved c =
 pub loop-c-init : goal.loop-c-init
 loop-c-init c row vs own path =
     end-holds _ _ _ _ row c.args.size vs own path c.loop-s.rests (λ s h. c.loop-s.invariant s (omega arith))
-
-pub fill_column-requires : goal.fill_column-requires
-fill_column-requires c =
-    let short = c.is_short.ensures.0 c.if-not-is_short.false in
-    let columns = short_columns c.args.l c.requires.0.allowed short in (
-      (c.requires.0, (short, omega arith)),
-      (c.requires.1.0, omega (arith, columns, c.requires.1.1, c.loop-c.auto.rests, c.loop-s.auto.rests)),
-    )
 
 pub loop-c-preserved : goal.loop-c-preserved
 loop-c-preserved c row vs own path =
