@@ -36,10 +36,7 @@ fn hits(
 {
     let m = l.l1 * l.nc + 1;
     let by = costs::residue(l, y, totals, counts, block, end, j, e);
-    if m <= by {
-        return false;
-    }
-    sets::holds(set, column::missing(sum, by, m))
+    by < m && sets::holds(set, column::missing(sum, by, m))
 }
 
 // Whether the chunk of heavy block s in column j, which has so many losses, does so where it is another than in z.
@@ -65,14 +62,12 @@ fn other_hits(
 {
     let block = heavy.block[s];
     let end = heavy.end[s];
-    let mut e: usize = 0;
-    while e <= size {
-        if far::read_apart(l, y, heavy, z, s, size, j, e) == 1 {
-            if hits(l, y, totals, counts, block, end, j, e, sum, set) {
-                return true;
-            }
+    for e in 0..size + 1 {
+        if far::read_apart(l, y, heavy, z, s, size, j, e) == 1
+            && hits(l, y, totals, counts, block, end, j, e, sum, set)
+        {
+            return true;
         }
-        e += 1;
     }
     false
 }
@@ -100,12 +95,12 @@ fn can_differ_in(
         (λ left next. ((t : ℕ) → t < heavy.n → next t ≡ left t)
         × (0 < read_apart l y.now heavy z.now s j (left s))) result }
 {
-    let own = bits::wide(size[s]);
+    let own = usize::from(size[s]);
     if states::LEFTS <= own {
         return true;
     }
     costs::fill_sums(l, y, totals, counts, heavy, size, known, j, s, set, other);
-    let sum = numbers[l.l1 + j] as usize;
+    let sum = usize::from(numbers[l.l1 + j]);
     other_hits(l, y, totals, counts, heavy, z, s, own, j, sum, set)
 }
 
@@ -132,15 +127,12 @@ fn can_differ(
         → ((s : ℕ) → s < heavy.n → next s ≡ left s)
         → 0 < apart_in l heavy z.now vs j heavy.n → result ≡ true }
 {
-    let n = heavy.n;
-    let mut s: usize = 0;
-    while s < n {
+    for s in 0..heavy.n {
         if can_differ_in(
             l, y, totals, counts, numbers, heavy, size, known, z, j, s, set, other,
         ) {
             return true;
         }
-        s += 1;
     }
     false
 }
@@ -166,15 +158,13 @@ pub fn all_near(
         → apart_from l heavy z.now vs 0 < room }
 {
     let n = heavy.n;
-    let l2 = l.l2;
     let mut most = costs::all_losses(n, size) * n;
     if room <= most {
         return false;
     }
-    let mut set: [u64; sets::TWICE] = [0; sets::TWICE];
-    let mut other: [u64; sets::WORDS] = [0; sets::WORDS];
-    let mut j: usize = 0;
-    while j < l2 {
+    let mut set = [0; sets::TWICE];
+    let mut other = [0; sets::WORDS];
+    for j in 0..l.l2 {
         if can_differ(
             l, y, totals, counts, numbers, heavy, size, known, z, j, &mut set, &mut other,
         ) {
@@ -183,7 +173,6 @@ pub fn all_near(
                 return false;
             }
         }
-        j += 1;
     }
     true
 }
