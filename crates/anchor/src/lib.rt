@@ -133,10 +133,9 @@ fn first_chunks(l: Layout, list: &[u8], out: &mut [u8])
         ++ drop (l.l1 * l.l2) out.old }
 {
     let n = l.l1 * l.l2 * l.nc;
-    let w = (n + 7) / 8;
     let mut row = [0; bits::LONGEST];
-    bits::unpack(&list[0..w], n, &mut row);
-    message::chunks::fill_chunks(Legal { layout: l }, &row[0..n], out);
+    bits::unpack(&list[..n.div_ceil(8)], n, &mut row);
+    message::chunks::fill_chunks(Legal { layout: l }, &row[..n], out);
 }
 
 // The desk prepared for the first row of the list slice.

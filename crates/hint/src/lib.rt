@@ -13,6 +13,7 @@ ghost use Rattle.found.specs.Given.{Given, HoldsSent, AddsSent};
 ghost use Rattle.hint.specs.Tries.{Fit, Hand, Stands};
 
 use message::Layout;
+use message::layouts::Legal;
 use rows::Kept;
 
 // The bits that a guess writes for each loss, about, before it gives up.
@@ -171,7 +172,7 @@ fn prolong(
     let p = here.p;
     let mut f = fuel.saturating_sub(p - at.p);
     if i == l.l1 {
-        if consistent::is_consistent(l.l1, l.l2, l.nc, l.r, x, y, numbers) {
+        if consistent::is_consistent(Legal { layout: l }, x, y, numbers) {
             return Ok(());
         }
         return Err(f.saturating_sub(2 * p));

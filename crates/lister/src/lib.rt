@@ -40,7 +40,7 @@ fn room(n: usize, slice: usize) -> usize
     requires { (1 ≤ n) × (n ≤ longest) }
     ensures { result ≡ room_for n slice }
 {
-    slice.min(USED_BYTES) / ((n + 7) / 8)
+    slice.min(USED_BYTES) / n.div_ceil(8)
 }
 
 // Lists the rows that are consistent with the numbers of a fit message and the m bits of a fit row.

@@ -83,6 +83,6 @@ impl Legal {
     pub fn message_bytes(self) -> usize
         ensures { result ≡ message_bytes self.layout }
     {
-        9 + (self.fields_length() + 7) / 8
+        9 + self.fields_length().div_ceil(8)
     }
 }

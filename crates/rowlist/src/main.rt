@@ -26,7 +26,7 @@ fn row_bytes(msg: &[u8]) -> usize
         return 0;
     }
     let chunks = usize::from(msg[5]) * usize::from(msg[6]);
-    (chunks * usize::from(msg[7]) + 7) / 8
+    (chunks * usize::from(msg[7])).div_ceil(8)
 }
 
 // Puts what is to be printed for the input at the start of a slice, and answers its length.
