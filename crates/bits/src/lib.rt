@@ -124,9 +124,10 @@ fn last_byte(bits: &[u8], at: usize) -> u8
     requires { AllBits bits.now × (at < length bits.now) }
     ensures { result ≡ number 8 (drop at bits.now) }
 {
+    let rest = &bits[at..];
     let mut v = 0;
     for j in 0..8 {
-        v = v * 2 + byte_at(bits, at + j);
+        v = v * 2 + byte_at(rest, j);
     }
     v as u8
 }
