@@ -2,14 +2,13 @@
 -- a number of losses left and by a block. Assumes nothing.
 use Prim.Native.Nat.{ℕ, zero, suc, ◌+◌, ◌*◌, ◌<◌, ◌≤◌}
 use mathlib.Core.Path.{◌≡◌, refl, sym, ap, ◌∙◌}
-use mathlib.Core.Logic.{◌⊎◌, inl, inr, ⊎_elim}
+use mathlib.Core.Logic.{◌⊎◌, inl, inr}
 use mathlib.Core.List.{List}
 use native.Mathlib.Decide.{ℕ_discrete}
 use native.Mathlib.Nat.{mul-le-mul_right}
 use native.Mathlib.Numerals.{add-one}
 use native.Mathlib.Omega.{arith}
-use lib.ListN.{length, get_or, set}
-use lib.Seq.{get_or-set_same, get_or-set_other}
+use lib.ListN.{get_or}
 use Rattle.states.specs.declared.Shape.{Shape}
 use Rattle.states.specs.States.{stride, state, each, lefts, firsts, entry_at, added_up, Valued, Raised, WithBlock}
 use Rattle.states.proofs.States.{state-low, state_of_is, digits_of, digits-most}
@@ -41,38 +40,6 @@ firsts-one f (suc n) s k = go (ℕ_discrete s n) (firsts-one f n s)
     go : Dec (s ≡ n) → (s < n → f s ≤ firsts f n) → f s ≤ firsts f n + f n
     go (yes e) before = rw e (omega arith)
     go (no e) before = omega (arith, before (omega arith))
-
--- ---- an entry more of those that are put at a place
-module _ (to v : ℕ) (xs : List ℕ) where
-  pub raised_none : Raised to 0 v xs xs
-  raised_none = record {
-    put = λ p h. absurd (omega arith);
-    below = λ i h. refl;
-    behind = λ i h. refl;
-  }
-
-  module _ (ys : List ℕ) (p : ℕ) (so_far : Raised to p v xs ys) where
-    -- the entry to be put stands as it did: it is behind what was put, or before the place
-    pub unraised : (to ≡ 0) ⊎ (p < to) → get_or ys p 0 ≡ get_or xs p 0
-    unraised apart =
-        ⊎_elim (λ e. so_far.behind p (omega arith)) (λ h. so_far.below p h) apart
-
-    pub raised_more : (to ≡ 0) ⊎ (p < to) → to + p < length ys
-        → Raised to (p + 1) v xs (set ys (to + p) (get_or ys p 0 + v))
-    raised_more apart room = record {
-      put = λ k h. put k h (ℕ_discrete k p);
-      below = λ i h. get_or-set_other ys (to + p) i w 0 (λ e. omega (arith, e)) ∙ so_far.below i h;
-      behind = λ i h. get_or-set_other ys (to + p) i w 0 (λ e. omega (arith, e)) ∙ so_far.behind i (omega arith);
-    }
-      where
-        w : ℕ
-        w = get_or ys p 0 + v
-
-        put : (k : ℕ) → k < p + 1 → Dec (k ≡ p) → get_or (set ys (to + p) w) (to + k) 0 ≡ get_or xs k 0 + v
-        put k h (yes e) =
-            rw e (get_or-set_same ys (to + p) w 0 room ∙ ap (λ (u : ℕ). u + v) (unraised apart))
-        put k h (no d) =
-            get_or-set_other ys (to + p) (to + k) w 0 (λ e. d (omega (arith, e))) ∙ so_far.put k (omega arith)
 
 -- ---- a number of losses left more of a block, from all of its losses down
 -- it is put for the numbers from d on, and the sums for those below stand as they did
