@@ -1,11 +1,6 @@
 use Rattle.std.proofs.Common.{◌≡◌, ◌+◌, ◌-◌, ◌≤◌, length, arith}
-use Rattle.states.proofs.Sums.{down_none, down_more, down_all, down_room, down_apart, own}
+use Rattle.states.proofs.Sums.{down_more, down_all, down_room, down_apart, own}
 use Rattle.states.proofs.add_block.Goals as goal
-
-pub loop-d-init : goal.loop-d-init
-loop-d-init c =
-    let a = c.args in
-    rw c.from-d.ensures (down_none a.len a.size a.at a.values.now a.sums.now)
 
 pub put_raised-requires : goal.put_raised-requires
 put_raised-requires c =
