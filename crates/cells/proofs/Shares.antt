@@ -3,25 +3,12 @@ use Prim.Native.Nat.{ℕ, zero, suc, ◌+◌, ◌<◌, ◌≤◌}
 use mathlib.Core.Path.{◌≡◌, refl, ap}
 use mathlib.Core.Bool.{Bool, true, false, cond}
 use mathlib.Core.List.{List, [], ◌∷◌}
-use native.Mathlib.Numerals.{add-one}
 use native.Mathlib.Omega.{arith}
 use borrow.Author.Tests.{eq-eqb, eqb-true}
 use lib.Dec.{eqb}
-use lib.ListN.{length, get_or, drop, set, drop_of_length-le}
-use lib.Seq.{drop-cons}
+use lib.ListN.{length, get_or, set}
 use Rattle.consistent.specs.Greedy.{in_all}
 use Rattle.cells.specs.Cells.{share, NoSingle, SingleAt}
-
--- ---- cell by cell
-pub share-next : (keys lost : List ℕ) (key z : ℕ) → z < length keys → z < length lost
-    → share (drop z keys) (drop z lost) key
-    ≡ cond (eqb (get_or keys z 0) key) (get_or lost z 0) 0 + share (drop (z + 1) keys) (drop (z + 1) lost) key
-unfolding share
-share-next keys lost key z h g = rw (drop-cons keys z 0 h, drop-cons lost z 0 g, add-one z) refl
-
-pub share-end : (keys lost : List ℕ) (key z : ℕ) → length keys ≤ z → share (drop z keys) (drop z lost) key ≡ 0
-unfolding share
-share-end keys lost key z h = rw (drop_of_length-le keys h) refl
 
 -- ---- a key and its cells
 -- a cell has no more losses than its key

@@ -23,9 +23,9 @@ pub fn share(keys: [u8; 12], lost: [u8; 12], key: u8) -> usize
     ensures { result ≡ shared keys lost key }
 {
     let mut total = 0;
-    for (z, k) in keys.iter().enumerate() {
+    for (k, n) in keys.iter().zip(&lost) {
         if *k == key {
-            total += u16::from(lost[z]);
+            total += u16::from(*n);
         }
     }
     usize::from(total)

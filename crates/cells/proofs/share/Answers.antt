@@ -1,27 +1,39 @@
-use Rattle.std.proofs.Common.{◌≡◌, Fits, w8, length, get_or, rules, arith}
+use Rattle.std.proofs.Common.{ℕ, List, [], ◌∷◌, ◌≡◌, ◌⊎◌, inl, inr, length, refl, arith}
 use borrow.Author.Tests.{eq-eqb, ne_eqb}
-use Rattle.cells.proofs.Shares.{share-next, share-end}
+use Rattle.cells.specs.Cells.{share}
 use Rattle.cells.proofs.share.Goals as goal
-use Rattle.cells.proofs.share.Goals.{then-k-key, else-k-key}
 
-pub loop-z-preserved : goal.loop-z-preserved
-loop-z-preserved c =
-    let a = c.args in
-    let p = c.loop-z in
-    let long : length a.keys ≡ 12 = search rules in
-    let as_long : length a.lost ≡ 12 = search rules in
-    let byte : Fits w8 (get_or a.lost p.z 0) = search rules in
-    let n = share-next a.keys a.lost a.key p.z (omega arith) (omega arith) in
-    elim c.if-k-key.branch [
-      | then-k-key w ↦ let m = rw (eq-eqb (get_or a.keys p.z 0) a.key w.if-k-key.true) at n in
-          record { small = omega (arith, w.total-is); counted = omega (arith, w.total-is, p.invariant.counted, m) }
-      | else-k-key w ↦ let m = rw (ne_eqb (get_or a.keys p.z 0) a.key w.if-k-key.false) at n in
-          record { small = omega arith; counted = omega (arith, p.invariant.counted, m) }
-    ]
+share-none : (keys lost : List ℕ) (key : ℕ) → (length keys ≡ 0) ⊎ (length lost ≡ 0) → share keys lost key ≡ 0
+unfolding share
+share-none [] lost key h = refl
+share-none (k ∷ keys) [] key h = refl
+share-none (k ∷ keys) (a ∷ lost) key (inl e) = absurd (omega arith)
+share-none (k ∷ keys) (a ∷ lost) key (inr e) = absurd (omega arith)
+
+pub loop-k-preserved-then-k-key : goal.loop-k-preserved-then-k-key
+unfolding share
+loop-k-preserved-then-k-key c =
+    let i = c.loop-k.invariant in
+    let s = c.in-Some.ensures.steps in
+    let counted = rw (s.0, s.1, eq-eqb c.in-Some.k.now c.args.key c.if-k-key.true) at i.counted in
+    let small = rw s.0 at i.small in
+    record { small = omega (arith, small, c.from-total.ensures); counted = omega (arith, counted, c.from-total.ensures) }
+
+pub loop-k-preserved : goal.loop-k-preserved
+unfolding share
+loop-k-preserved c =
+    let i = c.loop-k.invariant in
+    let s = c.in-Some.ensures.steps in
+    let counted = rw (s.0, s.1, ne_eqb c.in-Some.k.now c.args.key c.if-k-key.false) at i.counted in
+    let small = rw s.0 at i.small in
+    record { small = omega (arith, small); counted = omega (arith, counted) }
 
 pub returns : goal.returns
 returns c =
-    let a = c.args in
-    let p = c.loop-z in
-    let long : length a.keys ≡ 12 = search rules in
-    omega (arith, p.invariant.counted, share-end a.keys a.lost a.key p.z (omega arith))
+    let keys = c.loop-k.k-iterator.a.rest.now in
+    let lost = c.loop-k.k-iterator.b.rest.now in
+    let none : share keys lost c.args.key ≡ 0 = elim c.in-None.ensures.steps [
+      | inl e ↦ share-none keys lost c.args.key (inl e.1.0)
+      | inr e ↦ share-none keys lost c.args.key (inr e.1.0)
+    ] in
+    omega (arith, c.loop-k.invariant.counted, none)
