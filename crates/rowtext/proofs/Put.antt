@@ -1,12 +1,11 @@
 -- Texts put into a slice one after another. Assumes nothing.
-use Prim.Native.Nat.{ℕ, suc, ◌+◌, ◌<◌, ◌≤◌}
+use Prim.Native.Nat.{ℕ, ◌+◌, ◌≤◌}
 use mathlib.Core.Path.{◌≡◌, refl, sym, ap, ap₂, ◌∙◌}
-use mathlib.Core.List.{List, [], ◌∷◌, ◌++◌, append_assoc, append-nil}
-use native.Mathlib.Nat.{add-zero}
-use native.Mathlib.Numerals.{add-one}
+use mathlib.Core.List.{List, [], ◌++◌, append_assoc, append-nil}
+use native.Mathlib.Nat.{add-zero, zero-add}
 use native.Mathlib.Omega.{arith}
-use lib.ListN.{length, take, drop, set, length-append, take-append-drop}
-use lib.Seq.{length-take-le, set_split}
+use lib.ListN.{length, take, drop, length-append, take-append-drop}
+use lib.Seq.{length-take-le}
 use Rattle.bits.proofs.Copy.{part_next}
 use Rattle.rowtext.specs.Text.{Put}
 
@@ -19,6 +18,13 @@ put-none s at = record {
       ∙ ap (λ (t : List ℕ). t ++ drop at s) (append-nil (take at s))
       ∙ take-append-drop at s);
   after = sym (add-zero at);
+}
+
+-- a text is put at the start
+pub put_front : (text s now : List ℕ) → now ≡ text → Put text 0 s (now ++ drop (length text) s) (length text)
+put_front text s now e = record {
+  slice = rw (zero-add (length text), e) refl;
+  after = sym (zero-add (length text));
 }
 
 -- what stands up to the end of a text
@@ -47,10 +53,3 @@ pub put-within : {text entry exit : List ℕ} {at next : ℕ} → Put text at en
 put-within {text} {entry} {exit} {at} p h =
     let n = ap length p.slice ∙ length-append (take at entry ++ text) (drop (at + length text) entry) in
     omega (arith, p.after, length_up_to text entry at h)
-
--- one character
-pub put_one : (s : List ℕ) (at b : ℕ) → at < length s → Put (b ∷ []) at s (set s at b) (at + 1)
-put_one s at b h = record {
-  slice = set_split s at b h ∙ rw (add-one at) (sym (append_assoc (take at s) (b ∷ []) (drop (suc at) s)));
-  after = refl;
-}

@@ -9,10 +9,7 @@ fn hex_digit(d: u8) -> u8
     requires { d < 16 }
     ensures { result ≡ hex_digit d }
 {
-    if d < 10 {
-        return 48 + d;
-    }
-    55 + d
+    if d < 10 { b'0' + d } else { b'A' + (d - 10) }
 }
 
 // One character.
@@ -39,12 +36,10 @@ fn put_row(row: &[u8], out: &mut [u8], at: usize) -> usize
     ensures { Put (row_line row.now) at out.old out.new result }
 {
     let mut next = at;
-    let mut i: usize = 0;
-    while i < row.len() {
-        next = put_hex(row[i], out, next);
-        i += 1;
+    for b in row {
+        next = put_hex(*b, out, next);
     }
-    put_char(10, out, next)
+    put_char(b'\n', out, next)
 }
 
 // The lines of the first count rows of w bytes in a slice.
@@ -53,12 +48,9 @@ fn put_rows(list: &[u8], count: usize, w: usize, out: &mut [u8], at: usize) -> u
     ensures { Put (flat_map row_line (cut count w list.now)) at out.old out.new result }
 {
     let mut next = at;
-    let mut i: usize = 0;
-    while i < count {
+    for i in 0..count {
         let from = i * w;
-        let to = from + w;
-        next = put_row(&list[from..to], out, next);
-        i += 1;
+        next = put_row(&list[from..from + w], out, next);
     }
     next
 }
@@ -69,10 +61,10 @@ fn put_decimal(n: usize, out: &mut [u8], at: usize) -> usize
     ensures { Put (decimal n) at out.old out.new result }
 {
     if n < 10 {
-        return put_char(48 + n as u8, out, at);
+        return put_char(b'0' + n as u8, out, at);
     }
     let next = put_decimal(n / 10, out, at);
-    put_char(48 + (n % 10) as u8, out, next)
+    put_char(b'0' + (n % 10) as u8, out, next)
 }
 
 // A line that begins with a word and ends with a number below a hundred thousand.
@@ -80,9 +72,9 @@ fn put_header(word: &[u8], n: usize, out: &mut [u8]) -> usize
     requires { (n < 100000) × (length word.now + 6 ≤ length out.old) }
     ensures { Put (word.now ++ decimal n ++ line_feed) 0 out.old out.new result }
 {
-    bits::copy_to(word, out, 0);
+    out[..word.len()].copy_from_slice(word);
     let next = put_decimal(n, out, word.len());
-    put_char(10, out, next)
+    put_char(b'\n', out, next)
 }
 
 // What is printed for the first count rows of w bytes in a slice.
