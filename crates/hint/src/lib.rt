@@ -202,12 +202,22 @@ fn prolong(
     Err(f)
 }
 
+// How many bits of a string are another than the one k places before them.
+fn unlike(y: &[u8], k: usize) -> usize
+    ensures { result ≤ length y.now }
+{
+    y.iter()
+        .skip(k)
+        .zip(y)
+        .filter(|(b, before)| b != before)
+        .count()
+}
+
 // Whether a row has few runs: at most one in eight bits.
 fn few_runs(y: &[u8]) -> bool
     requires { length y.now ≤ longest }
 {
-    let runs = 1 + y.windows(2).filter(|w| w[0] != w[1]).count();
-    8 * runs <= y.len()
+    8 * (1 + unlike(y, 1)) <= y.len()
 }
 
 // Adds a row whose losses prolong runs, if a consistent one is found before the fuel is used up; x is as long as a row.
@@ -237,13 +247,7 @@ fn add_prolonged(
 fn repeats(y: &[u8], k: usize) -> bool
     requires { length y.now ≤ longest }
 {
-    let unlike = y
-        .iter()
-        .skip(k)
-        .zip(y)
-        .filter(|(b, before)| b != before)
-        .count();
-    8 * unlike <= y.len()
+    8 * unlike(y, k) <= y.len()
 }
 
 // The place of a string that place j comes from, once the k bits before place q stand there again.
