@@ -20,10 +20,7 @@ use weigh::Span;
 fn one_if(mark: u8) -> u16
     ensures { result ≡ one_if mark }
 {
-    if mark == 0 {
-        return 0;
-    }
-    1
+    u16::from(mark != 0)
 }
 
 // Counts of the marked states below each, of the marks from a place on.
@@ -33,10 +30,8 @@ pub fn count_marked(marks: &[u8], at: usize, states: usize, some: &mut [u16])
         × Counts marks.now at states some.new }
 {
     some[0] = 0;
-    let mut q: usize = 0;
-    while q < states {
-        some[q + 1] = some[q] + one_if(marks[at + q]);
-        q += 1;
+    for (q, mark) in marks[at..at + states].iter().enumerate() {
+        some[q + 1] = some[q] + one_if(*mark);
     }
 }
 
@@ -44,10 +39,7 @@ pub fn count_marked(marks: &[u8], at: usize, states: usize, some: &mut [u16])
 fn above(there: u8, apart: u8) -> u8
     ensures { Above there apart result }
 {
-    if 255 - apart < there {
-        return 255;
-    }
-    there + apart
+    there.saturating_add(apart)
 }
 
 // Where a sweep stands: the number of the state that the choices picked so far add up to, what their chunks bring, and how many of these can
@@ -79,10 +71,7 @@ fn raise_one(
         return;
     }
     let v = above(there, stand.apart);
-    if v <= fresh[q] {
-        return;
-    }
-    if weigh::reaches(modulus, need, stand.span) {
+    if fresh[q] < v && weigh::reaches(modulus, need, stand.span) {
         fresh[q] = v;
     }
 }
@@ -99,10 +88,9 @@ fn none_marked(some: &[u16], low: usize, high: usize) -> bool
 fn start() -> Stand
     ensures { (result.q ≡ 0) × ((result.span.low ≡ 0) × ((result.span.high ≡ 0) × (result.apart ≡ 0))) }
 {
-    let none = Span { low: 0, high: 0 };
     Stand {
         q: 0,
-        span: none,
+        span: Span { low: 0, high: 0 },
         apart: 0,
     }
 }
@@ -113,19 +101,13 @@ fn with_choice(choices: &[u16], t: usize, stand: Stand) -> Stand
     ensures { With choices.now t stand result }
 {
     let at = 4 * t;
-    let adds = choices[at] as usize;
-    let least = choices[at + 1] as usize;
-    let most = choices[at + 2] as usize;
-    let other = choices[at + 3] as u8;
-    let span = stand.span;
-    let wider = Span {
-        low: span.low + least,
-        high: span.high + most,
-    };
     Stand {
-        q: stand.q + adds,
-        span: wider,
-        apart: stand.apart + other,
+        q: stand.q + usize::from(choices[at]),
+        span: Span {
+            low: stand.span.low + usize::from(choices[at + 1]),
+            high: stand.span.high + usize::from(choices[at + 2]),
+        },
+        apart: stand.apart + choices[at + 3] as u8,
     }
 }
 
@@ -156,9 +138,7 @@ fn sweep(
     }
     let b = s - 1;
     let one = shape.stride[b];
-    let end = from[s];
-    let mut t = from[b];
-    while t < end {
+    for t in from[b]..from[s] {
         let next = with_choice(choices, t, stand);
         let q = next.q;
         if !none_marked(some, q, q + one) {
@@ -170,7 +150,6 @@ fn sweep(
                 );
             }
         }
-        t += 1;
     }
 }
 
@@ -205,8 +184,12 @@ pub fn raise(
         (get_or fresh.new (state_of shape next) 0)) }
 {
     let modulus = l.l1 * l.nc + 1;
-    let need = column::missing(numbers[l.l1 + j] as usize, known[j] as usize, modulus);
-    let mut choices: [u16; choices::NUMBERS] = [0; choices::NUMBERS];
+    let need = column::missing(
+        usize::from(numbers[l.l1 + j]),
+        usize::from(known[j]),
+        modulus,
+    );
+    let mut choices = [0; choices::NUMBERS];
     let from = choices::list_choices(l, y, totals, counts, heavy, z, shape, j, left, &mut choices);
     sweep(
         &choices,
