@@ -115,6 +115,7 @@ pub fn all(n: usize, left: [u8; states::MOST_HEAVY], table: &[u16]) -> usize
 
 // Whether the chunk of a block in column j can have lost one bit, with so many losses left before, and bring what is missing of the sum of its
 // chunk-string; the other chunks bring rest.
+#[tactic(auto, using(message::proofs::Legal::string_high))]
 pub fn can_lose_one(
     l: Layout,
     y: &[u8],

@@ -8,15 +8,6 @@ use Rattle.message.proofs.Legal.{legal_bounds, string_high}
 use Rattle.weigh.specs.Weigh.{brought}
 use Rattle.whole.proofs.can_lose_one.Goals as goal
 
-pub overflow_mul-m : goal.overflow_mul-m
-overflow_mul-m c = omega (arith, string_high c.args.l c.requires.0.allowed)
-
-pub overflow_add-m : goal.overflow_add-m
-overflow_add-m c = omega (arith, string_high c.args.l c.requires.0.allowed)
-
-pub missing-need-requires : goal.missing-need-requires
-missing-need-requires c = (c.requires.1.1, omega (arith, string_high c.args.l c.requires.0.allowed))
-
 pub can_bring-requires : goal.can_bring-requires
 can_bring-requires c =
     let l = c.args.l in
