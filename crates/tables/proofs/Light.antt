@@ -1,6 +1,6 @@
 -- In how many chunks a row differs from another one: those of the heavy blocks, counted column by column, and those of
 -- the others, which are in hand. Rests on the sums over places (anchor). Assumes nothing.
-use Prim.Native.Nat.{ℕ, zero, suc, ◌+◌, ◌-◌, ◌*◌, ◌<◌, ◌≤◌}
+use Prim.Native.Nat.{ℕ, zero, suc, ◌+◌, ◌*◌, ◌<◌, ◌≤◌}
 use mathlib.Core.Path.{◌≡◌, refl, sym, ap, ◌∙◌}
 use mathlib.Core.Bool.{cond}
 use mathlib.Core.Logic.{⊎_elim}
@@ -14,7 +14,7 @@ use Rattle.message.specs.declared.Layout.{Layout}
 use Rattle.lines.specs.Lines.{unlike}
 use Rattle.anchor.specs.Anchor.{over}
 use Rattle.anchor.proofs.Over.{over_none, over-next, over_front, over-same}
-use Rattle.column.specs.Column.{chunk_at, apart_in}
+use Rattle.column.specs.Column.{apart_in}
 use Rattle.column.specs.declared.Heavy.{Heavy}
 use Rattle.marks.specs.Marks.{apart_before, apart_from}
 use Rattle.tables.specs.Tables.{HeavyOf, LightIn}

@@ -18,7 +18,7 @@ use Rattle.consistent.specs.Greedy.{losses}
 use Rattle.lines.specs.Lines.{values}
 use Rattle.cells.proofs.Same.{same_refl, same_set}
 use Rattle.column.specs.Column.{chunk_at}
-use Rattle.tables.specs.Tables.{Free, lost_before, Loses, Under, with_cell, Sharable, Shared}
+use Rattle.tables.specs.Tables.{lost_before, Loses, Under, with_cell, Sharable, Shared}
 use Rattle.column.specs.declared.Heavy.{Heavy}
 use Rattle.tables.specs.declared.Table.{Table}
 use Rattle.tables.proofs.Chunk.{chunk_inside, lost-before, place-within, chunk-within, chunk_read, chunk-loses}

@@ -1,7 +1,7 @@
 // Loss tables: how the losses of the heavy blocks are shared among their chunks. Contracts cite specs/Tables.antt.
 #![tactic(auto)]
 
-ghost use Rattle.std.specs.Prelude.{◌≡◌, true, false, List, ℕ, ◌+◌, ◌-◌, ◌*◌, ◌<◌, ◌≤◌, length, get_or};
+ghost use Rattle.std.specs.Prelude.{◌≡◌, true, false, List, MatchOption, IfSome, ℕ, ◌+◌, ◌-◌, ◌*◌, ◌<◌, ◌≤◌, length, get_or};
 ghost use Rattle.bits.specs.Bits.{AllBits, longest, most_chunks};
 ghost use Rattle.rows.specs.Slice.{rows_of_slice};
 ghost use Rattle.message.specs.Layout.{legal, row_bits};
@@ -46,29 +46,15 @@ pub struct Table {
     pub cells: Cells,
 }
 
-// What sharing out answers: whether chunks with that many losses can be read, and the table with them.
-#[derive(Clone, Copy)]
-pub struct Share {
-    pub ok: bool,
-    pub table: Table,
-}
-
 // Where a chunk that starts at bit at of the row is read in the received row of m bits, if end bits are lost up to the end of its
-// block and left of them from the chunk on; m + 1 where it is read nowhere.
-fn place_of(at: usize, end: u8, left: u8, m: usize) -> usize
+// block and left of them from the chunk on.
+fn place_of(at: usize, end: u8, left: u8, m: usize) -> Option<usize>
     requires { (at ≤ longest) × (m ≤ longest) }
-    ensures { (result ≤ m + 1) × ((d : ℕ) → d + left ≡ end → d ≤ at → at - d ≤ m → result ≡ at - d) }
+    ensures within { IfSome result (λ place. place ≤ m) }
+    ensures there { (d : ℕ) → d + left ≡ end → d ≤ at → at - d ≤ m → result ≡ Some (at - d) }
 {
-    let e = end as usize;
-    let high = at + left as usize;
-    if high < e {
-        return m + 1;
-    }
-    let place = high - e;
-    if m < place {
-        return m + 1;
-    }
-    place
+    let place = (at + usize::from(left)).checked_sub(usize::from(end))?;
+    if place <= m { Some(place) } else { None }
 }
 
 // The cells with one more.
@@ -90,14 +76,7 @@ fn push_cell(cells: Cells, i: u8, j: u8, a: u8, place: usize) -> Cells
 fn none_left(left: [u8; 6]) -> bool
     ensures { (result ≡ true → NoneLeft left) × (NoneLeft left → result ≡ true) }
 {
-    let mut s: usize = 0;
-    while s < 6 {
-        if left[s] != 0 {
-            return false;
-        }
-        s += 1;
-    }
-    true
+    left.iter().all(|a| *a == 0)
 }
 
 // All rows under a table after the last column: there are none where losses are left, and otherwise the cells are mended.
@@ -118,21 +97,10 @@ fn mend_table(
         list.old kept.count kept.more list.new result.count result.more
         × SameBut l (OpenAt t.cells) row.old row.new }
 {
-    let left = t.left;
-    if none_left(left) {
+    if none_left(t.left) {
         return turns::mend_strings(l, y, numbers, t.cells, row, cap, list, kept);
     }
     kept
-}
-
-// No share: a chunk with that many losses cannot be read.
-fn not_shared(t: Table) -> Share
-    ensures { (result.ok ≡ false) × (result.table ≡ t) }
-{
-    Share {
-        ok: false,
-        table: t,
-    }
 }
 
 // The table after column j, if each heavy block has so much left then: a chunk that loses no bit is read from the received row, and one that
@@ -145,40 +113,30 @@ fn step(
     next: [u8; 6],
     t: Table,
     row: &mut [u8],
-) -> Share
+) -> Option<Table>
     requires { (legal l ≡ true) × (AllBits y.now × ((length y.now ≤ row_bits l)
         × (Sound l (length y.now) heavy t × ((j < l.l2) × (l.l1 * l.l2 ≤ length row.old))))) }
-    ensures { Stepped l y.now heavy j (each next) t row.old result.ok result.table row.new }
+    ensures { MatchOption result (Stepped l y.now heavy j (each next) t row.old false t row.new)
+        (λ new. Stepped l y.now heavy j (each next) t row.old true new row.new) }
 {
-    let n = heavy.n;
-    let nc = l.nc;
     let mut table = t;
-    let mut h: usize = 0;
-    while h < n {
+    for h in 0..heavy.n {
         let left = table.left[h];
-        if left < next[h] {
-            return not_shared(t);
-        }
-        let a = left - next[h];
+        let a = left.checked_sub(next[h])?;
         let i = heavy.block[h];
-        let c = i as usize * l.l2 + j;
-        let place = place_of(c * nc, heavy.end[h], left, y.len());
+        let c = usize::from(i) * l.l2 + j;
+        let place = place_of(c * l.nc, heavy.end[h], left, y.len())?;
         if a == 0 {
-            if y.len() < place + nc {
-                return not_shared(t);
+            if y.len() < place + l.nc {
+                return None;
             }
-            row[c] = message::chunks::number_at(y, place, nc);
+            row[c] = message::chunks::number_at(y, place, l.nc);
         } else {
-            if y.len() < place {
-                return not_shared(t);
-            }
             table.left[h] = left - a;
-            let cells = push_cell(table.cells, i, j as u8, a, place);
-            table.cells = cells;
+            table.cells = push_cell(table.cells, i, j as u8, a, place);
         }
-        h += 1;
     }
-    Share { ok: true, table }
+    Some(table)
 }
 
 // Whether heavy block h can have its sum after column j, where its losses ended there: it had some left before. Otherwise nothing is asked.
@@ -201,22 +159,18 @@ fn ends(
         → Under l y.now heavy (j + 1) 0 t row.now x
         → result ≡ true }
 {
-    if before == 0 {
+    if before == 0 || t.left[h] > 0 {
         return true;
     }
-    if 0 < t.left[h] {
-        return true;
-    }
-    let cells = t.cells;
     blocks::can_end(
         l,
         y,
         totals,
         counts,
         numbers,
-        cells,
+        t.cells,
         row,
-        bits::wide(heavy.block[h]),
+        usize::from(heavy.block[h]),
         heavy.end[h],
         j + 1,
     )
@@ -241,15 +195,12 @@ fn all_end(
         → Under l y.now heavy (j + 1) 0 t row.now x
         → result ≡ true }
 {
-    let n = heavy.n;
-    let mut h: usize = 0;
-    while h < n {
+    for (h, had) in before[..heavy.n].iter().enumerate() {
         if !ends(
-            l, y, totals, counts, numbers, heavy, j, h, before[h], t, row,
+            l, y, totals, counts, numbers, heavy, j, h, *had, t, row,
         ) {
             return false;
         }
-        h += 1;
     }
     true
 }
@@ -260,13 +211,7 @@ fn hopeful(mark: u8, differ: usize, room: usize) -> bool
     requires { differ ≤ 4000 }
     ensures { (n : ℕ) → result ≡ false → Covers mark n → differ + n < room }
 {
-    if mark == 0 {
-        return false;
-    }
-    if marks::MANY <= mark {
-        return true;
-    }
-    room < differ + bits::wide(mark)
+    mark > 0 && (mark >= marks::MANY || room < differ + usize::from(mark))
 }
 
 // All rows under a table at the start of column j that come through marked loss states. Column by column: those that lose
@@ -309,8 +254,7 @@ fn columns(
     let mut held = sets;
     let mut apart = differ;
     let mut k = kept;
-    let mut c = j;
-    while c < l.l2 {
+    for c in j..l.l2 {
         let left = now.left;
         let q = states::number_of(shape, left);
         let mark = marks::mark_at(shape, marks, c, q);
@@ -327,15 +271,13 @@ fn columns(
         if whole == 0 {
             return k;
         }
-        let read = step(l, y, heavy, c, left, now, row);
-        if !read.ok {
+        let Some(read) = step(l, y, heavy, c, left, now, row) else {
             return k;
-        }
-        now = read.table;
+        };
+        now = read;
         let fresh = sums::after(l, y, numbers, heavy, known, c, left, left, held);
         held = fresh;
-        apart += bits::wide(whole) - 1;
-        c += 1;
+        apart += usize::from(whole) - 1;
     }
     mend_table(l, y, numbers, now, row, cap, list, k)
 }
@@ -380,8 +322,7 @@ fn losses_here(
     let q = states::number_of(shape, left);
     let can = rests::exits(l, y, numbers, heavy, j, left, sets, rests);
     let mut k = kept;
-    let mut to: usize = 0;
-    while to < q {
+    for to in 0..q {
         let mark = marks::mark_at(shape, marks, j + 1, to);
         if mark != 0 {
             k = losses_to(
@@ -389,7 +330,6 @@ fn losses_here(
                 row, sets, &can, to, mark, differ, cap, list, k,
             );
         }
-        to += 1;
     }
     k
 }
@@ -445,7 +385,7 @@ fn losses_to(
     if here == 0 {
         return kept;
     }
-    let apart = differ + (bits::wide(here) - 1);
+    let apart = differ + (usize::from(here) - 1);
     if !hopeful(mark, apart, room) {
         return kept;
     }
@@ -453,11 +393,9 @@ fn losses_to(
     if !sums::all_meet(l, heavy, j + 1, next, fresh, rests) {
         return kept;
     }
-    let s = step(l, y, heavy, j, next, t, row);
-    if !s.ok {
+    let Some(table) = step(l, y, heavy, j, next, t, row) else {
         return kept;
-    }
-    let table = s.table;
+    };
     if !all_end(l, y, totals, counts, numbers, heavy, j, left, table, row) {
         return kept;
     }
@@ -491,10 +429,7 @@ fn is_heavy(heavy: Heavy, h: usize, i: usize) -> bool
     ensures { (result ≡ true → (h < heavy.n) × (get_or heavy.block h 0 ≡ i))
         × (result ≡ false → h < heavy.n → get_or heavy.block h 0 ≡ i → ⊥) }
 {
-    if heavy.n <= h {
-        return false;
-    }
-    heavy.block[h] as usize == i
+    h < heavy.n && usize::from(heavy.block[h]) == i
 }
 
 // In how many chunks the row in hand differs from z, the heavy blocks left out.
@@ -503,16 +438,14 @@ fn apart_light(l: Layout, heavy: Heavy, row: &[u8], z: &[u8]) -> usize
     ensures { ((vs : List ℕ) → LightIn l heavy row.now vs
         → over (unlike vs z.now) 0 (l.l1 * l.l2) ≤ result + apart_from l heavy z.now vs 0) × (result ≤ most_chunks) }
 {
-    let mut count: usize = 0;
-    let mut h: usize = 0;
-    let mut i: usize = 0;
-    while i < l.l1 {
+    let mut count = 0;
+    let mut h = 0;
+    for i in 0..l.l1 {
         if is_heavy(heavy, h, i) {
             h += 1;
         } else {
             count += anchor::count_unlike(row, z, i * l.l2, l.l2);
         }
-        i += 1;
     }
     count
 }
@@ -524,10 +457,7 @@ const FEW_COLUMNS: usize = 3;
 fn marks_pay(l: Layout) -> bool
     requires { legal l ≡ true }
 {
-    if l.l2 <= FEW_COLUMNS {
-        return !sums::is_short(l);
-    }
-    true
+    l.l2 > FEW_COLUMNS || !sums::is_short(l)
 }
 
 // The most marks of loss states: they are kept where they are enough.

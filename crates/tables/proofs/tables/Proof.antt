@@ -1,13 +1,12 @@
 -- `tables::tables` meets its contract: every row under the table with which the columns begin comes through marked
 -- states. Assumes nothing.
 use Prim.Native.Nat.{ℕ, ◌+◌, ◌*◌, ◌<◌, ◌≤◌}
-use mathlib.Core.Path.{◌≡◌, sym, ap, subst, ◌∙◌}
+use mathlib.Core.Path.{sym, ap, subst, ◌∙◌}
 use mathlib.Core.Bool.{false≢true}
 use mathlib.Core.Logic.{◌⊎◌, inl, inr, ⊎_elim}
 use mathlib.Core.List.{List}
 use native.Mathlib.Omega.{arith}
 use borrow.Author.Rules.{rules}
-use borrow.Author.Tests.{not-true}
 use lib.ListN.{length, get_or}
 use Rattle.bits.proofs.Laws.{lt_or_ge}
 use Rattle.message.proofs.Legal.{Sizes, legal_bounds, sizes}
