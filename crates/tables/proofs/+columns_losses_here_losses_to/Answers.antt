@@ -22,29 +22,6 @@ few-columns : (l : Layout) → legal l ≡ true → l.l2 ≤ most_in_line
 few-columns l e = (sizes l (legal_bounds l e)).l2_high
 
 -- ---- column by column
-pub columns-loop-c-init : goal.columns-loop-c-init
-columns-loop-c-init t c =
-    let p = c.requires in
-    record {
-      inside = p.1.1.1.0;
-      holding = p.1.0;
-      long = refl;
-      wide = refl;
-      same = same_refl;
-      fewer = λ i j f. f;
-      sound = p.1.1.0.0;
-      shaped = p.1.1.1.1.0;
-      at_top = refl;
-      looked = p.1.1.1.1.1.0;
-      near = p.1.1.1.1.1.1;
-      joins = λ exit f q g. g;
-    }
-
-pub columns-number_of-q-requires : goal.columns-number_of-q-requires
-columns-number_of-q-requires t c =
-    let g = c.loop-c.invariant in
-    (omega (arith, g.shaped.blocks, g.sound.few), g.shaped.shaped)
-
 pub columns-mark_at-mark-requires : goal.columns-mark_at-mark-requires
 columns-mark_at-mark-requires t c = omega (arith, few-columns c.args.l c.requires.0.is_legal)
 
@@ -63,22 +40,6 @@ columns-returns-then-not-hopeful t c =
       g.same,
     )
 
-pub columns-losses_here-k-requires : goal.columns-losses_here-k-requires
-columns-losses_here-k-requires t c =
-    let g = c.loop-c.invariant in (
-      omega (arith, c.decreases, g.at_top),
-      (
-        c.requires.0,
-        (
-          g.holding,
-          (
-            (g.sound, omega (arith, c.requires.1.1.0.1, g.wide)),
-            (c.loop-c-test.true, (g.shaped, (g.looked, g.near))),
-          ),
-        ),
-      ),
-    )
-
 pub columns-crossing-whole-requires : goal.columns-crossing-whole-requires
 columns-crossing-whole-requires t c =
     let g = c.loop-c.invariant in
@@ -90,20 +51,6 @@ columns-returns-then-whole-eq0 t c =
     let g = c.loop-c.invariant in
     let f = c.losses_here-k.ensures in
     (going_uncrossed g c.loop-c-test.true f.0 c.crossing-whole.ensures.0 c.if-whole-eq0.true, going_same g f.1)
-
-pub columns-step-requires : goal.columns-step-requires
-columns-step-requires t c =
-    let p = c.requires.0 in
-    let g = c.loop-c.invariant in (
-      p.is_legal,
-      (
-        p.bits,
-        (
-          p.short,
-          (g.sound, (c.loop-c-test.true, omega (arith, c.requires.1.1.0.1, c.losses_here-k.auto.row, g.wide))),
-        ),
-      ),
-    )
 
 pub columns-returns-in_default : goal.columns-returns-in_default
 columns-returns-in_default t c =
@@ -150,12 +97,6 @@ columns-returns t c =
     (going_end g c.loop-c-test.false m.0, going_same g (same_wider (λ i j p q o. inr o) m.1))
 
 -- ---- the lower states after a column
-pub losses_here-number_of-q-requires : goal.losses_here-number_of-q-requires
-losses_here-number_of-q-requires t c =
-    let p = c.requires in
-    let of = p.1.1.1.1.0 in
-    (omega (arith, of.blocks, p.1.1.0.0.few), of.shaped)
-
 pub losses_here-exits-can-requires : goal.losses_here-exits-can-requires
 losses_here-exits-can-requires t c =
     let p = c.requires in
@@ -167,9 +108,6 @@ losses_here-loop-to-init t c = record {
   known = grown_nothing c.requires.1.0 (λ x sent u. omega (arith, u.1));
   same = same_refl;
 }
-
-pub losses_here-overflow_add-j : goal.losses_here-overflow_add-j
-losses_here-overflow_add-j t c = omega (arith, few-columns c.args.l c.requires.0.is_legal)
 
 pub losses_here-mark_at-mark-requires : goal.losses_here-mark_at-mark-requires
 losses_here-mark_at-mark-requires t c = omega (arith, few-columns c.args.l c.requires.0.is_legal)
@@ -230,15 +168,6 @@ losses_here-returns t c =
     (grown_weaken (λ x sent u. (u.0, omega (arith, u.1, n, c.loop-to-test.false))) v.known, v.same)
 
 -- ---- one lower state
-pub losses_to-losses_left-next-requires : goal.losses_to-losses_left-next-requires
-losses_to-losses_left-next-requires t c =
-    let p = c.requires.0 in
-    let of = p.1.1.1.1.0 in
-    (omega (arith, of.blocks, p.1.1.0.0.few), of.shaped)
-
-pub losses_to-all_can-requires : goal.losses_to-all_can-requires
-losses_to-all_can-requires t c = c.requires.0.1.1.0.0.few
-
 pub losses_to-returns-then-not-all_can : goal.losses_to-returns-then-not-all_can
 losses_to-returns-then-not-all_can t c =
     let a = c.args in
@@ -316,14 +245,6 @@ losses_to-after-fresh-requires t c =
     let p = c.requires.0 in
     (fits p.0 p.1.1.0.0, (p.1.1.1.0, p.1.1.1.1.1.0.sums))
 
-pub losses_to-overflow_add-j : goal.losses_to-overflow_add-j
-losses_to-overflow_add-j t c = omega (arith, few-columns c.args.l c.requires.0.0.is_legal)
-
-pub losses_to-all_meet-requires : goal.losses_to-all_meet-requires
-losses_to-all_meet-requires t c =
-    let p = c.requires.0 in
-    (p.0.is_legal, (p.1.1.0.0.few, omega (arith, p.1.1.1.0)))
-
 pub losses_to-returns-then-not-all_meet : goal.losses_to-returns-then-not-all_meet
 losses_to-returns-then-not-all_meet t c =
     let p = c.requires.0 in
@@ -337,11 +258,6 @@ losses_to-returns-then-not-all_meet t c =
       same_refl,
     )
 
-pub losses_to-step-requires : goal.losses_to-step-requires
-losses_to-step-requires t c =
-    let p = c.requires.0 in
-    (p.0.is_legal, (p.0.bits, (p.0.short, (p.1.1.0.0, (p.1.1.1.0, p.1.1.0.1)))))
-
 pub losses_to-returns-in_default : goal.losses_to-returns-in_default
 losses_to-returns-in_default t c =
     let p = c.requires.0 in
@@ -350,16 +266,6 @@ losses_to-returns-in_default t c =
       grown_nothing p.1.0
           (λ x sent u. false≢true (c.in_default.ensures.under x sent.0 u.0.0 (own_left_is u.0.1 c.requires.0.1.1.1.1.0 (c.args.j + 1) c.args.to own.result in-row own.ensures u.1)).0),
       c.in_default.ensures.same,
-    )
-
-pub losses_to-all_end-requires : goal.losses_to-all_end-requires
-losses_to-all_end-requires t c =
-    let p = c.requires.0 in (
-      p.0,
-      (
-        p.1.1.1.1.1.0.tables,
-        (c.in-Some.ensures.sound, (p.1.1.1.0, omega (arith, p.1.1.0.1, c.step.auto.row))),
-      ),
     )
 
 pub losses_to-returns-then-not-all_end : goal.losses_to-returns-then-not-all_end
@@ -373,9 +279,6 @@ losses_to-returns-then-not-all_end t c =
           false≢true (sym c.if-not-all_end.true ∙ c.all_end.ensures x sent under)),
       c.in-Some.ensures.same,
     )
-
-pub losses_to-overflow_add-j-2 : goal.losses_to-overflow_add-j-2
-losses_to-overflow_add-j-2 t c = omega (arith, few-columns c.args.l c.requires.0.0.is_legal)
 
 pub losses_to-columns-requires : goal.losses_to-columns-requires
 losses_to-columns-requires t c =
