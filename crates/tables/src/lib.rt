@@ -196,9 +196,7 @@ fn all_end(
         → result ≡ true }
 {
     for (h, had) in before[..heavy.n].iter().enumerate() {
-        if !ends(
-            l, y, totals, counts, numbers, heavy, j, h, *had, t, row,
-        ) {
+        if !ends(l, y, totals, counts, numbers, heavy, j, h, *had, t, row) {
             return false;
         }
     }
