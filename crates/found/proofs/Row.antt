@@ -10,7 +10,7 @@ use Rattle.bits.specs.Bits.{longest, bytes_for}
 use Rattle.rows.specs.Order.{Row}
 use Rattle.message.specs.Layout.{row_bits}
 use Rattle.message.specs.declared.Layout.{Layout}
-use Rattle.message.proofs.Legal.{Sizes, legal_bounds, sizes}
+use Rattle.message.proofs.Legal.{legal_bounds, sizes}
 use Rattle.consistent.specs.Query.{Query}
 use Rattle.lines.specs.Lines.{values, line}
 use Rattle.lines.proofs.Lines.{length-line, bits-line, row_line, line_same}

@@ -30,7 +30,7 @@ fn add_sent(
     ensures { AddsSent (query l numbers.now y.now) cap (λ z. z ≡ x.now)
         list.old kept list.new result }
 {
-    let mut bytes: [u8; BYTES] = [0; BYTES];
+    let mut bytes = [0; BYTES];
     bits::pack(x, &mut bytes);
     let w = (x.len() + 7) / 8;
     rows::insert(list, kept, cap, &bytes[0..w])
@@ -72,7 +72,7 @@ pub fn add_row(
     ensures { AddsSent (query l numbers.now y.now) cap (InHand l row.now)
         list.old kept list.new result }
 {
-    let mut x: [u8; bits::LONGEST] = [0; bits::LONGEST];
+    let mut x = [0; bits::LONGEST];
     let count = l.l1 * l.l2;
     let n = count * l.nc;
     lines::spread(l.nc, 0, 1, count, row, &mut x, 0);
