@@ -8,7 +8,7 @@ use native.Mathlib.Nat.{mul-le-mul_right}
 use native.Mathlib.Numerals.{add-one}
 use native.Mathlib.Omega.{arith}
 use lib.Dec.{eqb}
-use lib.ListN.{length, get_or, set, drop, length-set}
+use lib.ListN.{length, get_or, set, drop}
 use lib.Seq.{get_or-set_same, get_or-set_other}
 use Rattle.bits.specs.Bits.{digits, number}
 use Rattle.bits.proofs.Laws.{lt_or_ge}
@@ -55,58 +55,6 @@ module _ {t : ℕ} {entry exit : List ℕ} (k : Keeps t entry exit) where
         least = rw (k.before (4 * u + 1) (omega arith)) s.least;
         most = rw (k.before (4 * u + 2) (omega arith)) s.most;
         other = rw (k.before (4 * u + 3) (omega arith)) s.other;
-      }
-
--- the four numbers of choice t, put one after another
-module _ (choices : List ℕ) (t adds : ℕ) (span : Span) (other : ℕ) (long : 4 * t + 4 ≤ length choices) where
-  abbrev one : List ℕ
-  one = set choices (4 * t) adds
-
-  abbrev two : List ℕ
-  two = set one (4 * t + 1) span.low
-
-  abbrev three : List ℕ
-  three = set two (4 * t + 2) span.high
-
-  abbrev four : List ℕ
-  four = set three (4 * t + 3) other
-
-  pub one-long : length one ≡ length choices
-  one-long = length-set choices (4 * t) adds
-
-  pub two_long : length two ≡ length choices
-  two_long = length-set one (4 * t + 1) span.low ∙ one-long
-
-  pub three_long : length three ≡ length choices
-  three_long = length-set two (4 * t + 2) span.high ∙ two_long
-
-  pub four_keeps : Keeps t choices four
-  four_keeps =
-      record {
-        long = length-set three (4 * t + 3) other ∙ three_long;
-        before = λ i h.
-            get_or-set_other three (4 * t + 3) i other 0 (λ e. omega (arith, e))
-            ∙ get_or-set_other two (4 * t + 2) i span.high 0 (λ e. omega (arith, e))
-            ∙ get_or-set_other one (4 * t + 1) i span.low 0 (λ e. omega (arith, e))
-            ∙ get_or-set_other choices (4 * t) i adds 0 (λ e. omega (arith, e));
-      }
-
-  pub four_put : Put t adds span other four
-  four_put =
-      record {
-        adds_is =
-            get_or-set_other three (4 * t + 3) (4 * t) other 0 (λ e. omega (arith, e))
-            ∙ get_or-set_other two (4 * t + 2) (4 * t) span.high 0 (λ e. omega (arith, e))
-            ∙ get_or-set_other one (4 * t + 1) (4 * t) span.low 0 (λ e. omega (arith, e))
-            ∙ get_or-set_same choices (4 * t) adds 0 (omega arith);
-        least_is =
-            get_or-set_other three (4 * t + 3) (4 * t + 1) other 0 (λ e. omega (arith, e))
-            ∙ get_or-set_other two (4 * t + 2) (4 * t + 1) span.high 0 (λ e. omega (arith, e))
-            ∙ get_or-set_same one (4 * t + 1) span.low 0 (omega (arith, one-long));
-        most_is =
-            get_or-set_other three (4 * t + 3) (4 * t + 2) other 0 (λ e. omega (arith, e))
-            ∙ get_or-set_same two (4 * t + 2) span.high 0 (omega (arith, two_long));
-        other_is = get_or-set_same three (4 * t + 3) other 0 (omega (arith, three_long));
       }
 
 pub keeps_same : (t : ℕ) (choices : List ℕ) → Keeps t choices choices

@@ -4,12 +4,11 @@ use Prim.Native.Nat.{ℕ, zero, suc, ◌+◌, ◌*◌, ◌%◌, ◌<◌, ◌≤�
 use mathlib.Core.Path.{◌≡◌, refl, sym, subst, ap, ap₂, ◌∙◌}
 use mathlib.Core.List.{List}
 use mathlib.Core.Logic.{◌⊎◌, inl, inr, ⊎_elim}
-use native.Mathlib.Decide.{ℕ_discrete}
 use native.Mathlib.Numerals.{add-one}
 use native.Mathlib.Omega.{arith}
 use borrow.Author.Tests.{ne_eqb}
 use lib.Dec.{eqb}
-use lib.ListN.{length, get_or, set, length-set}
+use lib.ListN.{length, get_or, set}
 use lib.Seq.{get_or-set_same, get_or-set_other}
 use Rattle.bits.proofs.Laws.{lt_or_ge}
 use Rattle.message.specs.declared.Layout.{Layout}
@@ -82,14 +81,6 @@ raises_same fresh = record { long = refl; grows = λ i. omega arith }
 pub raises_then : {entry mid exit : List ℕ} → Raises entry mid → Raises mid exit → Raises entry exit
 raises_then a b =
     record { long = b.long ∙ a.long; grows = λ i. omega (arith, a.grows i, b.grows i) }
-
--- a mark that is set to a higher one
-pub raises_set : (fresh : List ℕ) (q v : ℕ) → q < length fresh → get_or fresh q 0 ≤ v → Raises fresh (set fresh q v)
-raises_set fresh q v h up = record { long = length-set fresh q v; grows = λ i. go i (ℕ_discrete i q) }
-  where
-    go : (i : ℕ) → Dec (i ≡ q) → get_or fresh i 0 ≤ get_or (set fresh q v) i 0
-    go i (yes e) = rw (e, get_or-set_same fresh q v 0 h) up
-    go i (no e) = rw (get_or-set_other fresh q i v 0 e) (omega arith)
 
 -- ---- picks add up
 module _ {choices from : List ℕ} {shape : Shape} {modulus need : ℕ} {marks : List ℕ} {at : ℕ} {some fresh : List ℕ}
