@@ -10,16 +10,14 @@ use native.Mathlib.Nat.{mod-add-mod}
 use native.Mathlib.Omega.{arith}
 use borrow.Author.Tests.{eq-eqb, ne_eqb}
 use lib.ListN.{length, get_or}
-use Rattle.bits.specs.Bits.{longest_line}
 use Rattle.message.specs.declared.Layout.{Layout}
-use Rattle.message.proofs.Legal.{string_high}
 use Rattle.states.specs.States.{each, firsts}
 use Rattle.column.specs.Column.{Fit, Light, Crosses}
 use Rattle.column.specs.declared.Heavy.{Heavy}
-use Rattle.whole.specs.Whole.{modulus, Source, brings_in, OneLess}
+use Rattle.whole.specs.Whole.{modulus, brings_in, OneLess}
 use Rattle.states.proofs.Sums.{firsts_same, firsts_but}
 use Rattle.whole.proofs.Whole.{weightOf, weights-sum, kept-legible, kept_read}
-use Rattle.costs.specs.Costs.{ReadBut, brings_but, Asked}
+use Rattle.costs.specs.Costs.{ReadBut, brings_but}
 
 -- ---- losses left in some blocks, and later
 module _ (left next : ℕ → ℕ) where
@@ -146,23 +144,3 @@ module _ {l : Layout} {y numbers : List ℕ} {heavy : Heavy} {row : List ℕ} {j
       go : Dec (firsts next heavy.n + 1 ≡ firsts left heavy.n) → firsts next heavy.n + 2 ≤ firsts left heavy.n
       go (yes d) = absurd (false≢true (sym e ∙ can (one_of left next heavy.n c.falls d)))
       go (no d) = omega (arith, fewer)
-
--- ---- what is asked of a column
--- its sum is low
-pub asked_low : {l : Layout} {y totals counts numbers : List ℕ} {heavy : Heavy} {known : List ℕ} {j : ℕ}
-    → Asked l y totals counts numbers heavy known j → get_or numbers (l.l1 + j) 0 ≤ longest_line
-asked_low {l} {j = j} q = omega (arith, q.fit.low j q.column, string_high l q.fit.allowed)
-
--- its chunks in the heavy blocks can be read
-pub asked_source : {l : Layout} {y totals counts numbers : List ℕ} {heavy : Heavy} {known : List ℕ} {j : ℕ}
-    → Asked l y totals counts numbers heavy known j → (s : ℕ) → s < heavy.n
-    → Source l y totals counts (get_or heavy.block s 0) j
-asked_source q s h =
-    record {
-      allowed = q.fit.allowed;
-      bits = q.fit.bits;
-      short = q.fit.short;
-      tables = q.tables;
-      inside = q.fit.inside s h;
-      column = q.column;
-    }

@@ -16,7 +16,7 @@ use Rattle.column.specs.Column.{Light}
 use Rattle.column.specs.declared.Heavy.{Heavy}
 use Rattle.marks.specs.Marks.{mark_at, Path, Kept, Remade}
 use Rattle.marks.specs.Digits.{Within}
-use Rattle.marks.proofs.Marks.{remade_none, remade_set, other-column}
+use Rattle.marks.proofs.Marks.{remade_set, other-column}
 use Rattle.marks.proofs.Paths.{crosses-same, own-within, own-low, own-last}
 use Rattle.first.specs.First.{Goes, FirstMark}
 use Rattle.first.proofs.Levels.{Above, Levels, level_or, levels_next}
@@ -40,17 +40,6 @@ module _ (l : Layout) (y numbers : List ℕ) (heavy : Heavy) (known : List ℕ) 
     pub most_of_is : (p : ℕ) → p < q → get_or marks (at + p) 0 ≤ most
     pub goes : (left : ℕ → ℕ) → Within shape left → wide left → state_of shape left < q
         → Goes l y numbers heavy known shape j entry base left (get_or marks (at + state_of shape left) 0)
-
-  pub completing_starts : (levels : List ℕ) → length levels ≡ most_states → Completing entry levels 0 0
-  completing_starts levels h =
-      record {
-        low = omega arith;
-        long = h;
-        column = remade_none shape.states at entry;
-        levelled = record { own = λ p k. absurd (omega arith); down = λ left w k. absurd (omega arith) };
-        most_of_is = λ p k. absurd (omega arith);
-        goes = λ left w u k. absurd (omega arith);
-      }
 
   -- what is known of the losses left found, the level v, which is tested as f, and the mark m of state q
   pub record Told (marks levels : List ℕ) (most q : ℕ) (found : ℕ → ℕ) (v f m more : ℕ) : Type 0 where

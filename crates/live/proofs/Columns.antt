@@ -1,6 +1,6 @@
 -- Fresh marks of one column, raised state by state. Assumes nothing.
 use Prim.Native.Nat.{ℕ, ◌+◌, ◌<◌, ◌≤◌}
-use mathlib.Core.Path.{◌≡◌, refl, ◌∙◌}
+use mathlib.Core.Path.{◌≡◌, ◌∙◌}
 use mathlib.Core.Bool.{Bool, false}
 use mathlib.Core.List.{List}
 use native.Mathlib.Decide.{ℕ_discrete}
@@ -19,9 +19,6 @@ use Rattle.live.proofs.Steps.{gained_next}
 -- ---- fresh marks of a column
 module _ (l : Layout) (y numbers : List ℕ) (heavy : Heavy) (known z digits : List ℕ) (j : ℕ) (other : ℕ → ℕ) (there : ℕ)
     (marks : List ℕ) (at low : ℕ) (entry : List ℕ) where
-  pub spread_none : Spread l y numbers heavy known z digits j other there marks at low low entry entry
-  spread_none = record { long = refl; grows = λ q. omega arith; gains = λ q lo hi. absurd (omega arith) }
-
   -- one fresh mark more is raised
   pub spread_next : (q v : ℕ) (fresh : List ℕ) → q < length fresh → get_or fresh q 0 ≤ v
       → (0 < get_or marks (at + q) 0 → Gains l y numbers heavy known z j false (entry_of digits q) other there v)
@@ -50,9 +47,6 @@ module _ (l : Layout) (y numbers : List ℕ) (heavy : Heavy) (known z : List ℕ
   pub record Remaking (fresh : List ℕ) (p : ℕ) : Type 0 where
     pub gained : (own : ℕ → ℕ) → Within shape own → 0 < get_or marks (at + state_of shape own) 0
         → Gained l y numbers heavy known z shape j ahead marks base p own (get_or fresh (state_of shape own) 0)
-
-  pub remaking_starts : (fresh : List ℕ) → Remaking fresh 0
-  remaking_starts fresh = record { gained = λ own w m other w' k. absurd (omega arith) }
 
   pub remaking_next : Kept heavy shape → (digits : List ℕ) → Digits shape digits → (fresh more : List ℕ) (p : ℕ)
       → SpreadBy l y numbers heavy known z digits shape j ahead p (get_or marks (base + p) 0) marks at fresh more
