@@ -49,12 +49,12 @@ fn with_block(hs: Heavies, i: usize, a: u8, end: usize) -> Heavies
     left[n] = a;
     let heavier = Heavy {
         n: n + 1,
-        block: block,
+        block,
         end: ends,
     };
     Heavies {
         heavy: heavier,
-        left: left,
+        left,
     }
 }
 
@@ -72,15 +72,13 @@ fn heavy_of(l1: usize, pattern: Pattern) -> Heavies
         heavy: none,
         left: [0; 6],
     };
-    let mut end: usize = 0;
-    let mut i: usize = 0;
-    while i < l1 {
+    let mut end = 0;
+    for i in 0..l1 {
         let a = pattern.counts[i];
-        end += bits::wide(a);
+        end += usize::from(a);
         if 2 <= a {
             hs = with_block(hs, i, a, end);
         }
-        i += 1;
     }
     hs
 }
@@ -121,10 +119,7 @@ fn finish(
         lost: [0; 12],
         place: [0; 12],
     };
-    let t = Table {
-        left: left,
-        cells: cells,
-    };
+    let t = Table { left, cells };
     if anchor::is_set(desk) {
         let near = l.r + 1;
         let behind = 1 + bits::MOST_CHUNKS;
@@ -176,8 +171,8 @@ fn one_pattern(
     if pattern.total != k {
         return kept;
     }
-    let mut hand: [u8; bits::MOST_CHUNKS] = [0; bits::MOST_CHUNKS];
-    bits::copy_to(row, &mut hand, 0);
+    let mut hand = [0; bits::MOST_CHUNKS];
+    hand.copy_from_slice(row);
     finish(
         l, y, totals, counts, numbers, pattern, &mut hand, desk, cap, list, kept,
     )
@@ -332,10 +327,7 @@ fn all_patterns(
 // Whether an anchor is worth its preparation, with r checks and so many lost bits: without checks it leaves out only itself, and with one lost
 // bit there is little to leave out.
 fn anchor_pays(r: usize, lost: usize) -> bool {
-    if r == 0 {
-        return false;
-    }
-    2 <= lost
+    r > 0 && lost >= 2
 }
 
 // All consistent rows where bits were lost. Where an anchor does not pay, the desk is too short for it.
