@@ -110,8 +110,3 @@ module _ (l : Layout) (counts : List ℕ) (heavy : Heavy) (t : Table) (q : Heavy
         };
         loses = λ z o. absurd (omega (arith, closed z, o.1));
       }
-
--- a row that fills the slice that it is copied to
-pub copied : (row out hand : List ℕ) → length out ≤ length row → hand ≡ take 0 out ++ row ++ drop (0 + length row) out
-    → hand ≡ row
-copied row out hand h e = e ∙ rw (drop_of_length-le out {i = 0 + length row} (omega arith)) (append-nil row)
