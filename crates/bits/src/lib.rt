@@ -18,29 +18,12 @@ pub const MOST_IN_LINE: usize = 255;
 // The most bits of a line, that is of a block or of a chunk-string: as many chunks of at most 8 bits.
 pub const LONGEST_LINE: usize = 2040;
 
-// A byte as a number of any size.
-pub fn wide(b: u8) -> usize
-    ensures { result ≡ b }
-{
-    usize::from(b)
-}
-
 // 2 to the power k.
 pub fn power(k: usize) -> usize
     requires { k ≤ 16 }
     ensures { result ≡ 2 ^ k }
 {
     1 << k
-}
-
-// Elements copied to a place of a slice.
-pub fn copy_to(part: &[u8], out: &mut [u8], at: usize)
-    requires { at + length part.now ≤ length out.old }
-    ensures { out.new
-        ≡ take at out.old ++ part.now
-        ++ drop (at + length part.now) out.old }
-{
-    out[at..at + part.len()].copy_from_slice(part);
 }
 
 // Bit i of packed bytes.
