@@ -1,13 +1,6 @@
 -- In how many chunks of a column a row can differ from another one, and how these add up along its columns. Assumes nothing.
-use Prim.Native.Nat.{ℕ, zero, suc, ◌+◌, ◌*◌, ◌<◌, ◌≤◌}
-use mathlib.Core.Path.{◌≡◌, ap}
-use mathlib.Core.Logic.{⊎_elim}
-use mathlib.Core.List.{List}
-use native.Mathlib.Decide.{dec_lt}
-use native.Mathlib.Nat.{mul-le-mul_left, mul-add, mul-one}
-use native.Mathlib.Omega.{arith}
-use lib.Dec.{eqb}
-use lib.ListN.{get_or}
+use Rattle.std.proofs.Common.{ℕ, zero, suc, ◌+◌, ◌*◌, ◌<◌, ◌≤◌, ◌≡◌, ap, ⊎_elim, List, mul-le-mul_left, mul-add, mul-one, arith, get_or, eqb}
+use Rattle.std.proofs.Math.Decide.{dec_lt}
 use Rattle.message.specs.declared.Layout.{Layout}
 use Rattle.lines.specs.Lines.{unlike}
 use Rattle.states.specs.States.{firsts}

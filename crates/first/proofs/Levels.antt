@@ -1,10 +1,7 @@
 -- The levels of the states of one column: how far a state lies above one that is marked in the next column, up to two
 -- losses. A state with two losses more than a marked one has the highest level. Assumes nothing.
-use Prim.Native.Nat.{ℕ, zero, suc, ◌+◌, ◌-◌, ◌<◌, ◌≤◌}
-use mathlib.Core.Path.{◌≡◌, sym, ap}
-use mathlib.Core.Logic.{◌⊎◌, inl, inr, ⊎_elim}
-use native.Mathlib.Decide.{ℕ_discrete, dec_lt}
-use native.Mathlib.Omega.{arith}
+use Rattle.std.proofs.Common.{ℕ, zero, suc, ◌+◌, ◌-◌, ◌<◌, ◌≤◌, ◌≡◌, sym, ap, ◌⊎◌, inl, inr, ⊎_elim, arith}
+use Rattle.std.proofs.Math.Decide.{ℕ_discrete, dec_lt}
 use Rattle.states.specs.States.{stride, state}
 use Rattle.states.proofs.States.{lowered, lowered_there, lowered_other, stride_pos, state-same, state_lowered}
 use Rattle.whole.specs.Whole.{OneLess}

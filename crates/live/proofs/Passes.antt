@@ -1,12 +1,6 @@
 -- The marks along the loss states that a row comes through, as a pass goes over the columns. Assumes nothing.
-use Prim.Native.Nat.{ℕ, ◌+◌, ◌*◌, ◌<◌, ◌≤◌}
-use mathlib.Core.Path.{◌≡◌, refl, ◌∙◌}
-use mathlib.Core.Bool.{Bool}
-use mathlib.Core.Logic.{◌⊎◌, inl, inr}
-use mathlib.Core.List.{List}
-use native.Mathlib.Decide.{ℕ_discrete}
-use native.Mathlib.Omega.{arith}
-use lib.ListN.{get_or}
+use Rattle.std.proofs.Common.{ℕ, ◌+◌, ◌*◌, ◌<◌, ◌≤◌, ◌≡◌, refl, ◌∙◌, Bool, ◌⊎◌, inl, inr, List, arith, get_or}
+use Rattle.std.proofs.Math.Decide.{ℕ_discrete}
 use Rattle.message.specs.declared.Layout.{Layout}
 use Rattle.states.specs.States.{each, state_of}
 use Rattle.states.specs.declared.Shape.{Shape}

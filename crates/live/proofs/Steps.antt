@@ -1,12 +1,6 @@
 -- What the mark of a state gains by the marks of the states that a row joins it with across a column. Assumes nothing.
-use Prim.Native.Nat.{ℕ, ◌+◌, ◌<◌, ◌≤◌}
-use mathlib.Core.Path.{◌≡◌, refl}
-use mathlib.Core.Bool.{Bool}
-use mathlib.Core.Logic.{inl, inr, ⊎_elim}
-use mathlib.Core.List.{List}
-use native.Mathlib.Decide.{ℕ_discrete}
-use native.Mathlib.Omega.{arith}
-use lib.ListN.{get_or}
+use Rattle.std.proofs.Common.{ℕ, ◌+◌, ◌<◌, ◌≤◌, ◌≡◌, refl, Bool, inl, inr, ⊎_elim, List, arith, get_or}
+use Rattle.std.proofs.Math.Decide.{ℕ_discrete}
 use Rattle.message.specs.declared.Layout.{Layout}
 use Rattle.states.specs.States.{state_of}
 use Rattle.states.specs.declared.Shape.{Shape}

@@ -1,15 +1,8 @@
 -- Sets of residues as the bits of words: where a residue's bit stands, what a word that is read or put in holds, and how a
 -- set that stands twice is moved into another. Rests on the laws of the crate residues. Assumes nothing.
-use Prim.Native.Nat.{ℕ, ◌+◌, ◌-◌, ◌*◌, ◌/◌, ◌%◌, ◌^◌, ◌<◌, ◌≤◌}
-use mathlib.Core.Path.{◌≡◌, ap, ◌∙◌}
-use mathlib.Core.Logic.{⊎_elim}
-use mathlib.Core.List.{List}
-use native.Mathlib.Decide.{ℕ_discrete, dec_lt}
-use native.Mathlib.Nat.{mod-lt, mod-eq_of_lt, add-mul-mod_self_right, mod-add-mod, add-mod-mod}
-use native.Mathlib.Omega.{arith}
-use lib.Bits.{bit_or}
-use lib.ListN.{length, get_or, set}
-use lib.Seq.{get_or-set_same, get_or-set_other}
+use Rattle.std.proofs.Common.{ℕ, ◌+◌, ◌-◌, ◌*◌, ◌/◌, ◌%◌, ◌^◌, ◌<◌, ◌≤◌, ◌≡◌, ap, ◌∙◌, ⊎_elim, List, mod-lt, mod-eq_of_lt, arith, bit_or, length, get_or, set, get_or-set_same, get_or-set_other}
+use Rattle.std.proofs.Math.Decide.{ℕ_discrete, dec_lt}
+use Rattle.std.proofs.Math.Nat.{add-mul-mod_self_right, mod-add-mod, add-mod-mod}
 use Rattle.bits.proofs.Laws.{lt_or_ge}
 use Rattle.residues.proofs.Words.{bit_low, bit_up, bit_down, or_one, or_other, one_has, one_bit}
 use Rattle.sets.specs.Sets.{One, In, Grows, Twice, Moved, MovedTwice}

@@ -1,6 +1,5 @@
 -- What the tactics leave open of `alike::can_differ`.
-use Rattle.std.proofs.Common.{ℕ, ◌<◌, sym, ◌∙◌, true≢false, arith}
-use borrow.Author.Count.{below_more}
+use Rattle.std.proofs.Common.{ℕ, ◌<◌, sym, ◌∙◌, true≢false, arith, below_more}
 use Rattle.far.specs.Far.{read_apart}
 use Rattle.far.proofs.Unlost.{reads_same}
 use Rattle.alike.proofs.Alike.{apart_some}

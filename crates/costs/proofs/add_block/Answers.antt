@@ -1,6 +1,5 @@
 -- What the tactics leave open of `costs::add_block`.
-use Rattle.std.proofs.Common.{◌≡◌, ℕ, ◌<◌, sym, ◌∙◌, mod-lt, arith}
-use borrow.Author.Count.{below_more}
+use Rattle.std.proofs.Common.{◌≡◌, ℕ, ◌<◌, sym, ◌∙◌, mod-lt, arith, below_more}
 use Rattle.whole.specs.Whole.{modulus, brings}
 use Rattle.sets.specs.Sets.{Grows, Moved}
 use Rattle.sets.proofs.Sets.{moved_rest, moved_grows}

@@ -1,6 +1,5 @@
 -- What the tactics leave open of `costs::can_lose_one`.
-use Rattle.std.proofs.Common.{ℕ, sym, ◌∙◌, true≢false, arith}
-use borrow.Author.Count.{below_more}
+use Rattle.std.proofs.Common.{ℕ, sym, ◌∙◌, true≢false, arith, below_more}
 use Rattle.whole.specs.Whole.{OneLess}
 use Rattle.costs.proofs.can_lose_one.Goals as goal
 

@@ -1,7 +1,6 @@
 -- What the tactics leave open of `costs::makes_up`.
-use Rattle.std.proofs.Common.{◌≡◌, ℕ, ◌+◌, ◌%◌, ◌<◌, ◌≤◌, arith, sym, ap, ◌∙◌, true≢false, ⊎_elim, mod-lt, mod-eq_of_lt}
+use Rattle.std.proofs.Common.{◌≡◌, ℕ, ◌+◌, ◌%◌, ◌<◌, ◌≤◌, arith, sym, ap, ◌∙◌, true≢false, ⊎_elim, mod-lt, mod-eq_of_lt, below_more}
 use Rattle.std.proofs.Math.Nat.{mod-add-mod}
-use borrow.Author.Count.{below_more}
 use Rattle.costs.proofs.Parts.{Only, Never, only-before}
 use Rattle.costs.proofs.makes_up.Goals as goal
 use Rattle.costs.proofs.makes_up.Goals.{then-part-eq0, else-part-eq0}

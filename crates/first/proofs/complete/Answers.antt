@@ -1,7 +1,6 @@
 -- What the tactics leave open of `first::complete`.
-use Rattle.std.proofs.Common.{◌≡◌, ℕ, ◌+◌, ◌-◌, ◌<◌, ◌≤◌, get_or, arith}
+use Rattle.std.proofs.Common.{◌≡◌, ℕ, ◌+◌, ◌-◌, ◌<◌, ◌≤◌, get_or, arith, lt-ltb}
 use Rattle.std.proofs.Math.Nat.{zero-mul}
-use borrow.Author.Tests.{lt-ltb}
 use Rattle.states.specs.States.{state_of}
 use Rattle.marks.specs.Marks.{mark_at}
 use Rattle.marks.proofs.Digits.{some-state}

@@ -1,7 +1,5 @@
 -- What the tactics leave open of `first::level_of`.
-use Rattle.std.proofs.Common.{arith}
-use borrow.Author.Count.{below_more}
-use borrow.Author.Tests.{lt-ltb}
+use Rattle.std.proofs.Common.{arith, below_more, lt-ltb}
 use Rattle.first.proofs.level_of.Goals as goal
 
 -- the level is above the one that block s calls for

@@ -1,6 +1,5 @@
 -- What the tactics leave open of `first::loses`.
-use Rattle.std.proofs.Common.{sym, ◌∙◌, true≢false, arith}
-use borrow.Author.Count.{below_more}
+use Rattle.std.proofs.Common.{sym, ◌∙◌, true≢false, arith, below_more}
 use Rattle.first.proofs.loses.Goals as goal
 use Rattle.first.proofs.loses.Goals.{else-leads-via-then-leads+else-loses_one, else-leads-via-else-leads}
 

@@ -1,7 +1,6 @@
 -- What the tactics leave open of `live::ahead`.
-use Rattle.std.proofs.Common.{◌≡◌, ℕ, ◌+◌, ◌-◌, ◌*◌, ◌<◌, ◌≤◌, true, List, get_or, sym, true≢false, ⊎_elim, mul-le-mul_right, arith}
+use Rattle.std.proofs.Common.{◌≡◌, ℕ, ◌+◌, ◌-◌, ◌*◌, ◌<◌, ◌≤◌, true, List, get_or, sym, true≢false, ⊎_elim, mul-le-mul_right, arith, lt-ltb}
 use Rattle.std.proofs.Math.Nat.{zero-mul}
-use borrow.Author.Tests.{lt-ltb}
 use Rattle.bits.proofs.Laws.{lt_or_ge}
 use Rattle.states.specs.States.{each, state_of}
 use Rattle.column.specs.Column.{Light, apart_in}
