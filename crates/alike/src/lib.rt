@@ -62,7 +62,7 @@ fn other_hits(
 {
     let block = heavy.block[s];
     let end = heavy.end[s];
-    for e in 0..size + 1 {
+    for e in 0..=size {
         if far::read_apart(l, y, heavy, z, s, size, j, e) == 1
             && hits(l, y, totals, counts, block, end, j, e, sum, set)
         {

@@ -229,8 +229,8 @@ fn repairs_some(
     ensures { (left v part : ℕ) → 1 ≤ left → left ≤ size
         → Repairs l y.now block end j left sum set.now v part → result ≡ true }
 {
-    for left in 0..size {
-        if repairs(l, y, totals, counts, block, end, j, left + 1, sum, set) {
+    for left in 1..=size {
+        if repairs(l, y, totals, counts, block, end, j, left, sum, set) {
             return true;
         }
     }
