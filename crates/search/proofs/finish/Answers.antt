@@ -38,12 +38,6 @@ returns-then-heavy-eq0 c =
     (legal_bounds a.l c.requires.0.is_legal).l2_low c.if-heavy-eq0.true _ x u)
     c.add_row.ensures
 
-pub overflow_add-near : goal.overflow_add-near
-overflow_add-near c = omega (arith, (legal_bounds c.args.l c.requires.0.is_legal).r_high)
-
-pub slice_bounds-tables-end : goal.slice_bounds-tables-end
-slice_bounds-tables-end c = omega (arith, set_long c.args.desk.now (sym c.is_set.ensures ∙ c.if-is_set.true))
-
 pub tables-requires : goal.tables-requires
 tables-requires c =
     let a = c.args in

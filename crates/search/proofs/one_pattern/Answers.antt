@@ -8,12 +8,6 @@ use Rattle.search.proofs.one_pattern.Goals as goal
 pub overflow_mul-k : goal.overflow_mul-k
 overflow_mul-k c = omega (arith, (sizes c.args.l (legal_bounds c.args.l c.requires.0.is_legal)).chunks)
 
-pub overflow_mul-k-2 : goal.overflow_mul-k-2
-overflow_mul-k-2 c = omega (arith, (sizes c.args.l (legal_bounds c.args.l c.requires.0.is_legal)).row)
-
-pub overflow_sub-k : goal.overflow_sub-k
-overflow_sub-k c = c.requires.0.short
-
 pub returns-then-pattern-k : goal.returns-then-pattern-k
 returns-then-pattern-k c =
     let a = c.args in

@@ -9,9 +9,6 @@ use Rattle.search.proofs.search.Goals as goal
 pub overflow_mul-l : goal.overflow_mul-l
 overflow_mul-l c = omega (arith, (sizes c.args.l (legal_bounds c.args.l c.requires.0.is_legal)).chunks)
 
-pub overflow_mul-l-2 : goal.overflow_mul-l-2
-overflow_mul-l-2 c = omega (arith, (sizes c.args.l (legal_bounds c.args.l c.requires.0.is_legal)).row)
-
 pub add_bits-requires : goal.add_bits-requires
 add_bits-requires c =
     let a = c.args in
