@@ -486,21 +486,17 @@ pub fn tables(
         list.old kept.count kept.more list.new result.count result.more
         × SameBut l (Undecided heavy 0 0) row.old row.new }
 {
-    let left = t.left;
-    let mut known: [u16; bits::MOST_IN_LINE] = [0; bits::MOST_IN_LINE];
+    let mut known = [0; bits::MOST_IN_LINE];
     column::light_sums(l, y, numbers, heavy, row, &mut known);
-    if !costs::enough(l, y, totals, counts, numbers, heavy, left, &known) {
+    if !costs::enough(l, y, totals, counts, numbers, heavy, t.left, &known) {
         return kept;
     }
     let light = apart_light(l, heavy, row, z);
-    let mut rest: usize = 0;
-    if light < room {
-        rest = room - light;
-    }
-    if alike::all_near(l, y, totals, counts, numbers, heavy, left, &known, z, rest) {
+    let rest = room.saturating_sub(light);
+    if alike::all_near(l, y, totals, counts, numbers, heavy, t.left, &known, z, rest) {
         return kept;
     }
-    let mut marks: [u8; MARKS] = [0; MARKS];
+    let mut marks = [0; MARKS];
     let p = live::prepare(
         l,
         y,
@@ -508,7 +504,7 @@ pub fn tables(
         counts,
         numbers,
         heavy,
-        left,
+        t.left,
         &known,
         z,
         rest,
@@ -519,14 +515,9 @@ pub fn tables(
         return kept;
     }
     let sets = sums::at_first(l, numbers, heavy);
-    let mut brings: [u64; rests::RESTS] = [0; rests::RESTS];
-    rests::fill(l, y, numbers, heavy, left, &mut brings);
-    if p.kept {
-        return columns(
-            l, y, totals, counts, numbers, heavy, p.shape, &known, &marks, &brings, z, room, 0, t,
-            row, sets, light, cap, list, kept,
-        );
-    }
+    let mut brings = [0; rests::RESTS];
+    rests::fill(l, y, numbers, heavy, t.left, &mut brings);
+    let held = if p.kept { MARKS } else { 0 };
     columns(
         l,
         y,
@@ -536,7 +527,7 @@ pub fn tables(
         heavy,
         p.shape,
         &known,
-        &marks[0..0],
+        &marks[..held],
         &brings,
         z,
         room,
