@@ -11,7 +11,7 @@ use borrow.Author.Tests.{ltb-true, ltb-false, eq-eqb, ne_eqb, eqb-true}
 use lib.Arith.{digits_lt, digits_div, mod-mul}
 use lib.Dec.{ltb, eqb}
 use lib.ListN.{length, get_or, set, take, drop, replicate, length-append, get_or-eq_default, drop_of_length-le}
-use lib.Pow.{pow_pos}
+use lib.Pow.{pow_pos, pow_mono}
 use lib.Seq.{drop-cons}
 use Rattle.bits.specs.Bits.{AllBits, number, digits, unpack, same}
 
@@ -73,11 +73,18 @@ set_zero (x ∷ xs) (suc c) = set_zero xs c
 pub pow_next : (j : ℕ) → 2 ^ (j + 1) ≡ 2 ^ j * 2
 pow_next j = rw (add-one j) (pow-suc 2 j)
 
+pub pow_low : (j : ℕ) → j < 8 → 2 ^ j ≤ 128
+pow_low j h = pow_mono {i = j} {j = 7} (omega arith)
+
 -- ---- which lists are bits
 pub bit_at : (x : List ℕ) → AllBits x → (i : ℕ) → get_or x i 0 < 2
 bit_at [] a i = omega arith
 bit_at (b ∷ x) a zero = a.0
 bit_at (b ∷ x) a (suc i) = bit_at x a.1 i
+
+pub bits_of-each : (x : List ℕ) → ((i : ℕ) → get_or x i 0 < 2) → AllBits x
+bits_of-each [] h = tt
+bits_of-each (b ∷ x) h = (h 0, bits_of-each x (λ i. h (suc i)))
 
 pub bits-append : (x y : List ℕ) → AllBits x → AllBits y → AllBits (x ++ y)
 bits-append [] y a b = b

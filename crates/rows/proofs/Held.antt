@@ -13,7 +13,7 @@ use lib.Seq.{take_all, take_at, take-take}
 use Rattle.rows.specs.Held.{Held, none, insert, union, add, WellHeld, Known}
 use Rattle.rows.specs.Order.{Less, by_order, order, Mem, Before, After, Ascending, Row}
 use Rattle.rows.specs.Rows.{all_rows, keep}
-use Rattle.rows.proofs.Order.{less_trans, Compared, compared, answer, mem_before, same_members, rows-ascending, keep-ascending}
+use Rattle.rows.proofs.Order.{less_trans, Compared, compared, answer, mem_before, mem_left, mem_right, mem_append, same_members, rows-ascending, keep-ascending, keep_complete, keep-sound}
 
 -- ---- one row put in
 pub insert_mem : (z x : List ℕ) (ys : List (List ℕ)) → Mem z (x ∷ ys) → Mem z (insert x ys)
@@ -312,6 +312,33 @@ module _ {cap n : ℕ} {f : List ℕ → Bool} {h : Held} (w : WellHeld cap n f 
       let both : add cap h (x ∷ a) ≡ add cap h a = sym (add-add cap h (x ∷ []) a) ∙ ap (λ (g : Held). add cap g a) one in
       subst (λ (g : Held). Known g x) both (known_added cap h (x ∷ a) x w.ascending (inr (inl refl)))
 
+  -- the rows kept by an "or" are the rows kept by the one test and those kept by the other
+  pub add_or : (f g : List ℕ → Bool) (xs : List (List ℕ))
+      → add cap (add cap h (keep f xs)) (keep g xs) ≡ add cap h (keep (λ (x : List ℕ). f x || g x) xs)
+  add_or f g xs =
+      add-add cap h (keep f xs) (keep g xs)
+      ∙ add_members cap h (keep f xs ++ keep g xs) (keep (λ (x : List ℕ). f x || g x) xs) w.ascending there back
+    where
+      there : (z : List ℕ) → Mem z (keep f xs ++ keep g xs)
+          → Mem z h.rows ⊎ Mem z (keep (λ (x : List ℕ). f x || g x) xs)
+      there z m =
+          inr
+          (⊎_elim
+          (λ p. let k = keep-sound f z xs p in
+          keep_complete (λ (x : List ℕ). f x || g x) z xs k.0 (ap (λ (t : Bool). t || g z) k.1))
+          (λ p. let k = keep-sound g z xs p in
+          keep_complete (λ (x : List ℕ). f x || g x) z xs k.0 (ap (λ (t : Bool). f z || t) k.1 ∙ or_true (f z)))
+          (mem_append z (keep f xs) (keep g xs) m))
+
+      one_of : (z : List ℕ) (t : Bool) → f z ≡ t → f z || g z ≡ true → Mem z xs → Mem z (keep f xs ++ keep g xs)
+      one_of z true e q m = mem_left z (keep f xs) (keep g xs) (keep_complete f z xs m e)
+      one_of z false e q m =
+          mem_right z (keep f xs) (keep g xs) (keep_complete g z xs m (ap (λ (t : Bool). t || g z) (sym e) ∙ q))
+
+      back : (z : List ℕ) → Mem z (keep (λ (x : List ℕ). f x || g x) xs)
+          → Mem z h.rows ⊎ Mem z (keep f xs ++ keep g xs)
+      back z m = let k = keep-sound (λ (x : List ℕ). f x || g x) z xs m in inr (one_of z (f z) refl k.1 k.0)
+
   -- adding rows of n bits that pass the test keeps the list well held
   pub add-well : (a : List (List ℕ)) → ((x : List ℕ) → Mem x a → Row n x × (f x ≡ true)) → WellHeld cap n f (add cap h a)
   unfolding add
@@ -334,3 +361,11 @@ pub keep_same : (f g : List ℕ → Bool) (xs : List (List ℕ)) → ((x : List 
 unfolding keep
 keep_same f g [] e = refl
 keep_same f g (x ∷ xs) e = rw (e x (inl refl), keep_same f g xs (λ z m. e z (inr m))) refl
+
+-- what comes after the last row of an ascending list comes after all
+pub after_last : (ys : List (List ℕ)) (y x : List ℕ) → Ascending (ys ++ (y ∷ [])) → Less y x → After (ys ++ (y ∷ [])) x
+after_last [] y x a l = (l, tt)
+after_last (z ∷ zs) y x a l = (
+  less_trans z y x (mem_before z y (zs ++ (y ∷ [])) a.0 (mem_right y zs (y ∷ []) (inl refl))) l,
+  after_last zs y x a.1 l,
+)

@@ -13,7 +13,7 @@ use Rattle.std.specs.Cmp.Lexicographic.{slice_cmp}
 use Rattle.std.specs.Ordering.{nat_cmp, ordering_then}
 use Rattle.std.specs.declared.cmp.Ordering.{Ordering as Answer}
 use Rattle.std.specs.declared.cmp.Ordering.TheVariants.{Less as before, Equal as same, Greater as after}
-use Rattle.rows.specs.Order.{Less, by_order, order, Mem, Before, Ascending, Row}
+use Rattle.rows.specs.Order.{Less, by_order, order, Mem, Before, After, Ascending, Row}
 use Rattle.rows.specs.Rows.{all_rows, keep}
 
 -- ---- the order
@@ -142,6 +142,19 @@ pub mem_before : (x y : List ℕ) (ys : List (List ℕ)) → Before x ys → Mem
 mem_before x y [] b m = absurd m
 mem_before x y (z ∷ zs) b (inl e) = subst (λ (v : List ℕ). Less x v) (sym e) b.0
 mem_before x y (z ∷ zs) b (inr m) = mem_before x y zs b.1 m
+
+pub mem_after : (x y : List ℕ) (ys : List (List ℕ)) → After ys x → Mem y ys → Less y x
+mem_after x y [] a m = absurd m
+mem_after x y (z ∷ zs) a (inl e) = subst (λ (v : List ℕ). Less v x) (sym e) a.0
+mem_after x y (z ∷ zs) a (inr m) = mem_after x y zs a.1 m
+
+pub after_of : (x : List ℕ) (ys : List (List ℕ)) → ((y : List ℕ) → Mem y ys → Less y x) → After ys x
+after_of x [] h = tt
+after_of x (y ∷ ys) h = (h y (inl refl), after_of x ys (λ z m. h z (inr m)))
+
+pub before_of : (x : List ℕ) (ys : List (List ℕ)) → ((y : List ℕ) → Mem y ys → Less x y) → Before x ys
+before_of x [] h = tt
+before_of x (y ∷ ys) h = (h y (inl refl), before_of x ys (λ z m. h z (inr m)))
 
 pub mem_left : (z : List ℕ) (a b : List (List ℕ)) → Mem z a → Mem z (a ++ b)
 mem_left z [] b m = absurd m

@@ -1,0 +1,4 @@
+use Rattle.lister.proofs.list.Goals as goal
+
+pub returns : goal.returns
+returns c = ?
