@@ -1,5 +1,5 @@
 -- Every row under the whole pattern is the row in hand, or it is under the table that starts with the heavy blocks.
-use Rattle.std.proofs.Common.{◌≡◌, ℕ, ◌+◌, ◌*◌, ◌<◌, ◌≤◌, true, List, length, get_or, take, drop, refl, sym, ◌∙◌, arith, rules, length-drop, get_or-take, get_or-drop}
+use Rattle.std.proofs.Common.{◌≡◌, ℕ, ◌+◌, ◌*◌, ◌≤◌, true, List, length, take, drop, refl, sym, ◌∙◌, arith, rules, length-drop, get_or-take, get_or-drop}
 use Rattle.std.proofs.lemmas.List.{length-take-le}
 use Rattle.bits.specs.Bits.{most_chunks, most_in_line}
 use Rattle.bits.proofs.Laws.{zeros-at}
