@@ -32,7 +32,7 @@ fn add_sent(
 {
     let mut bytes = [0; BYTES];
     bits::pack(x, &mut bytes);
-    let w = (x.len() + 7) / 8;
+    let w = x.len().div_ceil(8);
     rows::insert(list, kept, cap, &bytes[0..w])
 }
 

@@ -1,5 +1,5 @@
 -- The row's bits are packed, and the bytes inserted.
-use Rattle.std.proofs.Common.{◌≡◌, ◌-◌, take, drop, length, arith}
+use Rattle.std.proofs.Common.{◌≡◌, ℕ, sym, ◌∙◌, ◌-◌, take, drop, length, arith}
 use Rattle.bits.specs.Bits.{bytes_for, pack}
 use Rattle.bits.proofs.Packing.{length-pack}
 use Rattle.found.proofs.Row.{front_part, row-some, row-short}
@@ -16,16 +16,19 @@ pub slice_bounds-insert-end : goal.slice_bounds-insert-end
 slice_bounds-insert-end c = omega (arith, row-short c.requires.0 c.args.x.now c.requires.1.0.0)
 
 -- the bytes that are inserted are the row packed
-bytes_are : (c : After-pack) → take (bytes_for (length c.args.x.now) - 0) c.pack.new.out ≡ pack c.args.x.now
-bytes_are c =
+bytes_are : (c : After-pack) (w : ℕ) → w ≡ bytes_for (length c.args.x.now) → take (w - 0) c.pack.new.out ≡ pack c.args.x.now
+bytes_are c w e =
     let x = c.args.x.now in
-    front_part (pack x) (drop (bytes_for (length x)) _) c.pack.new.out (bytes_for (length x)) (length-pack x) c.pack.ensures
+    front_part (pack x) (drop (bytes_for (length x)) _) c.pack.new.out w (length-pack x ∙ sym e) c.pack.ensures
 
 pub insert-requires : goal.insert-requires
 insert-requires c =
-    insert_asks c.requires.1.1 (row-some c.requires.0) c.args.x.now c.requires.1.0.0 _ (bytes_are (goal.at.insert-requires c).After-pack)
+    let w : c.div_ceil-w.result ≡ bytes_for (length c.args.x.now) = omega arith in
+    insert_asks c.requires.1.1 (row-some c.requires.0) c.args.x.now c.requires.1.0.0 _
+    (bytes_are (goal.at.insert-requires c).After-pack _ w)
 
 pub returns : goal.returns
 returns c =
-    grown_packed c.requires.1.1 (row-some c.requires.0) c.args.x.now c.requires.1.0.0 _ (bytes_are (goal.at.returns c).After-pack)
-    c.requires.1.0 c.insert.ensures
+    let w : c.div_ceil-w.result ≡ bytes_for (length c.args.x.now) = omega arith in
+    grown_packed c.requires.1.1 (row-some c.requires.0) c.args.x.now c.requires.1.0.0 _
+    (bytes_are (goal.at.returns c).After-pack _ w) c.requires.1.0 c.insert.ensures
