@@ -172,7 +172,7 @@ pub fn above(
     if kept.count == 0 {
         return true;
     }
-    let w = (l.l1 * l.l2 * l.nc + 7) / 8;
+    let w = (l.l1 * l.l2 * l.nc).div_ceil(8);
     let at = (kept.count - 1) * w;
     let end = at + w;
     after_row(l, y, counts, row, i, &list[at..end])

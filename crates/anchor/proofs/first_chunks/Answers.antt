@@ -31,17 +31,16 @@ bits_are : (c : After-unpack) → take (row_bits c.args.l - 0) c.unpack.new.out 
 bits_are c =
     let s = (goal.at.After-unpack c).Start in
     let n = row_bits c.args.l in
-    front_part (first s) (drop n _) c.unpack.new.out n (first-row s).0 (rw (sub-zero (bytes_for n)) at c.unpack.ensures)
+    let w : c.div_ceil-w.result ≡ bytes_for n = omega arith in
+    front_part (first s) (drop n _) c.unpack.new.out n (first-row s).0
+    (rw (sub-zero c.div_ceil-w.result, w) at c.unpack.ensures)
 
 pub overflow_mul-n-2 : goal.overflow_mul-n-2
 overflow_mul-n-2 c = omega (arith, (size (goal.at.overflow_mul-n-2 c).Start).row)
 
-pub overflow_add-w : goal.overflow_add-w
-overflow_add-w c = omega (arith, (size (goal.at.overflow_add-w c).Start).row)
-
 pub unpack-requires : goal.unpack-requires
 unpack-requires c =
-    let w = length-take-le (bytes_for (row_bits c.args.l) - 0) c.args.list.now (omega arith) in
+    let long = length-take-le (c.div_ceil-w.result - 0) c.args.list.now (omega arith) in
     (omega arith, (size (goal.at.unpack-requires c).Start).row)
 
 pub slice_bounds-fill_chunks-end : goal.slice_bounds-fill_chunks-end
