@@ -60,7 +60,7 @@ fn add_block(
 {
     let m = l.l1 * l.nc + 1;
     let mut last = m;
-    for e in 0..usize::from(size) + 1 {
+    for e in 0..=usize::from(size) {
         let by = residue(l, y, totals, counts, block, end, j, e);
         if by != last {
             sets::move_in(m, by, from, to);
@@ -167,7 +167,7 @@ fn makes_up(m: usize, sum: usize, low: usize, high: usize, set: &[u64]) -> bool
         → (part + n) % m ≡ sum → result ≡ true }
 {
     let mut part = column::missing(sum, low % m, m);
-    for _ in low..high + 1 {
+    for _ in low..=high {
         if sets::holds(set, part) {
             return true;
         }
@@ -202,7 +202,7 @@ fn repairs(
     let seen = weigh::look(y, totals, counts, p.at, nc - 1);
     let more = weigh::more_ones(y, totals, counts, p.at, nc - 1, 1);
     let before = usize::from(block) * nc;
-    for g in more.first..more.last + 1 {
+    for g in more.first..=more.last {
         let span = weigh::widen(nc, before, 1, seen, g, weigh::Span { low: 0, high: 0 });
         if makes_up(l.l1 * nc + 1, sum, span.low / 2, span.high / 2, set) {
             return true;

@@ -3,7 +3,7 @@ use Rattle.std.proofs.Common.{◌≡◌, ℕ, ◌+◌, ◌%◌, ◌<◌, ◌≤�
 use Rattle.std.proofs.Math.Nat.{mod-add-mod}
 use Rattle.costs.proofs.Parts.{Only, Never, only-before}
 use Rattle.costs.proofs.makes_up.Goals as goal
-use Rattle.costs.proofs.makes_up.Goals.{then-part-eq0, else-part-eq0}
+use Rattle.costs.proofs.makes_up.Goals.{Else-holds, then-part-eq0, else-part-eq0}
 
 -- what is missing to the least number goes with it, and nothing else
 pub loop-init : goal.loop-init
@@ -18,6 +18,16 @@ loop-init c =
     mod-add-mod a.low a.m q ∙ ap (λ (v : ℕ). v % a.m) w ∙ s in
     sym (mod-eq_of_lt h) ∙ e.1 q (mod-lt a.low some) o in
     record { low = e.0; only = only; never = λ k h l. absurd (omega arith) }
+
+-- no residue of the set goes with the number either
+never : (c : Else-holds) → let a = c.args in (k : ℕ) → k < c.loop.counter + 1 → a.low ≤ k → Never a.m a.sum a.set.now k
+never c =
+    let a = c.args in
+    let was = c.loop.invariant in
+    below_more _ _ was.never
+    (λ l q h x s.
+    let same : q ≡ c.loop.part = was.only q h s in
+    true≢false (sym (c.holds.ensures (rw same at x)) ∙ c.if-holds.false))
 
 pub loop-preserved : goal.loop-preserved
 loop-preserved c =
@@ -36,8 +46,9 @@ loop-preserved c =
       | then-part-eq0 w ↦ ⊎_elim (λ b. omega (arith, b, w)) (λ b. omega (arith, b, w)) (before q h s)
       | else-part-eq0 w ↦ ⊎_elim (λ b. omega (arith, b, w)) (λ b. omega (arith, b, w)) (before q h s)
     ] in
-    let here : a.low ≤ n → Never a.m a.sum a.set.now n =
-    λ l q h x s.
-    let same : q ≡ c.loop.part = i.only q h s in
-    true≢false (sym (c.holds.ensures (rw same at x)) ∙ c.if-holds.false) in
-    record { low = low; only = only; never = below_more _ n i.never here }
+    record { low = low; only = only; never = never (goal.at.loop-preserved c).Else-holds }
+
+-- all numbers are passed
+pub returns-after-part-eq0 : goal.returns-after-part-eq0
+returns-after-part-eq0 c part n h x lo hi s =
+    absurd (never (goal.at.returns-after-part-eq0 c).Else-holds n (omega arith) lo part h x s)

@@ -10,7 +10,7 @@ use Rattle.column.specs.Column.{start_at}
 use Rattle.costs.specs.Costs.{Repairs}
 use Rattle.costs.proofs.OneLost.{lost_between, brings_between}
 use Rattle.costs.proofs.repairs.Goals as goal
-use Rattle.costs.proofs.repairs.Goals.{After-more_ones-more}
+use Rattle.costs.proofs.repairs.Goals.{After-more_ones-more, Else-makes_up}
 
 -- the layout is legal
 bounds : (c : After-more_ones-more) → Bounds c.args.l
@@ -48,25 +48,39 @@ widen-span-requires c =
       ),
     )
 
--- after a turn that found nothing, a chunk that brings the column to its sum has not just g ones more
-pub loop-g-preserved : goal.loop-g-preserved
-loop-g-preserved c v part r =
+-- where a turn found nothing, a chunk that brings the column to its sum has more than g ones more
+above : (c : Else-makes_up) → let a = c.args in
+    (v part : ℕ) → Repairs a.l a.y.now a.block a.end a.j a.left a.sum a.set.now v part
+    → c.look-seen.result.ones + (c.loop-g.g + 1) ≤ ones (digits a.l.nc v)
+above c v part r =
     let a = c.args in
-    let at = (goal.at.loop-g-preserved c).After-more_ones-more in
     let d = digits a.l.nc v in
     let just : ones d ≡ c.look-seen.result.ones + c.loop-g.g → ⊥ =
     λ q.
-    let i = brings_between r (omega (arith, (bounds at).nc_low)) _ (place at) c.look-seen.ensures c.from.result c.loop-g.g _
+    let i = brings_between r (omega (arith, (legal_bounds a.l c.requires.0.allowed).nc_low)) _
+    (c.place_of-p.ensures.at_just (not-false _ c.if-not-p.false)) c.look-seen.ensures c.from.result c.loop-g.g _
     c.widen-span.result c.from.ensures refl refl q c.widen-span.ensures in
     true≢false
     (sym (c.makes_up.ensures part (total (a.block * a.l.nc + 1) d) r.low r.among i.0 i.1 r.hits) ∙ c.if-makes_up.false) in
     omega (arith, c.loop-g.invariant v part r, just)
 
--- all numbers are passed
-pub returns : goal.returns
-returns c v part r =
+pub loop-g-preserved : goal.loop-g-preserved
+loop-g-preserved c = above (goal.at.loop-g-preserved c).Else-makes_up
+
+-- no number is tried
+pub returns-else-not-p : goal.returns-else-not-p
+returns-else-not-p c v part r =
     absurd (omega (
       arith,
       c.loop-g.invariant v part r,
-      (between (goal.at.returns c).After-more_ones-more v part r).1,
+      (between (goal.at.returns-else-not-p c).After-more_ones-more v part r).1,
+    ))
+
+-- the last number is passed
+pub returns-else-makes_up : goal.returns-else-makes_up
+returns-else-makes_up c v part r =
+    absurd (omega (
+      arith,
+      above (goal.at.returns-else-makes_up c).Else-makes_up v part r,
+      (between (goal.at.returns-else-makes_up c).After-more_ones-more v part r).1,
     ))
