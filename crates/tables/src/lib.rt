@@ -493,7 +493,9 @@ pub fn tables(
     }
     let light = apart_light(l, heavy, row, z);
     let rest = room.saturating_sub(light);
-    if alike::all_near(l, y, totals, counts, numbers, heavy, t.left, &known, z, rest) {
+    if alike::all_near(
+        l, y, totals, counts, numbers, heavy, t.left, &known, z, rest,
+    ) {
         return kept;
     }
     let mut marks = [0; MARKS];

@@ -67,16 +67,6 @@ returns-then-not-enough c =
       cleared here,
     )
 
-pub apart_light-light-requires : goal.apart_light-light-requires
-apart_light-light-requires c =
-    let sound = c.requires.1.0.0 in (
-      c.requires.0.0.is_legal,
-      (
-        record { few = sound.few; inside = sound.inside; ascending = sound.ascending },
-        (omega (arith, c.requires.1.1.1.0.0, c.light_sums.auto.row), c.requires.1.1.1.0.1),
-      ),
-    )
-
 pub all_near-requires : goal.all_near-requires
 all_near-requires c =
     let z = sizes c.args.l (legal_bounds c.args.l c.requires.0.0.is_legal) in (
@@ -134,12 +124,6 @@ returns-then-p c =
           (lt_or_ge (apart_from a.l a.heavy a.z.now (values a.l x) 0) _)),
       cleared here,
     )
-
-pub at_first-sets-requires : goal.at_first-sets-requires
-at_first-sets-requires c =
-    let p = c.requires in
-    let sound = p.1.0.0 in
-    (p.0.0.is_legal, (sound.few, λ r h. omega (arith, sound.inside r h, p.0.0.count)))
 
 pub fill-requires : goal.fill-requires
 fill-requires c =
@@ -203,9 +187,9 @@ returns c =
     let g = c.prepare-p.ensures.1.1 in
     let held = c.if-p-2.held in
     let lets : (x : List ℕ) → Sent a.l a.numbers.now a.y.now x → Under a.l a.y.now a.heavy 0 0 a.t a.row.now x
-        → c.saturating_sub-rest.result ≤ apart_from a.l a.heavy a.z.now (values a.l x) 0
-        → Through a.l c.prepare-p.result.shape (take held c.prepare-p.new.marks) (own_left a.l a.y.now a.heavy x)
-        (apart_from a.l a.heavy a.z.now (values a.l x)) =
+    → c.saturating_sub-rest.result ≤ apart_from a.l a.heavy a.z.now (values a.l x) 0
+    → Through a.l c.prepare-p.result.shape (take held c.prepare-p.new.marks) (own_left a.l a.y.now a.heavy x)
+    (apart_from a.l a.heavy a.z.now (values a.l x)) =
     λ x sent u far. elim c.if-p-2.branch [
       | then-p-2 w ↦ rw (w.held-is, take_all 32768 c.prepare-p.new.marks (omega (arith, c.prepare-p.auto.marks)))
           ((g _ _ _ c.light_sums.ensures.0 (path here x sent u) far).1 w.if-p-2.true)
