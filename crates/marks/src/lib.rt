@@ -48,13 +48,6 @@ pub fn digits_of(digits: &[u8], q: usize) -> [u8; states::MOST_HEAVY]
     left
 }
 
-// The greater of two marks.
-pub fn higher(a: u8, b: u8) -> u8
-    ensures { (a ≤ result) × (b ≤ result) }
-{
-    a.max(b)
-}
-
 // Gives one state of a column a mark, and the others none.
 pub fn only(states: usize, at: usize, q: usize, mark: u8, marks: &mut [u8])
     requires { (q < states) × (at + states ≤ length marks.old) }
