@@ -44,7 +44,13 @@ fn room(n: usize, slice: usize) -> usize
 }
 
 // Lists the rows that are consistent with the numbers of a fit message and the m bits of a fit row.
-fn list_rows(l: Layout, numbers: &[u16], row: &[u8], m: usize, out: &mut [u8]) -> Result<usize, Refusal>
+fn list_rows(
+    l: Layout,
+    numbers: &[u16],
+    row: &[u8],
+    m: usize,
+    out: &mut [u8],
+) -> Result<usize, Refusal>
     requires { Given l numbers.now (take m (unpacked row.now)) × (m ≤ length row.now * 8) }
     ensures { (listed_of result
         ≡ rows_answer (room_for (row_bits l) (length out.old)) (all_sent l numbers.now (take m (unpacked row.now))))

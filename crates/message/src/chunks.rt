@@ -76,7 +76,14 @@ pub fn chunk_total(t: &[u16; 256], nc: usize, v: u8, first: usize) -> usize
 }
 
 // The sum of a line of chunks: count of them, from a first one on, each stride after the last.
-fn line_sum(t: &[u16; 256], nc: usize, chunks: &[u8], start: usize, stride: usize, count: usize) -> usize
+fn line_sum(
+    t: &[u16; 256],
+    nc: usize,
+    chunks: &[u8],
+    start: usize,
+    stride: usize,
+    count: usize,
+) -> usize
     requires { ((t.now ≡ weights) × ((nc ≤ 8) × Elements nc chunks.now)) × (((count ≤ most_in_line) × (stride ≤ most_in_line))
         × ((count * nc ≤ longest_line) × (start + count * stride < length chunks.now + stride))) }
     ensures { result ≡ sum (row_of nc (picked start stride count chunks.now)) }

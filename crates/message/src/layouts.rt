@@ -21,7 +21,9 @@ impl Layout {
         requires { (1 ≤ self.l1) × ((1 ≤ self.l2) × (self.nc ≤ 8)) }
         ensures { result ≡ leb (self.l1 * self.l2) (2 ^ self.nc - 1) }
     {
-        self.l1 <= MOST_IN_LINE && self.l2 <= MOST_IN_LINE && self.l1 * self.l2 < bits::power(self.nc)
+        self.l1 <= MOST_IN_LINE
+            && self.l2 <= MOST_IN_LINE
+            && self.l1 * self.l2 < bits::power(self.nc)
     }
 
     // Whether a layout is legal. Its numbers may be any.

@@ -5,8 +5,8 @@ ghost use Rattle.message.specs.Layout.{block_bits, string_bits};
 ghost use Rattle.message.specs.Message.{fields_length, message_bytes};
 ghost use Rattle.message.specs.Read.{marked as isMarked, version_one, layout_of, fields, body, read_block_sums, read_string_sums, read_checks, some_above, message_refusal, read_refusal, read_of, layout_answer, read_target};
 
-use crate::layouts::{self, Legal};
 use crate::Layout;
+use crate::layouts::{self, Legal};
 use bits::BitCursor;
 use refusal::Refusal;
 

@@ -24,7 +24,7 @@ loop-piece-preserved c =
     let p = c.loop-piece in
     let s = c.in-Some.ensures.steps in
     let e = piece_eaten c.in-Some.piece.now c.next.new.self.rest.now c.args.y.now p.at c.piece_taken-at.result p.invariant.within
-        c.piece_taken-at.ensures in
+    c.piece_taken-at.ensures in
     record { within = e.0; left = e.1 ∙ ap (λ (t : List ℕ). eat t (drop p.at c.args.y.now)) (sym s.1.0) ∙ p.invariant.left }
 
 pub returns : goal.returns
