@@ -56,10 +56,10 @@ pub fn light_sums(
 {
     let l2 = l.l2;
     let modulus = l.l1 * l.nc + 1;
-    let table = vt::weights();
+    let weights = vt::Weights::new();
     clear_heavy(l, heavy, row);
     for (j, sum) in known[..l2].iter_mut().enumerate() {
-        let total = lines::line_total(&table, l.nc, j, l2, l.l1, row);
+        let total = lines::line_total(&weights, l.nc, j, l2, l.l1, row);
         *sum = (total % modulus) as u16;
     }
 }

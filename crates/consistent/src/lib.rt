@@ -87,9 +87,9 @@ fn sums_agree(row: &Row<'_>, numbers: &[u16]) -> bool
     requires { length numbers.now ≡ row.now.layout.l1 + row.now.layout.l2 }
     ensures { result ≡ same (sums row.now.layout (row_of row.now.layout.nc row.now.chunks.now)) numbers.now }
 {
-    let t = vt::weights();
+    let weights = vt::Weights::new();
     for (k, number) in numbers.iter().enumerate() {
-        if row.sum(&t, k) != usize::from(*number) {
+        if row.sum(&weights, k) != usize::from(*number) {
             return false;
         }
     }

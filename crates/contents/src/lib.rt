@@ -132,9 +132,9 @@ pub fn asked(
     let at = start + t * stride;
     let first = t * nc + 1;
     let modulus = count * nc + 1;
-    let table = vt::weights();
-    let own = lines::chunk_total(&table, nc, row[at], first);
-    let whole = lines::line_total(&table, nc, start, stride, count, row);
+    let weights = vt::Weights::new();
+    let own = lines::chunk_total(&weights, nc, row[at], first);
+    let whole = lines::line_total(&weights, nc, start, stride, count, row);
     Ask {
         rest: (whole - own) % modulus,
         first,
@@ -149,11 +149,11 @@ fn sift_each(nc: usize, a: Ask, out: &mut [u8], n: usize) -> usize
     ensures { (result ≤ n) × ((w : ℕ) → Among out.old 0 n w → Allows nc a w
         → Among out.new 0 result w) }
 {
-    let table = vt::weights();
+    let weights = vt::Weights::new();
     let mut k = 0;
     for i in 0..n {
         let v = out[i];
-        if (a.rest + lines::chunk_total(&table, nc, v, a.first)) % a.modulus == a.want {
+        if (a.rest + lines::chunk_total(&weights, nc, v, a.first)) % a.modulus == a.want {
             out[k] = v;
             k += 1;
         }

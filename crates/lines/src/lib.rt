@@ -7,10 +7,9 @@ ghost use Rattle.bits.specs.Bits.{AllBits, most_chunks, longest_line, number, di
 ghost use Rattle.rows.specs.Deletion.{comes_from};
 ghost use Rattle.vt.specs.Ones.{ones};
 ghost use Rattle.vt.specs.Sum.{total, sum as sum_of};
-ghost use Rattle.vt.specs.Weights.{weights};
 ghost use Rattle.lines.specs.Lines.{line, Inside, Mendable};
 
-use vt::Weight;
+use vt::{Weight, Weights};
 
 // The nc bits of a chunk from a place of a slice on: those of a byte are put there at once.
 fn put_chunk(nc: usize, v: u8, out: &mut [u8], at: usize)
@@ -47,31 +46,30 @@ pub fn spread(
     }
 }
 
-// The total of the positions of a chunk's ones, where its first bit stands at a position. The chunk is the last nc bits of v; the
-// table is that of what each byte weighs.
-pub fn chunk_total(t: &[u16; 256], nc: usize, v: u8, first: usize) -> usize
-    requires { ((t.now ≡ weights) × (nc ≤ 8)) × ((1 ≤ first) × (first ≤ longest_line + 1)) }
+// The total of the positions of a chunk's ones, where its first bit stands at a position. The chunk is the last nc bits of v.
+pub fn chunk_total(weights: &Weights, nc: usize, v: u8, first: usize) -> usize
+    requires { (nc ≤ 8) × ((1 ≤ first) × (first ≤ longest_line + 1)) }
     ensures { (result ≡ total first (digits nc v)) × (result ≤ 20000) }
 {
     let ones = (bits::power(nc) - 1) as u8;
-    message::chunks::chunk_total(t, nc, v & ones, first)
+    message::chunks::chunk_total(weights, nc, v & ones, first)
 }
 
 // The total of the positions of a line's ones, chunk by chunk where they stand.
 pub fn line_total(
-    table: &[u16; 256],
+    weights: &Weights,
     nc: usize,
     start: usize,
     stride: usize,
     count: usize,
     vs: &[u8],
 ) -> usize
-    requires { (table.now ≡ weights) × Inside nc start stride count (length vs.now) }
+    requires { Inside nc start stride count (length vs.now) }
     ensures { result ≡ total 1 (line nc start stride count vs.now) }
 {
     let mut sum = 0;
     for t in 0..count {
-        sum += chunk_total(table, nc, vs[start + t * stride], t * nc + 1);
+        sum += chunk_total(weights, nc, vs[start + t * stride], t * nc + 1);
     }
     sum
 }
@@ -81,8 +79,8 @@ pub fn line_sum(nc: usize, start: usize, stride: usize, count: usize, vs: &[u8])
     requires { Inside nc start stride count (length vs.now) }
     ensures { result ≡ sum_of (line nc start stride count vs.now) }
 {
-    let table = vt::weights();
-    line_total(&table, nc, start, stride, count, vs) % (count * nc + 1)
+    let weights = Weights::new();
+    line_total(&weights, nc, start, stride, count, vs) % (count * nc + 1)
 }
 
 // The chunk of nc bits whose positions have this total in the chunk itself, and from which the bits at hand come by one deletion.
@@ -141,9 +139,9 @@ pub fn mend_line(
     let at = start + hole * stride;
     let before = hole * nc;
     let first = before + 1;
-    let table = vt::weights();
-    let whole = line_total(&table, nc, start, stride, count, vs);
-    let own = chunk_total(&table, nc, vs[at], first);
+    let weights = Weights::new();
+    let whole = line_total(&weights, nc, start, stride, count, vs);
+    let own = chunk_total(&weights, nc, vs[at], first);
     let w = vt::weigh(bits);
     let short = whole - own + (before * w.ones + w.total);
     let g = vt::lacking(count * nc, sum, short);

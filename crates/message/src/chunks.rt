@@ -3,7 +3,6 @@
 ghost use Rattle.std.specs.Prelude.{◌≡◌, true, ◌++◌, map, ◌+◌, ◌*◌, ◌^◌, ◌<◌, ◌≤◌, length, get_or, take, drop};
 ghost use Rattle.bits.specs.Bits.{AllBits, most_in_line, longest_line, number, digits, unpack};
 ghost use Rattle.vt.specs.Sum.{total, sum};
-ghost use Rattle.vt.specs.Weights.{weights};
 ghost use Rattle.field.specs.Field.{Elements};
 ghost use Rattle.message.specs.Layout.{legal, row_bits, chunks as chunks_of};
 ghost use Rattle.message.specs.Chunks.{row_of, Chunked, picked};
@@ -13,6 +12,7 @@ ghost use Rattle.message.specs.Read.{fields};
 use crate::Layout;
 use crate::layouts::Legal;
 use bits::BitCursor;
+use vt::Weights;
 
 // A row of a legal layout, as the numbers of its chunks in row order.
 #[derive(Clone, Copy)]
@@ -67,45 +67,45 @@ pub fn fill_chunks(l: Legal, row: &[u8], out: &mut [u8])
 
 // The total of the positions of a chunk's ones, where its first bit stands at a position. The table has the chunk as a byte, in
 // which its first bit stands at position 9 - nc.
-pub fn chunk_total(t: &[u16; 256], nc: usize, v: u8, first: usize) -> usize
-    requires { ((t.now ≡ weights) × (nc ≤ 8)) × ((v < 2 ^ nc) × ((1 ≤ first) × (first ≤ longest_line + 1))) }
+pub fn chunk_total(weights: &Weights, nc: usize, v: u8, first: usize) -> usize
+    requires { (nc ≤ 8) × ((v < 2 ^ nc) × ((1 ≤ first) × (first ≤ longest_line + 1))) }
     ensures { (result ≡ total first (digits nc v)) × (result ≤ 20000) }
 {
-    let w = vt::weigh_byte(t, v);
+    let w = weights.of(v);
     w.total + first * w.ones - (9 - nc) * w.ones
 }
 
 // The sum of a line of chunks: count of them, from a first one on, each stride after the last.
 fn line_sum(
-    t: &[u16; 256],
+    weights: &Weights,
     nc: usize,
     chunks: &[u8],
     start: usize,
     stride: usize,
     count: usize,
 ) -> usize
-    requires { ((t.now ≡ weights) × ((nc ≤ 8) × Elements nc chunks.now)) × (((count ≤ most_in_line) × (stride ≤ most_in_line))
+    requires { ((nc ≤ 8) × Elements nc chunks.now) × (((count ≤ most_in_line) × (stride ≤ most_in_line))
         × ((count * nc ≤ longest_line) × (start + count * stride < length chunks.now + stride))) }
     ensures { result ≡ sum (row_of nc (picked start stride count chunks.now)) }
 {
     let mut total = 0;
     for k in 0..count {
-        total += chunk_total(t, nc, chunks[start + k * stride], k * nc + 1);
+        total += chunk_total(weights, nc, chunks[start + k * stride], k * nc + 1);
     }
     total % (count * nc + 1)
 }
 
 impl Row<'_> {
     // Sum k of a row: the block sums come first, then the chunk-string sums.
-    pub fn sum(&self, t: &[u16; 256], k: usize) -> usize
-        requires { (t.now ≡ weights) × (k < self.now.layout.l1 + self.now.layout.l2) }
+    pub fn sum(&self, weights: &Weights, k: usize) -> usize
+        requires { k < self.now.layout.l1 + self.now.layout.l2 }
         ensures { result ≡ get_or (sums self.now.layout (row_of self.now.layout.nc self.now.chunks.now)) k 0 }
     {
         let Layout { l1, l2, nc, .. } = self.layout;
         if k < l1 {
-            return line_sum(t, nc, self.chunks, k * l2, 1, l2);
+            return line_sum(weights, nc, self.chunks, k * l2, 1, l2);
         }
-        line_sum(t, nc, self.chunks, k - l1, l2, l1)
+        line_sum(weights, nc, self.chunks, k - l1, l2, l1)
     }
 
     // The checks of a row at the start of a slice, if there are any; what stands behind them is free.

@@ -4,7 +4,6 @@ ghost use Rattle.std.specs.Prelude.{◌≡◌, true, ◌+◌, ◌*◌, ◌≤◌
 ghost use mathlib.Core.List.{◌++◌, flat_map};
 ghost use Rattle.bits.specs.Bits.{digits, bytes_for, pack, unpack as unpacked, fits};
 ghost use Rattle.bits.specs.Filling.{Ready, Goes};
-ghost use Rattle.vt.specs.Weights.{weights};
 ghost use Rattle.message.specs.Layout.{row_bits};
 ghost use Rattle.message.specs.Chunks.{row_of};
 ghost use Rattle.message.specs.Message.{fields_length, message_bytes, sums, block_sums, string_sums, checks, head, field_bits, message};
@@ -15,12 +14,13 @@ use crate::chunks::{self, Row};
 use crate::layouts::{self, Legal};
 use bits::Filler;
 use refusal::Refusal;
+use vt::Weights;
 
 // So many sums of a row from a first one on, as fields of k bits behind those that a filler has taken. The block sums come first,
 // then the chunk-string sums.
 #[tactic(auto, using(crate::proofs::Legal::most))]
 fn put_sums(
-    table: &[u16; 256],
+    weights: &Weights,
     row: &Row<'_>,
     first: usize,
     count: usize,
@@ -28,16 +28,15 @@ fn put_sums(
     start: Filler,
     out: &mut [u8],
 ) -> Filler
-    requires { (table.now ≡ weights)
-        × (((first + count ≤ row.now.layout.l1 + row.now.layout.l2) × (k ≤ 16))
-        × (Ready start × (start.at * 8 + start.count + count * k ≤ length out.old * 8))) }
+    requires { ((first + count ≤ row.now.layout.l1 + row.now.layout.l2) × (k ≤ 16))
+        × (Ready start × (start.at * 8 + start.count + count * k ≤ length out.old * 8)) }
     ensures { Goes start out.old (flat_map (digits k) (take count (drop first
         (sums row.now.layout (row_of row.now.layout.nc row.now.chunks.now)))))
         result out.new }
 {
     let mut f = start;
     for i in first..first + count {
-        f = f.put(out, k, row.sum(table, i));
+        f = f.put(out, k, row.sum(weights, i));
     }
     f
 }
@@ -82,14 +81,14 @@ fn put_fields(row: &Row<'_>, out: &mut [u8])
     let Layout { l1, l2, nc, .. } = row.layout;
     let block = layouts::width(l2 * nc);
     let string = layouts::width(nc * l1);
-    let t = vt::weights();
+    let weights = Weights::new();
     let start = Filler {
         at: 0,
         held: 0,
         count: 0,
     };
-    let blocks = put_sums(&t, row, 0, l1, block, start, out);
-    let strings = put_sums(&t, row, l1, l2, string, blocks, out);
+    let blocks = put_sums(&weights, row, 0, l1, block, start, out);
+    let strings = put_sums(&weights, row, l1, l2, string, blocks, out);
     put_row_checks(row, strings, out).end(out);
 }
 

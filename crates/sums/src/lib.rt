@@ -6,7 +6,6 @@
 ghost use Rattle.std.specs.Prelude.{◌≡◌, true, false, List, ℕ, ◌+◌, ◌*◌, ◌%◌, ◌<◌, ◌≤◌, length, get_or};
 ghost use Rattle.bits.specs.Bits.{digits};
 ghost use Rattle.vt.specs.Sum.{sum, total};
-ghost use Rattle.vt.specs.Weights.{weights};
 ghost use Rattle.message.specs.Layout.{legal};
 ghost use Rattle.lines.specs.Lines.{line};
 ghost use Rattle.contents.specs.Contents.{Among};
@@ -18,6 +17,7 @@ ghost use Rattle.sums.specs.Sums.{Short, block_modulus, rest, Holds, HoldsFrom, 
 
 use column::Heavy;
 use message::Layout;
+use vt::Weights;
 
 // The most contents of the chunks of a column: 256 for each of six blocks.
 const CONTENTS: usize = 1536;
@@ -47,10 +47,10 @@ pub fn with_each(
     ensures { (v n : ℕ) → Among list.now low high v → Has m set n
         → Has m result (n + total first (digits nc v)) }
 {
-    let table = vt::weights();
+    let weights = Weights::new();
     let mut r = 0;
     for k in low..high {
-        let by = lines::chunk_total(&table, nc, list[k], first);
+        let by = lines::chunk_total(&weights, nc, list[k], first);
         r = residues::together(r, residues::moved_on(set, m, by));
     }
     r
@@ -67,11 +67,11 @@ pub struct Beside {
 }
 
 // Whether a content completes its column: the others can bring what is missing beside it.
-fn completes(table: &[u16; 256], nc: usize, beside: Beside, v: u8) -> bool
-    requires { (table.now ≡ weights) × (Weighs nc beside.modulus beside.first × (beside.want < 64)) }
+fn completes(weights: &Weights, nc: usize, beside: Beside, v: u8) -> bool
+    requires { Weighs nc beside.modulus beside.first × (beside.want < 64) }
     ensures { Completes nc beside v → result ≡ true }
 {
-    let own = lines::chunk_total(table, nc, v, beside.first);
+    let own = lines::chunk_total(weights, nc, v, beside.first);
     residues::holds(
         residues::moved_on(beside.others, beside.modulus, own),
         beside.want,
@@ -93,12 +93,12 @@ fn without_each(
     ensures { (v n : ℕ) → Among list.now low high v → Completes nc beside v
         → Has m set (n + total first (digits nc v)) → Has m result n }
 {
-    let table = vt::weights();
+    let weights = Weights::new();
     let mut r = 0;
     for k in low..high {
         let v = list[k];
-        if completes(&table, nc, beside, v) {
-            let by = lines::chunk_total(&table, nc, v, first);
+        if completes(&weights, nc, beside, v) {
+            let by = lines::chunk_total(&weights, nc, v, first);
             r = residues::together(r, residues::moved_back(set, m, by));
         }
     }

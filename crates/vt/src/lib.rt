@@ -7,7 +7,7 @@ ghost use Rattle.std.specs.Prelude.{◌≡◌, ◌∷◌, ◌++◌, true, ◌+�
 ghost use Rattle.bits.specs.Bits.{AllBits, longest, digits, bytes, bytes_for, pack, unpack, fits};
 ghost use Rattle.vt.specs.Sum.{total};
 ghost use Rattle.vt.specs.Ones.{ones};
-ghost use Rattle.vt.specs.Weights.{weights as weightsOf};
+ghost use Rattle.vt.specs.Weights.{weights};
 ghost use Rattle.vt.specs.Places.{Reach, PartOf};
 ghost use Rattle.vt.specs.Mend.{mended, mend_refusal, mend_target};
 ghost use Rattle.vt.specs.Answer.{answer_of};
@@ -39,35 +39,41 @@ pub struct Weight {
     pub ones: usize,
 }
 
-// The table as a local array, to be lent: a constant that is read in place is copied at each read.
-pub fn weights() -> [u16; 256]
-    ensures { result ≡ weightsOf }
-{
-    WEIGHTS
+// The table as a local, to be lent: a constant that is read in place is copied at each read.
+#[derive(Drop)]
+pub struct Weights {
+    table: [u16; 256],
+    ghost is_table: { table ≡ weights },
 }
 
-// The total and the number of the ones of a byte, from the table.
-pub fn weigh_byte(t: &[u16; 256], b: u8) -> Weight
-    requires { t.now ≡ weightsOf }
-    ensures { ((result.total ≡ total 1 (digits 8 b)) × (result.total ≤ 36)) × ((result.ones ≡ ones (digits 8 b))
-        × (result.ones ≤ 8)) }
-{
-    let v = usize::from(t[usize::from(b)]);
-    Weight {
-        total: v % 64,
-        ones: v / 64,
+impl Weights {
+    // A copy of the table.
+    pub fn new() -> Self {
+        Weights { table: WEIGHTS }
+    }
+
+    // The total and the number of the ones of a byte.
+    pub fn of(&self, b: u8) -> Weight
+        ensures { ((result.total ≡ total 1 (digits 8 b)) × (result.total ≤ 36)) × ((result.ones ≡ ones (digits 8 b))
+            × (result.ones ≤ 8)) }
+    {
+        let v = usize::from(self.table[usize::from(b)]);
+        Weight {
+            total: v % 64,
+            ones: v / 64,
+        }
     }
 }
 
 // The total and the number of the ones of packed bits.
-fn weigh_bytes(t: &[u16; 256], s: &[u8]) -> Weight
-    requires { (t.now ≡ weightsOf) × (length s.now * 8 ≤ longest) }
+fn weigh_bytes(weights: &Weights, s: &[u8]) -> Weight
+    requires { length s.now * 8 ≤ longest }
     ensures { (result.total ≡ total 1 (unpack s.now)) × (result.ones ≡ ones (unpack s.now)) }
 {
     let mut total = 0;
     let mut ones = 0;
     for (i, b) in s.iter().enumerate() {
-        let w = weigh_byte(t, *b);
+        let w = weights.of(*b);
         total += i * 8 * w.ones + w.total;
         ones += w.ones;
     }
@@ -184,15 +190,15 @@ struct Part {
 }
 
 // The part of the first n of packed bits in which a bit that adds t has its place; count is the number of ones.
-fn find_part(weights: &[u16; 256], s: &[u8], n: usize, t: usize, count: usize) -> Part
-    requires { ((weights.now ≡ weightsOf) × ((fits n s.now ≡ true) × (n < longest)))
+fn find_part(weights: &Weights, s: &[u8], n: usize, t: usize, count: usize) -> Part
+    requires { ((fits n s.now ≡ true) × (n < longest))
         × ((count ≡ ones (unpack s.now)) × (t ≤ n + 1)) }
     ensures { PartOf n t (unpack s.now) result.byte result.size result.ones result.behind }
 {
     let whole = n / 8;
     let mut r = count;
     for (i, b) in s[..whole].iter().enumerate() {
-        let w = weigh_byte(weights, *b);
+        let w = weights.of(*b);
         let behind = r - w.ones;
         if behind <= t && t <= i * 8 + 9 + behind {
             return Part {
@@ -213,8 +219,8 @@ fn find_part(weights: &[u16; 256], s: &[u8], n: usize, t: usize, count: usize) -
 }
 
 // The place among the first n of packed bits, and the bit, that add t to their total; count is the number of ones.
-fn find_packed(weights: &[u16; 256], s: &[u8], n: usize, t: usize, count: usize) -> Place
-    requires { ((weights.now ≡ weightsOf) × ((fits n s.now ≡ true) × (n < longest)))
+fn find_packed(weights: &Weights, s: &[u8], n: usize, t: usize, count: usize) -> Place
+    requires { ((fits n s.now ≡ true) × (n < longest))
         × ((count ≡ ones (unpack s.now)) × (t ≤ n + 1)) }
     ensures { ((result.at ≤ n) × (result.bit < 2))
         × ((result.at + 1) * result.bit + ones (drop result.at (unpack s.now)) ≡ t) }
@@ -278,10 +284,10 @@ fn mend_packed(w: usize, s: usize, bits: &[u8], out: &mut [u8])
     ensures { out.new ≡ pack (mended w s (take (w - 1) (unpack bits.now)))
         ++ drop (bytes_for w) out.old }
 {
-    let table = weights();
-    let weight = weigh_bytes(&table, bits);
+    let weights = Weights::new();
+    let weight = weigh_bytes(&weights, bits);
     let t = lacking(w, s, weight.total);
-    let p = find_packed(&table, bits, w - 1, t, weight.ones);
+    let p = find_packed(&weights, bits, w - 1, t, weight.ones);
     put_packed(bits, p.at, p.bit, w.div_ceil(8), out);
 }
 

@@ -14,11 +14,9 @@ pub overflow_add-modulus : goal.overflow_add-modulus
 overflow_add-modulus c = omega (arith, string_high c.args.l c.requires.0.allowed)
 
 pub line_total-total-requires : goal.line_total-total-requires
-line_total-total-requires c = (
-  c.weights-table.ensures,
-  string_inside c.args.l c.requires.0.allowed _ (omega (arith, c.requires.1.0, c.clear_heavy.auto.row)) c.loop-j.j
-      (omega (arith, c.loop-j.auto, length-take c.args.l.l2 c.args.known.now)),
-)
+line_total-total-requires c =
+    string_inside c.args.l c.requires.0.allowed _ (omega (arith, c.requires.1.0, c.clear_heavy.auto.row)) c.loop-j.j
+    (omega (arith, c.loop-j.auto, length-take c.args.l.l2 c.args.known.now))
 
 pub overflow_cast-sum : goal.overflow_cast-sum
 overflow_cast-sum c =

@@ -7,7 +7,7 @@ overflow_add-sum c =
     let a = c.args in
     let p = c.loop-t in
     let step = total_turn a.nc a.start a.stride a.count p.t a.vs.now (omega arith) in
-    let most = total-most a.nc a.start a.stride a.count a.vs.now c.requires.1.short in
+    let most = total-most a.nc a.start a.stride a.count a.vs.now c.requires.short in
     omega (arith, p.invariant, step, most, c.chunk_total-sum.ensures.0)
 
 pub loop-t-preserved : goal.loop-t-preserved

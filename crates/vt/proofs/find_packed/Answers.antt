@@ -7,17 +7,17 @@ use Rattle.vt.proofs.Weighing.{part_length, part_lent, part_ones}
 use Rattle.vt.proofs.find_packed.Goals as goal
 
 pub slice_bounds-unpack-count : goal.slice_bounds-unpack-count
-slice_bounds-unpack-count c = omega (arith, fits-length c.args.n c.args.s.now c.requires.0.1.0)
+slice_bounds-unpack-count c = omega (arith, fits-length c.args.n c.args.s.now c.requires.0.0)
 
 pub slice_bounds-unpack-start : goal.slice_bounds-unpack-start
-slice_bounds-unpack-start c = omega (arith, fits-length c.args.n c.args.s.now c.requires.0.1.0)
+slice_bounds-unpack-start c = omega (arith, fits-length c.args.n c.args.s.now c.requires.0.0)
 
 pub unpack-requires : goal.unpack-requires
 unpack-requires c =
     let s : List ℕ = c.args.s.now in
     let q = c.find_part-part.result in
     let l = length-take-le (length s - q.byte) (drop q.byte s) (omega (arith, length-drop q.byte s)) in
-    (omega (arith, l, fits-length c.args.n s c.requires.0.1.0), c.find_part-part.ensures.small)
+    (omega (arith, l, fits-length c.args.n s c.requires.0.0), c.find_part-part.ensures.small)
 
 pub find_place-p-requires : goal.find_place-p-requires
 find_place-p-requires c =
@@ -25,7 +25,7 @@ find_place-p-requires c =
     let e = c.find_part-part.ensures in
     let s : List ℕ = c.args.s.now in
     let x : List ℕ = drop (q.byte * 8) (unpack s) in
-    let fit : q.byte * 8 + q.size ≤ length s * 8 = omega (arith, fits-length c.args.n s c.requires.0.1.0) in
+    let fit : q.byte * 8 + q.size ≤ length s * 8 = omega (arith, fits-length c.args.n s c.requires.0.0) in
     let l = part_length s q.byte q.size fit in
     let b : AllBits x = bits-drop (q.byte * 8) (unpack s) (bits-unpack s) in
     rw (part_lent s q.byte q.size fit c.unpack.new.out _ c.unpack.ensures, l) (
@@ -39,7 +39,7 @@ returns c =
     let e = c.find_part-part.ensures in
     let s : List ℕ = c.args.s.now in
     let p = c.find_place-p in
-    let fit : q.byte * 8 + q.size ≤ length s * 8 = omega (arith, fits-length c.args.n s c.requires.0.1.0) in
+    let fit : q.byte * 8 + q.size ≤ length s * 8 = omega (arith, fits-length c.args.n s c.requires.0.0) in
     let l = part_length s q.byte q.size fit in
     let k = rw (part_lent s q.byte q.size fit c.unpack.new.out _ c.unpack.ensures) at p.ensures in
     let h : p.result.at ≤ q.size = omega (arith, k.0.0, l) in (

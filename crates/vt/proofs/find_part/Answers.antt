@@ -19,14 +19,14 @@ seen s n i r o h e f =
 
 pub slice_bounds-b-items-end : goal.slice_bounds-b-items-end
 slice_bounds-b-items-end c =
-    omega (arith, fits-length c.args.n c.args.s.now c.requires.0.1.0, length-take (c.args.n / 8) c.args.s.now)
+    omega (arith, fits-length c.args.n c.args.s.now c.requires.0.0, length-take (c.args.n / 8) c.args.s.now)
 
 pub overflow_sub-behind : goal.overflow_sub-behind
 overflow_sub-behind c =
     omega (
       arith,
-      seen c.args.s.now c.args.n c.loop-i.i c.loop-i.r c.weigh_byte-w.result.ones c.loop-i-test.true c.loop-i.invariant.left
-          c.weigh_byte-w.ensures.1.0,
+      seen c.args.s.now c.args.n c.loop-i.i c.loop-i.r c.of-w.result.ones c.loop-i-test.true c.loop-i.invariant.left
+          c.of-w.ensures.1.0,
     )
 
 pub returns-then-t-i : goal.returns-then-t-i
@@ -37,7 +37,7 @@ returns-then-t-i c =
     let inner : p.i < a.n / 8 = omega (arith, length-take (a.n / 8) a.s.now) in
     let e : (p.i + 1) * 8 ≡ p.i * 8 + 8 = omega arith in
     let b = rw e at
-    (seen a.s.now a.n p.i p.r c.weigh_byte-w.result.ones c.loop-i-test.true p.invariant.left c.weigh_byte-w.ensures.1.0) in
+    (seen a.s.now a.n p.i p.r c.of-w.result.ones c.loop-i-test.true p.invariant.left c.of-w.ensures.1.0) in
     record {
       small = omega arith;
       inside = omega arith;
@@ -52,7 +52,7 @@ loop-i-preserved c =
     let a = c.args in
     let p = c.loop-i in
     let b =
-    seen a.s.now a.n p.i p.r c.weigh_byte-w.result.ones c.loop-i-test.true p.invariant.left c.weigh_byte-w.ensures.1.0 in
+    seen a.s.now a.n p.i p.r c.of-w.result.ones c.loop-i-test.true p.invariant.left c.of-w.ensures.1.0 in
     record {
       left = omega (arith, b);
       reach = elim c.else-behind-t.branch [
@@ -67,11 +67,11 @@ returns c =
     let p = c.loop-i in
     let u : List ℕ = unpack a.s.now in
     let i : p.i ≡ a.n / 8 =
-    omega (arith, length-take (a.n / 8) a.s.now, fits-length a.n a.s.now c.requires.0.1.0) in
+    omega (arith, length-take (a.n / 8) a.s.now, fits-length a.n a.s.now c.requires.0.0) in
     let left = rw i at p.invariant.left in
     let e : a.n / 8 * 8 + a.n % 8 ≡ a.n = omega arith in
     let z : ones (drop (a.n / 8 * 8 + a.n % 8) u) ≡ 0 =
-    ap (λ (k : ℕ). ones (drop k u)) e ∙ blank-ones (drop a.n u) (fits-blank a.n a.s.now c.requires.0.1.0) in
+    ap (λ (k : ℕ). ones (drop k u)) e ∙ blank-ones (drop a.n u) (fits-blank a.n a.s.now c.requires.0.0) in
     record {
       small = omega arith;
       inside = omega arith;

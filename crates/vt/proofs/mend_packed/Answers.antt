@@ -6,10 +6,8 @@ use Rattle.vt.proofs.Packed.{put-mended}
 use Rattle.vt.proofs.mend_packed.Goals as goal
 
 pub weigh_bytes-weight-requires : goal.weigh_bytes-weight-requires
-weigh_bytes-weight-requires c = (
-  c.weights-table.ensures,
-  omega (arith, c.requires.0.1, fits-length (c.args.w - 1) c.args.bits.now c.requires.1.1.0),
-)
+weigh_bytes-weight-requires c =
+    omega (arith, c.requires.0.1, fits-length (c.args.w - 1) c.args.bits.now c.requires.1.1.0)
 
 pub put_packed-requires : goal.put_packed-requires
 put_packed-requires c =

@@ -11,10 +11,10 @@ loop-i-preserved c =
     let p = c.loop-i in
     let s : List ℕ = c.args.s.now in
     let h : p.i < length s = omega arith in
-    let small : p.i * 8 * c.weigh_byte-w.result.ones ≤ longest * 8 =
+    let small : p.i * 8 * c.of-w.result.ones ≤ longest * 8 =
     mul-le-mul {n₂ = longest} {m₂ = 8} (omega arith) (omega arith) in
-    let o = c.weigh_byte-w.ensures.1.0 in
-    let t = c.weigh_byte-w.ensures.0.0 in
+    let o = c.of-w.ensures.1.0 in
+    let t = c.of-w.ensures.0.0 in
     record {
       total_few = omega (arith, small);
       ones_few = omega arith;

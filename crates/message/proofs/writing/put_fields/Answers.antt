@@ -8,7 +8,7 @@ put_sums-blocks-requires c =
     let r = c.args.row.now in
     let x = row_of r.layout.nc r.chunks.now in
     let room = block_room r.layout x c.args.out.now r.is_legal c.requires _ c.width-block.ensures in
-    (c.weights-t.ensures, ((omega arith, room.0), ((omega arith, omega arith), room.1)))
+    ((omega arith, room.0), ((omega arith, omega arith), room.1))
 
 pub put_sums-strings-requires : goal.put_sums-strings-requires
 put_sums-strings-requires c =
@@ -17,7 +17,7 @@ put_sums-strings-requires c =
     let o = c.args.out.now in
     let blocks = block_stage r.layout x o r.is_legal c.requires _ c.width-block.ensures _ _ c.put_sums-blocks.ensures in
     let room = string_room r.layout x o r.is_legal c.requires _ c.width-string.ensures _ _ blocks in
-    (c.weights-t.ensures, ((omega arith, room.0), (blocks.ready, room.1)))
+    ((omega arith, room.0), (blocks.ready, room.1))
 
 pub put_row_checks-requires : goal.put_row_checks-requires
 put_row_checks-requires c =

@@ -11,7 +11,7 @@ loop-i-init c =
     let r = c.args.row.now in
     let vs = take a.count (drop a.first (sums r.layout (row_of r.layout.nc r.chunks.now))) in
     let none : a.first - a.first ≡ 0 = omega arith in
-    rw none (placed-start a.start a.out.now a.k vs c.requires.1.1.0)
+    rw none (placed-start a.start a.out.now a.k vs c.requires.1.0)
 
 pub put-f-requires : goal.put-f-requires
 put-f-requires c =
@@ -21,8 +21,8 @@ put-f-requires c =
     let vs = take a.count (drop a.first (sums r.layout (row_of r.layout.nc r.chunks.now))) in
     let n : length vs ≡ a.count = length_part r.layout (row_of r.layout.nc r.chunks.now) a.first a.count (omega arith) in
     let room =
-    placed-room a.start a.out.now a.k vs a.count n c.requires.1.1.1 (p.i - a.first) p.f p.out p.invariant (omega arith) in
-    ((c.requires.1.0.1, p.invariant.ready), room)
+    placed-room a.start a.out.now a.k vs a.count n c.requires.1.1 (p.i - a.first) p.f p.out p.invariant (omega arith) in
+    ((c.requires.0.1, p.invariant.ready), room)
 
 pub loop-i-preserved : goal.loop-i-preserved
 loop-i-preserved c =

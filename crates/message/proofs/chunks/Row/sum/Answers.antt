@@ -1,5 +1,5 @@
 -- A block, or a chunk-string behind the blocks, is a line of chunks.
-use Rattle.std.proofs.Common.{ℕ, ◌≡◌, ◌∙◌, ◌+◌, ◌-◌, ◌*◌, ◌<◌, ◌≤◌, arith}
+use Rattle.std.proofs.Common.{◌∙◌, ◌-◌, arith}
 use native.Mathlib.Nat.{mul-one, mul_comm}
 use Rattle.message.specs.Chunks.{row_of}
 use Rattle.message.specs.declared.chunks.Row.{Row}
@@ -19,7 +19,7 @@ pub line_sum-requires : goal.line_sum-requires
 line_sum-requires c =
     let r = c.args.self.now in
     let y = r.layout in (
-      (c.requires.0, ((bounds r).nc_high, r.chunked.1)),
+      ((bounds r).nc_high, r.chunked.1),
       (
         ((high r).l2_high, omega arith),
         ((high r).block, omega (arith, field_room y.l1 y.l2 c.args.k c.if-k-l1.true, r.chunked.0, mul-one y.l2)),
@@ -36,12 +36,12 @@ pub line_sum-requires-2 : goal.line_sum-requires-2
 line_sum-requires-2 c =
     let r = c.args.self.now in
     let y = r.layout in (
-      (c.requires.0, ((bounds r).nc_high, r.chunked.1)),
+      ((bounds r).nc_high, r.chunked.1),
       (
         ((high r).l1_high, (high r).l2_high),
         (
           omega (arith, (high r).string, mul_comm y.l1 y.nc),
-          omega (arith, c.requires.1, r.chunked.0, c.if-k-l1.false),
+          omega (arith, c.requires, r.chunked.0, c.if-k-l1.false),
         ),
       ),
     )
@@ -50,5 +50,5 @@ pub returns : goal.returns
 returns c =
     let r = c.args.self.now in
     c.line_sum-2.ensures
-    ∙ string_line r.layout r.chunks.now r.chunked (c.args.k - r.layout.l1) (omega (arith, c.requires.1, c.if-k-l1.false))
+    ∙ string_line r.layout r.chunks.now r.chunked (c.args.k - r.layout.l1) (omega (arith, c.requires, c.if-k-l1.false))
     ∙ sum_of_string r.layout (row_of r.layout.nc r.chunks.now) c.args.k c.if-k-l1.false
