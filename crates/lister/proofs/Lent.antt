@@ -33,10 +33,9 @@ module _ (l : Layout) (numbers row : List ℕ) (m : ℕ) (g : Given l numbers (t
   few_bits = omega (arith, g.short, length-bits (row_bits l) row m h, row-high)
 
   -- the bits of the row, lent from the array that they were unpacked to
-  pub bits_lent : (held rest : List ℕ) → held ≡ take m (unpack row) ++ rest → take (m - 0) held ≡ take m (unpack row)
+  pub bits_lent : (held rest : List ℕ) → held ≡ take m (unpack row) ++ rest → take m held ≡ take m (unpack row)
   bits_lent held rest e =
-      let n : m - 0 ≡ m = omega arith in
-      rw (n, e) (take_at (take m (unpack row)) rest m (length-bits (row_bits l) row m h))
+      rw e (take_at (take m (unpack row)) rest m (length-bits (row_bits l) row m h))
 
 -- the rows that fit take no more bytes than the slice has
 pub room_fits : (n slice : ℕ) → room_for n slice * bytes_for n ≤ slice

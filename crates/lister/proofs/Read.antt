@@ -61,7 +61,7 @@ reads_all s o n = go (message_refusal s) refl
 pub record Numbers (s : List ℕ) (a : Result Legal Refusal) (entries : List ℕ) : Type 0 where
   pub answer : read_of a ≡ layout_answer (message_refusal s) s
   pub front : message_refusal s ≡ 0 → (l : Layout) → layout_of s ≡ l
-      → take (l.l1 + l.l2 + l.r - 0) entries ≡ numbers_read s
+      → take (l.l1 + l.l2 + l.r) entries ≡ numbers_read s
 
 pub numbers-read : (s o entries : List ℕ) (a : Result Legal Refusal) → length o ≡ most_numbers
     → (read_of a ≡ layout_answer (read_refusal s (length o)) s) × (entries ≡ read_target s o) → Numbers s a entries
@@ -70,8 +70,7 @@ numbers-read s o entries a n h = record {
   answer = h.0 ∙ ap (λ (q : ℕ). layout_answer q s) (reads_all s o n);
   front =
       λ e l k.
-      let c : l.l1 + l.l2 + l.r - 0 ≡ l.l1 + l.l2 + l.r = omega arith in
-      ap₂ take c (h.1
+      ap (take (l.l1 + l.l2 + l.r)) (h.1
       ∙ ap (λ (q : ℕ). cond (eqb q 0) (numbers_read s ++ drop (length (numbers_read s)) o) o) (reads_all s o n ∙ e))
       ∙ take_at (numbers_read s) (drop (length (numbers_read s)) o) (l.l1 + l.l2 + l.r) (numbers-count s l k);
 }
