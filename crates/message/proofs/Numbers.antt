@@ -1,13 +1,11 @@
 -- The numbers of a message, written one part after another to a slice o. Assumes nothing.
-use Prim.Native.Nat.{ℕ, ◌+◌, ◌-◌, ◌*◌}
+use Prim.Native.Nat.{ℕ, ◌+◌, ◌*◌}
 use mathlib.Core.Path.{◌≡◌, refl, sym, ap, ◌∙◌}
 use mathlib.Core.List.{List, ◌++◌, append_assoc}
-use native.Mathlib.Nat.{zero-add}
 use native.Mathlib.Omega.{arith}
-use lib.ListN.{length, take, drop, length-append}
+use lib.ListN.{length, drop}
 use lib.Seq.{drop-drop}
 use Rattle.bits.specs.Bits.{unpack}
-use Rattle.bits.proofs.Copy.{part_next}
 use Rattle.bits.proofs.Packing.{unpack-drop}
 use Rattle.message.specs.Layout.{block_bits, string_bits}
 use Rattle.message.specs.Message.{width}

@@ -2,12 +2,10 @@
 -- adds to the total of its line. Assumes nothing.
 use Prim.Native.Nat.{ℕ, zero, suc, ◌+◌, ◌-◌, ◌*◌, ◌/◌, ◌%◌, ◌^◌, ◌<◌, ◌≤◌}
 use mathlib.Core.Path.{◌≡◌, refl, sym, ap, ap₂, ◌∙◌}
-use mathlib.Core.Bool.{true}
 use mathlib.Core.List.{List, [], ◌∷◌, ◌++◌, flat_map}
-use native.Mathlib.Nat.{add-zero, add-suc, suc-add, zero-mul, suc-mul, add-mul, mul-add, mul_comm, mul_assoc, mul-one, mul-zero, div-eq_of_lt, zero-add, one-mul}
-use native.Mathlib.Numerals.{add-one}
+use native.Mathlib.Nat.{add-zero, add-suc, suc-add, zero-mul, suc-mul, add-mul, mul_assoc, mul-zero, div-eq_of_lt, zero-add, one-mul}
 use native.Mathlib.Omega.{arith}
-use lib.ListN.{length, get_or, take, drop, length-append, length-drop}
+use lib.ListN.{length, get_or, take, drop}
 use lib.Pow.{pow_mono}
 use lib.Seq.{drop-cons, drop-nil, take_at, take-add, drop_at, drop-drop}
 use Rattle.bits.specs.Bits.{digits}
@@ -16,7 +14,7 @@ use Rattle.vt.specs.Ones.{ones}
 use Rattle.vt.specs.Sum.{total, sum}
 use Rattle.vt.proofs.Weighing.{total_far, total-append}
 use Rattle.message.specs.Chunks.{row_of, Chunked, picked}
-use Rattle.message.specs.Layout.{legal, row_bits, block_bits, string_bits, blocks, chunk, chunk_string}
+use Rattle.message.specs.Layout.{row_bits, block_bits, blocks, chunk, chunk_string}
 use Rattle.message.specs.Message.{block_sums, string_sums}
 use Rattle.message.specs.declared.Layout.{Layout}
 use Rattle.message.proofs.Cutting.{joined_next, joined_end, length-blocks, chunk-at, block_sum_at, string_sum_at}

@@ -1,4 +1,4 @@
-use Rattle.std.proofs.Common.{List, ℕ, ◌≡◌, ◌∙◌, ◌*◌, ◌≤◌, rules, take_all, ap, sym, length, take, drop, ◌++◌, arith}
+use Rattle.std.proofs.Common.{List, ℕ, ◌∙◌, ◌*◌, ◌≤◌, rules, take_all, ap, ◌++◌, arith}
 use Rattle.bits.specs.Bits.{most_chunks, same}
 use Rattle.message.specs.Layout.{row_bits}
 use Rattle.message.specs.Message.{sums, checks}

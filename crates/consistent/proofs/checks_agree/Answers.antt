@@ -1,4 +1,4 @@
-use Rattle.std.proofs.Common.{rules, List, ℕ, ◌≡◌, ◌∙◌, ◌≤◌, ap, sym, length, take, arith}
+use Rattle.std.proofs.Common.{rules, List, ℕ, ◌∙◌, ap}
 use Rattle.bits.specs.Bits.{same}
 use Rattle.message.specs.declared.chunks.Row.{Row}
 use Rattle.message.proofs.Legal.{Bounds, legal_bounds}

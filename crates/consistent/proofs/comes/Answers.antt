@@ -1,4 +1,4 @@
-use Rattle.std.proofs.Common.{List, [], ◌∷◌, ℕ, ◌≡◌, ◌∙◌, ◌≤◌, refl, sym, ap, length, drop, arith}
+use Rattle.std.proofs.Common.{List, [], ◌∷◌, ℕ, ◌≡◌, ◌∙◌, refl, sym, ap, length, drop, arith}
 use Rattle.consistent.specs.Greedy.{eat}
 use Rattle.consistent.proofs.Steps.{comes_is, piece_eaten}
 use Rattle.consistent.proofs.comes.Goals as goal

@@ -1,4 +1,4 @@
-use Rattle.std.proofs.Common.{◌≡◌, ◌∙◌, sym}
+use Rattle.std.proofs.Common.{◌∙◌, sym}
 use Rattle.consistent.proofs.Candidate.{comes_not_candidate, comes-candidate}
 use Rattle.consistent.proofs.is_consistent.Goals as goal
 

@@ -1,4 +1,4 @@
-use Rattle.std.proofs.Common.{◌≤◌, refl, arith}
+use Rattle.std.proofs.Common.{refl, arith}
 use Rattle.consistent.proofs.Steps.{whole_eats}
 use Rattle.consistent.proofs.piece_taken.Goals as goal
 

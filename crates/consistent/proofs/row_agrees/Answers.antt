@@ -1,4 +1,4 @@
-use Rattle.std.proofs.Common.{List, ℕ, ◌≡◌, ◌∙◌, ◌+◌, ap, sym, length, take, drop, arith}
+use Rattle.std.proofs.Common.{◌∙◌, ◌+◌, sym}
 use borrow.Author.Rules.{part_to_end}
 use Rattle.message.specs.Chunks.{row_of}
 use Rattle.consistent.proofs.Candidate.{sums_differ, sums_same}

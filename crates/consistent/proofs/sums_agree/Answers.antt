@@ -1,4 +1,4 @@
-use Rattle.std.proofs.Common.{List, ℕ, ◌≡◌, ◌∙◌, ◌<◌, ◌+◌, sym, length, arith}
+use Rattle.std.proofs.Common.{List, ℕ, ◌≡◌, ◌∙◌, ◌+◌, sym, length, arith}
 use Rattle.bits.proofs.Laws.{same_next, same_stop, same_end}
 use Rattle.message.specs.Chunks.{row_of}
 use Rattle.message.specs.Message.{sums}

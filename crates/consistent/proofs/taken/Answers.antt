@@ -1,4 +1,4 @@
-use Rattle.std.proofs.Common.{refl, sym, ◌∙◌, arith}
+use Rattle.std.proofs.Common.{sym, ◌∙◌, arith}
 use Rattle.consistent.proofs.Steps.{bit_next, bits-end}
 use Rattle.consistent.proofs.taken.Goals as goal
 

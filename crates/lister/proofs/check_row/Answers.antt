@@ -1,4 +1,4 @@
-use Rattle.std.proofs.Common.{◌≡◌, ◌∙◌, sym, arith, ◌≤◌}
+use Rattle.std.proofs.Common.{sym}
 use Rattle.lister.proofs.Row.{above, many, unfit, fit_row}
 use Rattle.lister.proofs.check_row.Goals as goal
 use Rattle.lister.proofs.check_row.Goals.{then-n-m-via-then-n-m, then-n-m-via-else-n-m+then-n-m-gt-MOST_LOSSES}

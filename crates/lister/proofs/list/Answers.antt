@@ -1,12 +1,12 @@
 -- A message or a row that is refused is refused by the table; where both are fit, the rows that the search finds are listed.
-use Rattle.std.proofs.Common.{rules, List, ℕ, ◌≡◌, ◌∙◌, ◌+◌, ◌*◌, ◌≤◌, refl, sym, ap, length, take, arith}
+use Rattle.std.proofs.Common.{rules, List, ℕ, ◌≡◌, ◌∙◌, refl, sym, ap, arith}
 use Rattle.std.proofs.lemmas.Result.{err_from_is_err_and}
 use Rattle.refusal.specs.Refusal.{number_of}
 use Rattle.refusal.proofs.Laws.{numbered}
 use Rattle.bits.specs.Bits.{AllBytes}
 use Rattle.bits.proofs.Packing.{bytes_of_each}
 use Rattle.message.specs.Layout.{row_bits}
-use Rattle.message.specs.Read.{layout_of, message_refusal, numbers_read}
+use Rattle.message.specs.Read.{layout_of, message_refusal}
 use Rattle.message.specs.declared.layouts.Legal.{Legal}
 use Rattle.message.proofs.Answers.{found}
 use Rattle.message.proofs.Legal.{legal_bounds, sizes, Sizes}
@@ -14,7 +14,7 @@ use Rattle.lister.specs.Answer.{listed_of}
 use Rattle.lister.specs.Rows.{row_refusal}
 use Rattle.lister.proofs.Answers.{message_decides, row_decides, refused_listing, rows-listed}
 use Rattle.lister.proofs.Read.{numbers-few, Numbers, numbers-read, message-number, given}
-use Rattle.lister.proofs.Row.{FitRow, row_passed, enough_bytes}
+use Rattle.lister.proofs.Row.{row_passed, enough_bytes}
 use Rattle.lister.proofs.list.Goals as goal
 use Rattle.lister.proofs.list.Goals.{After-read, In_ok-layout}
 

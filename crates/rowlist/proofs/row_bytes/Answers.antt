@@ -1,4 +1,4 @@
-use Rattle.std.proofs.Common.{List, ℕ, ◌≡◌, ◌∙◌, ◌*◌, arith}
+use Rattle.std.proofs.Common.{◌≡◌, ◌∙◌, ◌*◌, arith}
 use Rattle.bits.specs.Bits.{bytes_for}
 use Rattle.rowlist.proofs.Printed.{no_row, row-size}
 use Rattle.rowlist.proofs.row_bytes.Goals as goal

@@ -1,10 +1,10 @@
-use Rattle.std.proofs.Common.{List, ℕ, ◌≡◌, ◌∙◌, ◌+◌, ◌*◌, ◌^◌, ◌<◌, ◌≤◌, refl, ap, sym, length, get_or, take, drop, take_all, arith}
+use Rattle.std.proofs.Common.{List, ℕ, ◌≡◌, ◌∙◌, ◌^◌, ◌<◌, ◌≤◌, ap, sym, length, get_or, drop, arith}
 use lib.Pow.{pow_mono}
 use Rattle.bits.specs.Bits.{number, unpack}
 use Rattle.bits.proofs.Copy.{front_next}
 use Rattle.bits.proofs.Laws.{bits-drop, bits-unpack, number_lt}
 use Rattle.message.specs.Read.{fields}
-use Rattle.message.proofs.Fields.{front_whole, length_fields, fields_at, field_room}
+use Rattle.message.proofs.Fields.{front_whole, length_fields, fields_at}
 use Rattle.message.proofs.chunks.fill.Goals as goal
 
 pub overflow_cast-v : goal.overflow_cast-v

@@ -1,4 +1,4 @@
-use Rattle.std.proofs.Common.{List, ℕ, ◌≡◌, ◌∙◌, ◌+◌, ◌*◌, ◌<◌, ◌≤◌, refl, sym, length, get_or, take, drop, take_all, arith}
+use Rattle.std.proofs.Common.{List, ℕ, ◌≡◌, ◌∙◌, ◌*◌, refl, sym, get_or, take, take_all, arith}
 use Rattle.bits.proofs.Copy.{front_next}
 use Rattle.message.specs.Read.{fields}
 use Rattle.message.proofs.Cutting.{chunk-numbers}

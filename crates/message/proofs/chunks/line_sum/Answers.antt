@@ -1,4 +1,4 @@
-use Rattle.std.proofs.Common.{ℕ, ◌≡◌, ◌+◌, ◌*◌, ◌<◌, ◌≤◌, arith}
+use Rattle.std.proofs.Common.{◌+◌, ◌*◌, arith}
 use Rattle.message.proofs.Picking.{line_turn, line-end, line-sum_is}
 use Rattle.message.proofs.chunks.line_sum.Goals as goal
 

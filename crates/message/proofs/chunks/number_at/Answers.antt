@@ -1,4 +1,4 @@
-use Rattle.std.proofs.Common.{List, ℕ, ◌≡◌, ◌∙◌, ◌+◌, ◌-◌, ◌*◌, ◌^◌, ◌<◌, ◌≤◌, ap, sym, get_or, take, drop, arith}
+use Rattle.std.proofs.Common.{List, ℕ, ◌≡◌, ◌∙◌, ◌+◌, ◌-◌, ◌*◌, ◌^◌, ◌<◌, ◌≤◌, sym, get_or, take, drop, arith}
 use Rattle.std.proofs.lemmas.List.{get_or-take, get_or-drop}
 use lib.Pow.{pow_mono}
 use Rattle.bits.proofs.Laws.{bit_at, number-next, number-end, pow_next}

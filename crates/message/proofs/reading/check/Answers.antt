@@ -1,4 +1,4 @@
-use Rattle.std.proofs.Common.{List, ℕ, ◌≡◌, ◌∙◌, ◌≤◌, refl, sym, length, arith}
+use Rattle.std.proofs.Common.{List, ℕ, refl, sym, arith}
 use Rattle.message.specs.Read.{layout_of, message_refusal}
 use Rattle.message.proofs.Answers.{refused_answer}
 use Rattle.message.proofs.Head.{mark}

@@ -1,8 +1,6 @@
-use Rattle.std.proofs.Common.{List, ℕ, ◌≡◌, ◌∙◌, refl, sym, ap, true, false}
+use Rattle.std.proofs.Common.{List, ℕ, ◌∙◌, sym}
 use Rattle.std.proofs.lemmas.Result.{err_from_is_err_and}
-use Rattle.message.specs.Layout.{legal}
 use Rattle.message.specs.Read.{message_refusal}
-use Rattle.message.specs.declared.Layout.{Layout}
 use Rattle.message.proofs.Answers.{refused_answer, fit_answer}
 use Rattle.message.proofs.Messages.{refused_3, refused_4, refused_5, refused_6, refused_not}
 use Rattle.message.proofs.reading.check_layout.Goals as goal

@@ -1,7 +1,6 @@
-use Rattle.std.proofs.Common.{List, ℕ, ◌≡◌, ◌∙◌, ◌+◌, ◌≤◌, refl, sym, ap, length, arith}
+use Rattle.std.proofs.Common.{List, ℕ, ◌≡◌, ◌∙◌, ◌+◌, ◌≤◌, sym, ap, length, arith}
 use Rattle.std.proofs.lemmas.Result.{err_from_is_err_and}
 use Rattle.message.specs.Read.{layout_of, message_refusal, read_refusal, layout_answer}
-use Rattle.message.specs.declared.Layout.{Layout}
 use Rattle.message.specs.declared.layouts.Legal.{Legal}
 use Rattle.message.proofs.Answers.{found, not_found, fit_named, refused_answer, fit_answer, refuses_message, refuses_target, refuses_nothing, untouched, numbers-count, numbers-written}
 use Rattle.message.proofs.Legal.{legal_bounds, sizes}

@@ -1,4 +1,4 @@
-use Rattle.std.proofs.Common.{List, ℕ, ◌≡◌, ◌∙◌, ◌+◌, ◌*◌, ◌<◌, ◌≤◌, refl, ap, sym, length, get_or, drop, arith}
+use Rattle.std.proofs.Common.{List, ℕ, ◌≡◌, ◌∙◌, ap, length, get_or, drop, arith}
 use Rattle.bits.specs.Bits.{number, unpack}
 use Rattle.bits.proofs.Copy.{front_next}
 use Rattle.message.specs.Read.{fields}

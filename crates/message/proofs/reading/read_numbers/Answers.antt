@@ -1,7 +1,5 @@
-use Rattle.std.proofs.Common.{rules, List, ℕ, ◌≡◌, ◌∙◌, ◌+◌, ◌*◌, ◌≤◌, refl, ap, sym, length, take, drop, arith}
-use Rattle.message.specs.Message.{width, message_bytes}
-use Rattle.message.specs.Layout.{block_bits, string_bits}
-use Rattle.message.specs.Read.{read_block_sums, read_string_sums}
+use Rattle.std.proofs.Common.{rules, List, ℕ, ◌≡◌, ◌∙◌, ◌+◌, ◌*◌, ◌≤◌, ap, length, take, drop, arith}
+use Rattle.message.specs.Message.{message_bytes}
 use Rattle.message.specs.declared.layouts.Legal.{Legal}
 use Rattle.message.proofs.Legal.{Sizes, sizes, legal_bounds}
 use Rattle.message.proofs.Longest.{Rest, after-head}

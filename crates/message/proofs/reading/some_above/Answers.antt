@@ -1,4 +1,4 @@
-use Rattle.std.proofs.Common.{rules, List, ℕ, ◌≡◌, ◌∙◌, ◌+◌, ◌*◌, ◌<◌, ◌≤◌, refl, ap, sym, length, get_or, drop, arith}
+use Rattle.std.proofs.Common.{List, ℕ, ◌≡◌, ◌∙◌, ap, sym, get_or, drop, arith}
 use Rattle.bits.specs.Bits.{number, unpack}
 use Rattle.message.specs.Read.{fields}
 use Rattle.message.proofs.Fields.{length_fields, field_value, field_room, field_step, above-next, above_stop, above-end}

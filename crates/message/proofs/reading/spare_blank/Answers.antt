@@ -1,4 +1,4 @@
-use Rattle.std.proofs.Common.{List, ℕ, ◌≡◌, ◌∙◌, ◌≤◌, refl, sym, length, drop, arith}
+use Rattle.std.proofs.Common.{List, ℕ, ◌≡◌, ◌∙◌, refl, sym, length, drop, arith}
 use borrow.Author.Rules.{part_to_end}
 use Rattle.bits.specs.Bits.{unpack, blank}
 use Rattle.bits.proofs.Packing.{fits_by}

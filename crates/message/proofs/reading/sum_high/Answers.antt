@@ -1,5 +1,5 @@
 -- What the block sums answer, and what the chunk-string sums answer.
-use Rattle.std.proofs.Common.{List, ℕ, ◌≡◌, ◌∙◌, ◌+◌, ◌*◌, ◌≤◌, refl, ap, sym, length, drop, arith}
+use Rattle.std.proofs.Common.{List, ℕ, ◌≡◌, ◌∙◌, ◌+◌, ◌*◌, refl, ap, sym, length, drop, arith}
 use mathlib.Core.Path.{ap₂}
 use Rattle.message.specs.Layout.{block_bits, string_bits}
 use Rattle.message.specs.Message.{width, message_bytes}

@@ -1,5 +1,5 @@
 -- There are no checks, or the logs of the elements, and the checks of the chunks.
-use Rattle.std.proofs.Common.{rules, List, ℕ, ◌≡◌, ◌<◌, ◌≤◌, length, arith}
+use Rattle.std.proofs.Common.{rules, List, ℕ, ◌≡◌, length, arith}
 use Rattle.field.proofs.Double.{size_low, size-high}
 use Rattle.message.specs.declared.chunks.Row.{Row}
 use Rattle.message.proofs.Assembly.{checks_are}
