@@ -133,7 +133,6 @@ fn first_chunks(l: Layout, list: &[u8], out: &mut [u8])
         ++ drop (l.l1 * l.l2) out.old }
 {
     let n = l.l1 * l.l2 * l.nc;
-    let w = n.div_ceil(8);
     let mut row = [0; bits::LONGEST];
     bits::unpack(&list[..n.div_ceil(8)], n, &mut row);
     message::chunks::fill_chunks(Legal { layout: l }, &row[..n], out);
