@@ -202,15 +202,18 @@ fn prolong(
     Err(f)
 }
 
-// How many bits of a string are another than the one k places before them.
+// How many bits of a string are another than the one k places before them. They are counted by their place, which the compiler does many
+// at a time; a chain of iterators goes bit by bit.
 fn unlike(y: &[u8], k: usize) -> usize
     ensures { result ≤ length y.now }
 {
-    y.iter()
-        .skip(k)
-        .zip(y)
-        .filter(|(b, before)| b != before)
-        .count()
+    let mut unlike = 0;
+    for i in k..y.len() {
+        if y[i] != y[i - k] {
+            unlike += 1;
+        }
+    }
+    unlike
 }
 
 // Whether a row has few runs: at most one in eight bits.
