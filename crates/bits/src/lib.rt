@@ -68,8 +68,8 @@ fn unpack_part(s: &[u8], from: usize, to: usize, out: &mut [u8])
         ≡ take from out.old ++ take (to - from) (drop from (unpacked s.now))
         ++ drop (from + (to - from)) out.old }
 {
-    for i in from..to {
-        out[i] = bit_at(s, i);
+    for i in 0..to - from {
+        out[from + i] = bit_at(s, from + i);
     }
 }
 

@@ -55,6 +55,18 @@ module _ (l : Layout) (cells : Cells) (i : ℕ) where
   unfolding bare
   bare_out k vs e = rw (add-one k, e) refl
 
+  -- it keeps how many they are
+  pub length-bare : (k : ℕ) (vs : List ℕ) → length (bare l cells i k vs) ≡ length vs
+  unfolding bare
+  length-bare zero vs = refl
+  length-bare (suc k) vs = by (is_in cells i k) (length-bare k vs)
+    where
+      by : (b : Bool) → length (bare l cells i k vs) ≡ length vs
+          → length (cond b (set (bare l cells i k vs) (at (get_or cells.column k 0)) 0) (bare l cells i k vs))
+          ≡ length vs
+      by true r = length-set (bare l cells i k vs) (at (get_or cells.column k 0)) 0 ∙ r
+      by false r = r
+
   -- numbers that are alike but for the open cells are alike with zeros there
   pub bare-same : (k c : ℕ) (us vs : List ℕ) → (None k c → get_or us (at c) 0 ≡ get_or vs (at c) 0)
       → get_or (bare l cells i k us) (at c) 0 ≡ get_or (bare l cells i k vs) (at c) 0

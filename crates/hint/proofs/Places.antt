@@ -26,7 +26,7 @@ module _ {q : Query} (g : Given q) where
   received-short = omega (arith, g.short, high.row)
 
   -- block i ends where the next begins, within the row
-  block_next : (i : ℕ) → (i + 1) * block_bits l ≡ i * block_bits l + block_bits l
+  pub block_next : (i : ℕ) → (i + 1) * block_bits l ≡ i * block_bits l + block_bits l
   block_next i = omega arith
 
   pub block_inside : (i : ℕ) → i < l.l1 → i * block_bits l + block_bits l ≤ row_bits l

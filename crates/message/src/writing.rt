@@ -17,7 +17,8 @@ use refusal::Refusal;
 use vt::Weights;
 
 // So many sums of a row from a first one on, as fields of k bits behind those that a filler has taken. The block sums come first,
-// then the chunk-string sums.
+// then the chunk-string sums. Out of line it would read the row's layout again at each sum.
+#[inline(always)]
 #[tactic(auto, using(crate::proofs::Legal::most))]
 fn put_sums(
     weights: &Weights,

@@ -92,7 +92,7 @@ module _ (l : Layout) (s i a : ℕ) (rest entry : List ℕ) where
       }
 
   -- a block with two losses or more is not looked for here
-  tried_more : 2 ≤ a → a ≤ block_bits l → block_bits l - a ≤ length rest → Tried l s i a rest entry entry true
+  pub tried_more : 2 ≤ a → a ≤ block_bits l → block_bits l - a ≤ length rest → Tried l s i a rest entry entry true
   tried_more h f g =
       record { stays = refl; within = λ t. (f, g); can = λ b q. refl; light = λ b q t. absurd (omega arith) }
 

@@ -272,7 +272,9 @@ fn put_packed(s: &[u8], at: usize, bit: u8, count: usize, out: &mut [u8])
         ++ (bit ∷ drop at (unpack s.now))) ++ drop count out.old }
 {
     let first = at / 8;
-    out[..first].copy_from_slice(&s[..first]);
+    for (i, b) in s[..first].iter().enumerate() {
+        out[i] = *b;
+    }
     out[first] = with_bit(bits::byte_at(s, first), at % 8, bit);
     move_on(s, first + 1, count, out);
 }

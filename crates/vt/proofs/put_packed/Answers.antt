@@ -1,5 +1,6 @@
 -- What the tactics leave open of `vt::put_packed`.
 use Rattle.std.proofs.Common.{◌≡◌, ◌<◌, ◌≤◌, ◌/◌, ◌++◌, ℕ, List, length, take, drop, ap, ◌∙◌, arith}
+use Rattle.std.proofs.Math.Seq.{length-take-le}
 use Rattle.bits.specs.Bits.{AllBytes}
 use Rattle.bits.proofs.Packing.{bytes_of_each}
 use Rattle.bits.proofs.Spans.{put-bytes}
@@ -15,8 +16,10 @@ returns c =
     let f : ℕ = a.at / 8 in
     let h : f ≤ length s = omega arith in
     let l : f < length a.out.now = omega arith in
-    let p : List ℕ = c.copy_from_slice.new.self ++ drop f a.out.now in
-    let half : p ≡ take f s ++ drop f a.out.now = ap (λ (t : List ℕ). t ++ drop f a.out.now) c.copy_from_slice.ensures.after in
+    let p : List ℕ = c.loop-i.out in
+    let end : c.loop-i.i ≡ f = omega (arith, length-take-le f s h) in
+    let half : p ≡ take f s ++ drop f a.out.now =
+    c.loop-i.invariant ∙ ap (λ (i : ℕ). take i s ++ drop i a.out.now) end in
     c.move_on.ensures
     ∙ rw (
       bit_front s a.out.now f c.with_bit.result h l p half,
